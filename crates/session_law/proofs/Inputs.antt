@@ -214,7 +214,7 @@ answer_is : (system : System) (moment : Moment) (terminal : List ℕ) (number : 
 answer_is system moment terminal number segments = refl
 
 -- an input that is new has the number behind the last one
-next_by : (t : Option TerminalState) (number next id : ℕ) (later : Refusal) → answer_by t number next later ≡ Ok (New id) → (u : TerminalState) → t ≡ Some u → number ≡ u.last + 1
+pub next_by : (t : Option TerminalState) (number next id : ℕ) (later : Refusal) → answer_by t number next later ≡ Ok (New id) → (u : TerminalState) → t ≡ Some u → number ≡ u.last + 1
 next_by None number next id later h u e = cc
 next_by (Some v) number next id later h u e = by_stopped v.stopped h ∙ ap (λ (o : Option TerminalState). option_map_or (λ (w : TerminalState). w.last + 1) o 0) e where
   at : (low high : Bool) → nat_le number v.last ≡ low → nat_lt (v.last + 1) number ≡ high

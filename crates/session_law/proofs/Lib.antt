@@ -11,3 +11,7 @@ pub mod Blocks
 pub mod SessionMeasures
 pub mod Standing
 pub mod Spent
+pub mod SentAgain
+pub mod Linked
+pub mod ShownAgain
+pub mod NumberedReplies

@@ -3,3 +3,5 @@ pub mod LongInputs
 pub mod Counts
 pub mod Measures
 pub mod SpentCounters
+pub mod SentAgain
+pub mod ShownAgain

@@ -10,3 +10,4 @@ pub mod First
 pub mod Whole
 pub mod Complete
 pub mod Near
+pub mod SentAgain

@@ -6,3 +6,4 @@ pub mod ReadDefinition
 pub mod ReadSources
 pub mod Headline
 pub mod BegunSession
+pub mod SentAgain

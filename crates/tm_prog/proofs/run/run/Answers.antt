@@ -7,6 +7,7 @@ use Rattle.tm_prog.specs.Workload.{bytes_served_by}
 use Rattle.tm_prog.specs.Status.{IsNear}
 use Rattle.tm_prog.proofs.Causes.{complete_run, near_run}
 use Rattle.tm_prog.proofs.Runs.{no_room}
+use Rattle.tm_session.proofs.SentAgain.{answered_as_kept}
 use Rattle.tm_prog.proofs.run.run.Goals as goal
 
 pub returns-then-is_err-clause-headline : goal.returns-then-is_err-clause-headline
@@ -32,3 +33,9 @@ returns-clause-near g c =
     (g.S.Source.left c.args.source.now) (g.S.Source.left c.serve-outcome.new.source) (g.K.Sink.written c.args.sink.now) (g.K.Sink.written c.print_last-2.new.sink) c.serve-outcome.result.status
     (g.S.Source.faults c.args.source.now) (g.S.Source.faults c.serve-outcome.new.source) (g.K.Sink.faults c.args.sink.now) (g.K.Sink.faults c.print_last-2.new.sink)
     (search rules)
+
+pub returns-then-is_err-clause-resends : goal.returns-then-is_err-clause-resends
+returns-then-is_err-clause-resends g c = answered_as_kept g.D.Disk.state c.args.disk c.unbegun.result.disk c.unbegun.result.stops c.unbegun.result.lives
+
+pub returns-clause-resends : goal.returns-clause-resends
+returns-clause-resends g c = answered_as_kept g.D.Disk.state c.args.disk c.serve-outcome.result.disk c.serve-outcome.result.stops c.serve-outcome.result.lives

@@ -1,0 +1,174 @@
+-- Each life of a session opens with what the one before it left, where no block asks for a cold start.
+use Rattle.std.proofs.Common.{◌≡◌, ◌≢◌, ◌⊎◌, ℕ, Bool, true, false, List, [], ◌∷◌, ◌++◌, sym, ◌∙◌, ap, subst, refl, inl, inr}
+use Rattle.std.specs.Prelude.{Option, Some, None}
+use Rattle.std.specs.List.{AllByRecursion}
+use Rattle.model_system.specs.System.{System}
+use Rattle.model_machine.specs.declared.entry.Entry.{Entry}
+use Rattle.model_machine.specs.Machine.{LastingState}
+use Rattle.model_session.specs.declared.asked.Asked.{Asked}
+use Rattle.model_session.specs.declared.asked.Asked.TheVariants.{Bad, BadCommand, Stopped, Call, Quiet, Power, PowerIn, Restart, ColdStart}
+use Rattle.model_session.specs.Blocks.{Block}
+use Rattle.model_session.specs.Lines.{asked_of}
+use Rattle.model_session.specs.Lives.{LifeState, LastLife, LifeLeaves, kept_life, with_life, longer, ends_life}
+use Rattle.model_session.specs.SessionState.{Setting, SessionState, Outage, Standing, Stop, MayBeFound, AreAllLives, no_life, unbegun, called_on, last_life}
+use Rattle.model_session.specs.SessionState.Standing.{Up, Down}
+use Rattle.model_session.specs.Session.{OpensSession, ServedBy, IsServedUp, IsServedDown, IsRestarted, AreServed, BeginsSession, IsSessionBegun, IsBegunBy}
+use Rattle.session_law.specs.SentAgain.{alone, AreLinked}
+
+-- ---- linked lives
+
+-- what a life opened with is all that those before it look at
+same_opening : (system : System) (lives : List LifeState) (a b : LifeState) → a.opening ≡ b.opening → AreLinked system (lives ++ a ∷ []) → AreLinked system (lives ++ b ∷ [])
+same_opening system [] a b same linked = (tt, tt)
+same_opening system (life ∷ []) a b same linked = (subst (λ (s : LastingState). LifeLeaves system (alone life) life.kept s) same linked.0, (tt, tt))
+same_opening system (life ∷ next ∷ lives) a b same linked = (linked.0, same_opening system (next ∷ lives) a b same linked.1)
+
+one_linked : (system : System) (lives : List LifeState) (a b : LifeState) → LifeLeaves system (alone a) a.kept b.opening → AreLinked system (lives ++ a ∷ []) → AreLinked system ((lives ++ a ∷ []) ++ b ∷ [])
+one_linked system [] a b leaves linked = (leaves, (tt, tt))
+one_linked system (life ∷ []) a b leaves linked = (linked.0, one_linked system [] a b leaves linked.1)
+one_linked system (life ∷ next ∷ lives) a b leaves linked = (linked.0, one_linked system (next ∷ lives) a b leaves linked.1)
+
+-- ---- where a session stands
+
+abbrev is_emptied : Standing → Bool
+is_emptied (Up life) = false
+is_emptied (Down outage) = outage.emptied
+
+-- The lives so far are linked, however many steps of the last one are kept; there is none before the first; and no cold start broke off.
+pub record IsChained (system : System) (state : SessionState) : Type 0 where
+  pub linked : (kept : ℕ) → AreLinked system (with_life state.lives (last_life state.standing) kept)
+  pub first : last_life state.standing ≡ None → state.lives ≡ []
+  pub warm : is_emptied state.standing ≡ false
+
+none_some : (o : Option LastLife) (life : LastLife) → o ≡ Some life → o ≡ None → ⊥
+none_some o life some none = let never : Some life ≡ None = sym some ∙ none in cc
+
+module _ (setting : Setting) (tells : setting.tells ≡ true) where
+  abbrev Chained : SessionState → Type 0
+  Chained state = IsChained setting.system state
+
+  same_chained : (old new : SessionState) → new ≡ old → Chained old → Chained new
+  same_chained old new same chained = subst Chained (sym same) chained
+
+  -- the life goes on with these entries, or has ended with them
+  goes_chained : (old : SessionState) (life : LastLife) (entries : List Entry) (stops : List Stop) (standing : Standing) → old.standing ≡ Up life → Chained old → last_life standing ≡ Some (longer life entries)
+      → is_emptied standing ≡ false → Chained (record { lives = old.lives; stops = stops; standing = standing })
+  goes_chained old life entries stops standing at chained is warm = record {
+    linked = λ kept.
+        subst (λ (o : Option LastLife). AreLinked setting.system (with_life old.lives o kept)) (sym is)
+        (same_opening setting.system old.lives (kept_life life kept) (kept_life (longer life entries) kept) refl
+        (subst (λ (s : Standing). AreLinked setting.system (with_life old.lives (last_life s) kept)) at (chained.linked kept)));
+    first = λ none. absurd (none_some (last_life standing) (longer life entries) is none);
+    warm = warm;
+  }
+
+  called_chained : (b : Bool) (old : SessionState) (life : LastLife) (entries : List Entry) → old.standing ≡ Up life → Chained old → Chained (called_on b old life entries)
+  called_chained true old life entries at chained =
+      goes_chained old life entries old.stops (Down (record { last = Some (longer life entries); emptied = false; stopped = false })) at chained refl refl
+  called_chained false old life entries at chained = goes_chained old life entries old.stops (Up (longer life entries)) at chained refl refl
+
+  broken_chained : (old : SessionState) (life : LastLife) (entries : List Entry) (stops : List Stop) → old.standing ≡ Up life → Chained old
+      → Chained (record { lives = old.lives; stops = stops; standing = Down (record { last = Some (longer life entries); emptied = false; stopped = true }) })
+  broken_chained old life entries stops at chained =
+      goes_chained old life entries stops (Down (record { last = Some (longer life entries); emptied = false; stopped = true })) at chained refl refl
+
+  up_chained : (asked : Asked) (old : SessionState) (life : LastLife) (new : SessionState) (text : List ℕ) → old.standing ≡ Up life → Chained old → IsServedUp asked setting old life new text → Chained new
+  up_chained (Bad rule) old life new text at chained (same, printed) = same_chained old new same chained
+  up_chained (BadCommand rule) old life new text at chained (same, printed) = same_chained old new same chained
+  up_chained (Stopped terminal number reason) old life new text at chained (same, printed) = same_chained old new same chained
+  up_chained (Call call) old life new text at chained (inl one) = subst Chained (sym one.goes) (called_chained (ends_life one.entry) old life (one.entry ∷ []) at chained)
+  up_chained (Call call) old life new text at chained (inr one) = subst Chained (sym one.ends) (broken_chained old life (one.entry ∷ []) (old.stops ++ one.stop ∷ []) at chained)
+  up_chained (Quiet most) old life new text at chained (inl one) = subst Chained (sym one.goes) (called_chained false old life one.turns at chained)
+  up_chained (Quiet most) old life new text at chained (inr one) = subst Chained (sym one.ends) (broken_chained old life (one.turns ++ one.entry ∷ []) (old.stops ++ one.stop ∷ []) at chained)
+  up_chained (Power pick) old life new text at chained (same, printed) = subst Chained (sym same) (called_chained true old life [] at chained)
+  up_chained (PowerIn writes pick) old life new text at chained (same, printed) = same_chained old new same chained
+  up_chained Restart old life new text at chained (same, printed) = same_chained old new same chained
+  up_chained ColdStart old life new text at chained (same, printed) = same_chained old new same chained
+
+  -- ---- an opening
+
+  opened_linked : (lives : List LifeState) (last : Option LastLife) (emptied stopped : Bool) (kept next : ℕ) (state : LastingState) → (last ≡ None → lives ≡ []) → emptied ≡ false
+      → AreLinked setting.system (with_life lives last kept) → MayBeFound setting (record { last = last; emptied = emptied; stopped = stopped }) kept state
+      → AreLinked setting.system (with_life lives last kept ++ kept_life (record { opening = state; history = [] }) next ∷ [])
+  opened_linked lives None emptied stopped kept next state first warm linked found =
+      subst (λ (ls : List LifeState). AreLinked setting.system (ls ++ kept_life (record { opening = state; history = [] }) next ∷ [])) (sym (first refl)) (tt, tt)
+  opened_linked lives (Some life) emptied stopped kept next state first warm linked (inl leaves) =
+      one_linked setting.system lives (kept_life life kept) (kept_life (record { opening = state; history = [] }) next) leaves linked
+  opened_linked lives (Some life) emptied stopped kept next state first warm linked (inr empty) = let never : true ≡ false = sym empty.broke_off ∙ warm in cc
+
+  opens_chained : (old : SessionState) (outage : Outage) (new : SessionState) → old.standing ≡ Down outage → Chained old → OpensSession false setting old outage new → Chained new
+  opens_chained old outage new at chained opens =
+      subst Chained (sym opens.goes) (record {
+        linked = λ kept.
+            opened_linked old.lives outage.last outage.emptied outage.stopped opens.kept kept opens.state
+            (λ none. chained.first (ap last_life at ∙ none)) (sym (ap is_emptied at) ∙ chained.warm)
+            (subst (λ (s : Standing). AreLinked setting.system (with_life old.lives (last_life s) opens.kept)) at (chained.linked opens.kept)) (opens.may tells);
+        first = λ none. absurd (none_some (Some (record { opening = opens.state; history = [] })) (record { opening = opens.state; history = [] }) refl none);
+        warm = refl;
+      })
+
+  restart_chained : (old : SessionState) (outage : Outage) (new : SessionState) (text : List ℕ) → old.standing ≡ Down outage → Chained old → IsRestarted false setting old outage new text → Chained new
+  restart_chained old outage new text at chained (inl (opens, printed)) = opens_chained old outage new at chained opens
+  restart_chained old outage new text at chained (inr (inl (fails, printed))) =
+      subst Chained (sym fails.ends) (record {
+        linked = λ kept. subst (λ (s : Standing). AreLinked setting.system (with_life old.lives (last_life s) kept)) at (chained.linked kept);
+        first = λ none. chained.first (ap last_life at ∙ none);
+        warm = sym (ap is_emptied at) ∙ chained.warm;
+      })
+  restart_chained old outage new text at chained (inr (inr none)) = same_chained old new none.stays chained
+
+  down_chained : (asked : Asked) (old : SessionState) (outage : Outage) (new : SessionState) (text : List ℕ) → asked ≢ ColdStart → old.standing ≡ Down outage → Chained old → IsServedDown asked setting old outage new text → Chained new
+  down_chained (Bad rule) old outage new text warm at chained (same, printed) = same_chained old new same chained
+  down_chained (BadCommand rule) old outage new text warm at chained (same, printed) = same_chained old new same chained
+  down_chained (Stopped terminal number reason) old outage new text warm at chained (same, printed) = same_chained old new same chained
+  down_chained (Call call) old outage new text warm at chained (same, printed) = same_chained old new same chained
+  down_chained (Quiet most) old outage new text warm at chained (same, printed) = same_chained old new same chained
+  down_chained (Power pick) old outage new text warm at chained (same, printed) = same_chained old new same chained
+  down_chained (PowerIn writes pick) old outage new text warm at chained (same, printed) = same_chained old new same chained
+  down_chained Restart old outage new text warm at chained one = restart_chained old outage new text at chained one
+  down_chained ColdStart old outage new text warm at chained one = absurd (warm refl)
+
+  -- ---- a session
+
+  block_chained : (asked : Asked) (old new : SessionState) (text : List ℕ) → asked ≢ ColdStart → (standing : Standing) → old.standing ≡ standing → ServedBy standing asked setting old new text → Chained old → Chained new
+  block_chained asked old new text warm (Up life) at one chained = up_chained asked old life new text at chained one
+  block_chained asked old new text warm (Down outage) at one chained = down_chained asked old outage new text warm at chained one
+
+  blocks_chained : (blocks : List Block) (old new : SessionState) (text : List ℕ) → AllByRecursion (λ (block : Block). asked_of setting.system block ≢ ColdStart) blocks → AreServed setting blocks old new text
+      → Chained old → Chained new
+  blocks_chained [] old new text warm (same, none) chained = same_chained old new same chained
+  blocks_chained (block ∷ blocks) old new text warm one chained =
+      blocks_chained blocks one.mid new one.later warm.1 one.on (block_chained (asked_of setting.system block) old one.mid one.first warm.0 old.standing refl one.here chained)
+
+  unbegun_chained : Chained unbegun
+  unbegun_chained = record { linked = λ kept. tt; first = λ none. refl; warm = refl }
+
+  first_chained : (first : SessionState) → BeginsSession setting first → Chained first
+  first_chained first (inl opens) = opens_chained unbegun no_life first refl unbegun_chained opens
+  first_chained first (inr fails) = subst Chained (sym fails.ends) (record { linked = λ kept. tt; first = λ none. refl; warm = refl })
+
+  -- turns of a QUIET that broke off
+  begun_chained : (asked : Asked) (old : SessionState) (standing : Standing) (new : SessionState) → old.standing ≡ standing → IsBegunBy asked setting.system old standing new → Chained old → Chained new
+  begun_chained (Quiet most) old (Up life) new at (inl same) chained = same_chained old new same chained
+  begun_chained (Quiet most) old (Up life) new at (inr one) chained = subst Chained (sym one.goes) (called_chained false old life one.turns at chained)
+  begun_chained (Quiet most) old (Down outage) new at same chained = same_chained old new same chained
+  begun_chained (Bad rule) old standing new at same chained = same_chained old new same chained
+  begun_chained (BadCommand rule) old standing new at same chained = same_chained old new same chained
+  begun_chained (Stopped terminal number reason) old standing new at same chained = same_chained old new same chained
+  begun_chained (Call call) old standing new at same chained = same_chained old new same chained
+  begun_chained (Power pick) old standing new at same chained = same_chained old new same chained
+  begun_chained (PowerIn writes pick) old standing new at same chained = same_chained old new same chained
+  begun_chained Restart old standing new at same chained = same_chained old new same chained
+  begun_chained ColdStart old standing new at same chained = same_chained old new same chained
+
+  left_chained : (others : List Block) (mid last : SessionState) → (last ≡ mid) ⊎ IsSessionBegun setting.system others mid last → Chained mid → Chained last
+  left_chained others mid last (inl same) chained = same_chained mid last same chained
+  left_chained [] mid last (inr same) chained = same_chained mid last same chained
+  left_chained (block ∷ others) mid last (inr one) chained = begun_chained (asked_of setting.system block) mid mid.standing last refl one chained
+
+  -- All lives are linked.
+  pub lives_linked : (blocks others : List Block) (first mid last : SessionState) (text : List ℕ) (lives : List LifeState) → BeginsSession setting first → AreServed setting blocks first mid text
+      → (last ≡ mid) ⊎ IsSessionBegun setting.system others mid last → AllByRecursion (λ (block : Block). asked_of setting.system block ≢ ColdStart) blocks → AreAllLives setting.system last lives → AreLinked setting.system lives
+  lives_linked blocks others first mid last text lives begins served left warm all =
+      let chained : Chained last = left_chained others mid last left (blocks_chained blocks first mid text warm served (first_chained first begins)) in
+      subst (AreLinked setting.system) (sym all.are) (chained.linked all.count)

@@ -1,0 +1,103 @@
+-- What is sent again, over the lives of a session: inputs.
+use Rattle.std.specs.Prelude.{◌≡◌, ◌⊎◌, ℕ, ◌-◌, ◌≤◌, Bool, true, false, List, [], ◌∷◌, ◌++◌, Result, Ok, Err}
+use Rattle.std.specs.List.{AllByRecursion}
+use Rattle.std.specs.Str.{bytes_eq}
+use Rattle.model_system.specs.System.{System}
+use Rattle.model_machine.specs.declared.entry.Entry.{Entry}
+use Rattle.model_machine.specs.declared.entry.Entry.TheVariants.{Accept}
+use Rattle.model_machine.specs.declared.entry.Taken.{Taken}
+use Rattle.model_machine.specs.declared.entry.Taken.TheVariants.{New, Already}
+use Rattle.model_machine.specs.declared.entry.InputRefused.{InputRefused}
+use Rattle.model_machine.specs.declared.entry.InputRefused.TheVariants.{StoppedTerminal, Expected, Fault}
+use Rattle.model_machine.specs.MachineCalls.{input_answer}
+use Rattle.model_machine.specs.History.{is_fault}
+use Rattle.model_session.specs.Lives.{LifeState, LastLife, LifeLeaves, life_moment}
+
+-- ---- lives one after another
+
+-- a life by what it opened with and its entries
+abbrev pub alone : LifeState → LastLife
+alone life = record { opening = life.opening; history = life.history }
+
+-- Each life opened with what the one before it left, of which so many lasting steps are kept.
+abbrev pub OpensBehind : System → LifeState → List LifeState → Type 0
+OpensBehind system life [] = Unit {0}
+OpensBehind system life (next ∷ lives) = LifeLeaves system (alone life) life.kept next.opening
+
+abbrev pub AreLinked : System → List LifeState → Type 0
+AreLinked system [] = Unit {0}
+AreLinked system (life ∷ lives) = OpensBehind system life lives × AreLinked system lives
+
+-- how many lasting steps these entries of a life are
+abbrev pub steps_of : System → LifeState → List Entry → ℕ
+steps_of system life entries = (life_moment system (alone life) entries).lasting.steps - life.opening.steps
+
+abbrev pub entries_of : List LifeState → List Entry
+entries_of [] = []
+entries_of (life ∷ lives) = life.history ++ entries_of lives
+
+-- ---- inputs
+
+-- the input was accepted before, unless its terminal is stopped, or the disk failed
+abbrev pub IsKnown : Result Taken InputRefused → Type 0
+IsKnown (Ok Already) = Unit {0}
+IsKnown (Err StoppedTerminal) = Unit {0}
+IsKnown (Err (Fault fault)) = Unit {0}
+IsKnown _ = ⊥
+
+-- the input is new, unless a refusal applies that isn't for its number, or the disk failed
+abbrev pub IsFresh : Result Taken InputRefused → Type 0
+IsFresh (Ok Already) = ⊥
+IsFresh (Err (Expected number)) = ⊥
+IsFresh _ = Unit {0}
+
+-- an input of the terminal under this number, or a lower one, is known
+abbrev pub KnowsInput : List ℕ → ℕ → Entry → Type 0
+KnowsInput terminal number (Accept other sent segments answer) = bytes_eq other terminal ≡ true → sent ≤ number → IsKnown answer
+KnowsInput terminal number _ = Unit {0}
+
+abbrev pub AllKnow : List ℕ → ℕ → List Entry → Type 0
+AllKnow terminal number entries = AllByRecursion (KnowsInput terminal number) entries
+
+abbrev pub LivesKnow : List ℕ → ℕ → List LifeState → Type 0
+LivesKnow terminal number lives = AllByRecursion (λ life. AllKnow terminal number life.history) lives
+
+-- The next input of the terminal, where it is sent under this number, is fresh.
+abbrev pub by_terminal : Bool → Type 0 → Type 0 → Type 0
+by_terminal true here later = here
+by_terminal false here later = later
+
+abbrev pub NextIsFresh : List ℕ → ℕ → List Entry → Type 0
+NextIsFresh terminal number [] = Unit {0}
+NextIsFresh terminal number (Accept other sent segments answer ∷ entries) =
+    by_terminal (bytes_eq other terminal) (sent ≡ number → IsFresh answer) (NextIsFresh terminal number entries)
+NextIsFresh terminal number (entry ∷ entries) = NextIsFresh terminal number entries
+
+-- The disk failed in the call of an input that would have been new, which ended the life.
+pub record IsInDoubt (system : System) (life : LifeState) (terminal : List ℕ) (number : ℕ) : Type 0 where
+  pub before : List Entry
+  pub segments : List (List ℕ)
+  pub answer : Result Taken InputRefused
+  pub id : ℕ
+  pub all : life.history ≡ before ++ Accept terminal number segments answer ∷ []
+  pub fault : is_fault (Accept terminal number segments answer) ≡ true
+  pub new : input_answer system (life_moment system (alone life) before) terminal number segments ≡ Ok (New id)
+
+-- Its step is kept, and it is known from then on; or its step is not, and it is fresh when it is sent again.
+abbrev pub SettlesDoubt : System → LifeState → List LifeState → (terminal : List ℕ) → (number : ℕ) → List Entry → Type 0
+SettlesDoubt system life later terminal number before =
+    ((life.kept ≡ steps_of system life life.history) × LivesKnow terminal number later)
+    ⊎ ((life.kept ≡ steps_of system life before) × NextIsFresh terminal number (entries_of later))
+
+-- Behind any stops and restarts an input under a number is answered as accepted before exactly where its step was kept, and is
+-- taken as new exactly where it was not: one that was answered as new is known from then on, in its life and in all behind it;
+-- and one in whose call the disk failed is known then where its step counts as kept, and else fresh.
+pub record KnowsInputs (system : System) (lives : List LifeState) : Type 0 where
+  pub answered :
+      (before later : List LifeState) (life : LifeState) (front rest : List Entry) (terminal : List ℕ) (number id : ℕ) (segments : List (List ℕ))
+      → lives ≡ before ++ life ∷ later → life.history ≡ front ++ Accept terminal number segments (Ok (New id)) ∷ rest
+      → AllKnow terminal number rest × LivesKnow terminal number later
+  pub in_doubt :
+      (before later : List LifeState) (life next : LifeState) (terminal : List ℕ) (number : ℕ)
+      → lives ≡ before ++ life ∷ next ∷ later → (doubt : IsInDoubt system life terminal number)
+      → SettlesDoubt system life (next ∷ later) terminal number doubt.before
