@@ -5,16 +5,17 @@ use Rattle.std.specs.Str.{bytes_eq}
 use Rattle.std.proofs.lemmas.Option.{none-some, same_Some}
 use Rattle.model_system.specs.declared.code.Code.{Code}
 use Rattle.model_system.specs.System.{System}
-use Rattle.system_types.specs.Valid.{IsSystem}
-use Rattle.checkpointing.specs.Records.{code_names, AreApart}
+use Rattle.system_types.specs.ValidSystem.{IsSystem}
+use Rattle.checkpointing.specs.SnapshotRecords.{AreApart}
 use Rattle.checkpointing.proofs.Named.{position_map}
+use Rattle.model_image.specs.Snapshot.{code_names}
 
-record Named (codes : List Code) (place : ℕ) (name : List ℕ) : Type 0 where
-  code : Code
-  found : slice_get codes place ≡ Some code
-  is : code.transaction.code ≡ name
+pub record Named (codes : List Code) (place : ℕ) (name : List ℕ) : Type 0 where
+  pub code : Code
+  pub found : slice_get codes place ≡ Some code
+  pub is : code.transaction.code ≡ name
 
-named : (codes : List Code) (place : ℕ) (name : List ℕ) → slice_get (map (λ code. code.transaction.code) codes) place ≡ Some name → Named codes place name
+pub named : (codes : List Code) (place : ℕ) (name : List ℕ) → slice_get (map (λ code. code.transaction.code) codes) place ≡ Some name → Named codes place name
 named [] place name found = absurd (none-some name found)
 named (code ∷ codes) zero name found = record { code = code; found = refl; is = same_Some code.transaction.code name found }
 named (code ∷ codes) (suc place) name found = let rest = named codes place name found in record { code = rest.code; found = rest.found; is = rest.is }

@@ -14,33 +14,35 @@ use Rattle.tm_disk.specs.Sector.{zeros, blank}
 use Rattle.model_system.specs.System.{System}
 use Rattle.model_machine.specs.Machine.{LastingState}
 use Rattle.log_records.specs.declared.record.Record.{Record}
-use Rattle.log_records.specs.Spelling.{spelling, IsRecord}
-use Rattle.log_records.specs.Reading.{◌>>=◌}
-use Rattle.log_sectors.specs.Sealed.{opened}
-use Rattle.log_sectors.specs.Chain.{before, chain, joined}
+use Rattle.log_records.specs.RecordSpelling.{record_spelling, IsLogRecord}
+use Rattle.log_records.specs.RecordReader.{◌>>=◌}
+use Rattle.log_sectors.specs.SealedSector.{opened_payload}
+use Rattle.log_sectors.specs.Chain.{before, chain, joined_payloads}
 use Rattle.log_sectors.proofs.Sealing.{opened-blank}
 use Rattle.restart_data.specs.declared.restart.RestartSector.{RestartSector}
 use Rattle.restart_data.specs.Fields.{number2_at, are_zeros}
 use Rattle.restart_data.specs.Restart.{restart_in}
 use Rattle.restart_data.specs.Snapshot.{snapshot_in}
-use Rattle.restart_data.proofs.Zeros.{blank_is, take-zeros, drop-zeros, are_zeros-zeros}
+use Rattle.restart_data.proofs.Zeros.{are_zeros-zeros}
 use Rattle.model_image.specs.Areas.{snapshot_area, snapshot_first, log_first, data_first}
-use Rattle.model_image.specs.Cut.{Cut, cut_of, IsCutOff}
+use Rattle.model_image.specs.CutRecords.{Cut, cut_of, IsRecordCutOff}
 use Rattle.model_image.specs.Faults.{Fault, in_sector, unless_fault}
-use Rattle.model_image.specs.Slots.{Slot, Source, source_of, slots_by, slot_in, named_by, is_change_of, all_slots, slot_fault, rows_of, rows_from, rows_of_bytes, rows_by, used_in, bytes_in, is_wrong_length, has_wrong_length, has_no_record, rows_in, have_one_root, first_shared, first_in, is_image}
+use Rattle.model_image.specs.Slots.{SlotOnImage, Source, source_of, slots_by, image_slot_in, named_by, is_change_of, all_slots, slot_fault, rows_of_databases, image_rows_from, rows_of_bytes, rows_by, used_in, slot_bytes_in, is_wrong_length, has_wrong_length, has_no_record, slot_rows, have_one_root, first_shared, first_in, is_image}
 use Rattle.model_image.specs.Slots.Source.{Spelled}
-use Rattle.model_image.specs.Recovered.{is_later, snapshot_from, log_in, log_from, state_from, later_sector, state_with, state_by, rest_by, log_rest, Recovers}
+use Rattle.model_image.specs.RecoveredState.{is_later, snapshot_from, log_in, log_from, state_from, later_sector, state_with, state_by_restart, rest_by, log_rest, Recovers}
 use Rattle.model_image.specs.States.{breaks_a_rule}
 use Rattle.model_image.proofs.Later.{none_later}
 use Rattle.model_image.proofs.Answers.{nothing_cut_off}
 use Rattle.model_image.proofs.Places.{slot_above, slot_below, both_logs, log_above, log_below}
 use Rattle.model_image.proofs.Alike.{IsSlotOf}
 use Rattle.seg_store.specs.Slots.{rows_of_slots, with_rows}
-use Rattle.checkpointing.specs.Records.{snapshot_records, code_names, AreApart, IsOfSystem}
+use Rattle.checkpointing.specs.SnapshotRecords.{snapshot_records, AreApart, IsOfSystem}
 use Rattle.checkpointing.proofs.Told.{without_rows, state_told}
 use Rattle.checkpointing.proofs.Plain.{none_named}
 use Rattle.checkpointing.proofs.Judged.{AreCounts}
 use Rattle.checkpointing.proofs.Read.{no_changes, read_from}
+use Rattle.tm_disk.proofs.Zeros.{blank_is, take-zeros, drop-zeros}
+use Rattle.model_image.specs.Snapshot.{code_names}
 
 -- ---- a blank sector
 
@@ -48,7 +50,7 @@ front_blank : (at count : ℕ) → at + count ≤ 4096 → take count (drop at b
 front_blank at count fits =
     ap (λ (l : List ℕ). take count (drop at l)) blank_is ∙ ap (take count) (drop-zeros at 4096) ∙ take-zeros count (4096 - at) (omega (arith, fits))
 
-two_zeros : from_be_bytes w16 (zeros 2) ≡ 0
+pub two_zeros : from_be_bytes w16 (zeros 2) ≡ 0
 unfolding zeros
 two_zeros = refl
 
@@ -63,7 +65,7 @@ other_letters = refl
 pub blank_not_later : (epoch : ℕ) → is_later epoch blank ≡ false
 blank_not_later epoch = rw (front_blank 0 4 (omega arith), other_letters) refl
 
-none_used : bytes_in blank ≡ []
+none_used : slot_bytes_in blank ≡ []
 none_used = ap (λ (n : ℕ). take n (drop 2 blank)) used_blank
 
 right_length : is_wrong_length (Spelled blank) ≡ false
@@ -79,10 +81,10 @@ no_rows dbd = ap (λ (b : Bool). if b then rows_by 0 dbd.types [] [] else None) 
 
 -- ---- free slots
 
-pub record IsFreeSlot (slot : Slot) : Type 0 where
+pub record IsFreeSlot (slot : SlotOnImage) : Type 0 where
   pub right : has_wrong_length slot ≡ false
   pub spells : has_no_record slot ≡ false
-  pub none : rows_in slot ≡ []
+  pub none : slot_rows slot ≡ []
 
 blank_free : (dbd : Dbd) (place : ℕ) → IsFreeSlot (record { dbd = dbd; place = place; source = Spelled blank })
 blank_free dbd place = record {
@@ -91,61 +93,61 @@ blank_free dbd place = record {
   none = ap (λ (l : List ℕ). unwrap_or (rows_of_bytes dbd l) []) none_used ∙ ap (λ (r : Option (List Row)). unwrap_or r []) (no_rows dbd);
 }
 
-abbrev AreFree : List Slot → Type 0
+abbrev AreFree : List SlotOnImage → Type 0
 AreFree slots = AllByRecursion IsFreeSlot slots
 
-found_none : (test : Slot → Bool) (slots : List Slot) → AllByRecursion (λ s. test s ≡ false) slots → find test slots ≡ None
+found_none : (test : SlotOnImage → Bool) (slots : List SlotOnImage) → AllByRecursion (λ s. test s ≡ false) slots → find test slots ≡ None
 found_none test [] none = refl
 found_none test (s ∷ slots) none = ap (λ (b : Bool). if b then Some s else find test slots) none.0 ∙ found_none test slots none.1
 
-rights : (slots : List Slot) → AreFree slots → AllByRecursion (λ s. has_wrong_length s ≡ false) slots
+rights : (slots : List SlotOnImage) → AreFree slots → AllByRecursion (λ s. has_wrong_length s ≡ false) slots
 rights [] free = tt
 rights (s ∷ slots) free = (free.0.right, rights slots free.1)
 
-spelleds : (slots : List Slot) → AreFree slots → AllByRecursion (λ s. has_no_record s ≡ false) slots
+spelleds : (slots : List SlotOnImage) → AreFree slots → AllByRecursion (λ s. has_no_record s ≡ false) slots
 spelleds [] free = tt
 spelleds (s ∷ slots) free = (free.0.spells, spelleds slots free.1)
 
-alone : (s other : Slot) → IsFreeSlot s → have_one_root s other ≡ false
+alone : (s other : SlotOnImage) → IsFreeSlot s → have_one_root s other ≡ false
 alone s other free = rw (free.none) refl
 
-none_alike : (s : Slot) (slots : List Slot) → IsFreeSlot s → list_any (have_one_root s) slots ≡ false
+none_alike : (s : SlotOnImage) (slots : List SlotOnImage) → IsFreeSlot s → list_any (have_one_root s) slots ≡ false
 none_alike s [] free = refl
 none_alike s (other ∷ slots) free = rw (alone s other free, none_alike s slots free) refl
 
-none_shared : (slots : List Slot) → AreFree slots → first_shared slots ≡ None
+none_shared : (slots : List SlotOnImage) → AreFree slots → first_shared slots ≡ None
 none_shared [] free = refl
 none_shared (s ∷ slots) free = ap (λ (b : Bool). if b then Some s else first_shared slots) (none_alike s slots free.0) ∙ none_shared slots free.1
 
-abbrev AreAllFree : List (List Slot) → Type 0
+abbrev AreAllFree : List (List SlotOnImage) → Type 0
 AreAllFree databases = AllByRecursion AreFree databases
 
-first_none : (test : List Slot → Option Slot) (databases : List (List Slot)) → AllByRecursion (λ slots. test slots ≡ None) databases → first_in test databases ≡ None
+first_none : (test : List SlotOnImage → Option SlotOnImage) (databases : List (List SlotOnImage)) → AllByRecursion (λ slots. test slots ≡ None) databases → first_in test databases ≡ None
 first_none test [] none = refl
 first_none test (slots ∷ databases) none = rw (none.0) (first_none test databases none.1)
 
-each_right : (databases : List (List Slot)) → AreAllFree databases → AllByRecursion (λ slots. find has_wrong_length slots ≡ None) databases
+each_right : (databases : List (List SlotOnImage)) → AreAllFree databases → AllByRecursion (λ slots. find has_wrong_length slots ≡ None) databases
 each_right [] free = tt
 each_right (slots ∷ databases) free = (found_none has_wrong_length slots (rights slots free.0), each_right databases free.1)
 
-each_spelled : (databases : List (List Slot)) → AreAllFree databases → AllByRecursion (λ slots. find has_no_record slots ≡ None) databases
+each_spelled : (databases : List (List SlotOnImage)) → AreAllFree databases → AllByRecursion (λ slots. find has_no_record slots ≡ None) databases
 each_spelled [] free = tt
 each_spelled (slots ∷ databases) free = (found_none has_no_record slots (spelleds slots free.0), each_spelled databases free.1)
 
-each_apart : (databases : List (List Slot)) → AreAllFree databases → AllByRecursion (λ slots. first_shared slots ≡ None) databases
+each_apart : (databases : List (List SlotOnImage)) → AreAllFree databases → AllByRecursion (λ slots. first_shared slots ≡ None) databases
 each_apart [] free = tt
 each_apart (slots ∷ databases) free = (none_shared slots free.0, each_apart databases free.1)
 
-pub no_fault : (databases : List (List Slot)) → AreAllFree databases → slot_fault databases ≡ None
+pub no_fault : (databases : List (List SlotOnImage)) → AreAllFree databases → slot_fault databases ≡ None
 no_fault databases free =
     rw (first_none (find has_wrong_length) databases (each_right databases free), first_none (find has_no_record) databases (each_spelled databases free), first_none first_shared databases (each_apart databases free)) refl
 
-rows_free : (slots : List Slot) → AreFree slots → rows_of_slots (map rows_in slots) ≡ []
+rows_free : (slots : List SlotOnImage) → AreFree slots → rows_of_slots (map slot_rows slots) ≡ []
 rows_free [] free = refl
 rows_free (s ∷ slots) free =
-    ap (λ (image : List Row). with_rows image (rows_of_slots (map rows_in slots))) free.0.none ∙ rows_free slots free.1
+    ap (λ (image : List Row). with_rows image (rows_of_slots (map slot_rows slots))) free.0.none ∙ rows_free slots free.1
 
-free_by : (slot : ℕ → Slot) (n number : ℕ) → ((k : ℕ) → k < n → IsFreeSlot (slot (number + k))) → AreFree (slots_by slot n number)
+free_by : (slot : ℕ → SlotOnImage) (n number : ℕ) → ((k : ℕ) → k < n → IsFreeSlot (slot (number + k))) → AreFree (slots_by slot n number)
 free_by slot zero number free = tt
 free_by slot (suc n) number free = (
   subst (λ (k : ℕ). IsFreeSlot (slot k)) (omega arith) (free 0 (omega arith)),
@@ -163,7 +165,7 @@ module _ (system : System) (image : Image) (records : List Record) (unnamed : (d
   unfolding named_by
   not_named database slot = rw (unnamed database slot) refl
 
-  one_free : (dbd : Dbd) (place number : ℕ) → IsSlotOf system place number → IsFreeSlot (slot_in image records [] dbd (data_first system place) (place + 1) number)
+  one_free : (dbd : Dbd) (place number : ℕ) → IsSlotOf system place number → IsFreeSlot (image_slot_in image records [] dbd (data_first system place) (place + 1) number)
   one_free dbd place number is =
       let at : ℕ = data_first system place + number in
       let is_blank : sector_at image at ≡ blank = blank_all.each at (omega (arith, slot_above system place number, both_logs system)) (slot_below system place number is) in
@@ -176,22 +178,22 @@ module _ (system : System) (image : Image) (records : List Record) (unnamed : (d
   all_free place [] same = tt
   all_free place (dbd ∷ dbds) same =
       let found : slice_get system.databases place ≡ Some dbd = ap (slice_get system.databases) (omega arith) ∙ sym (same 0) in (
-        free_by (slot_in image records [] dbd (data_first system place) (place + 1)) dbd.roots 0 (λ k lt. one_free dbd place (0 + k) (record { dbd = dbd; found = found; below = omega (arith, lt) })),
+        free_by (image_slot_in image records [] dbd (data_first system place) (place + 1)) dbd.roots 0 (λ k lt. one_free dbd place (0 + k) (record { dbd = dbd; found = found; below = omega (arith, lt) })),
         all_free (place + 1) dbds (λ j. same (suc j) ∙ ap (slice_get system.databases) (omega arith)),
       )
 
-  all_rows : (place : ℕ) (dbds : List Dbd) → ((j : ℕ) → slice_get dbds j ≡ slice_get system.databases (place + j)) → rows_of (all_slots system image records [] place dbds) ≡ map (λ _. []) dbds
+  all_rows : (place : ℕ) (dbds : List Dbd) → ((j : ℕ) → slice_get dbds j ≡ slice_get system.databases (place + j)) → rows_of_databases (all_slots system image records [] place dbds) ≡ map (λ _. []) dbds
   unfolding all_slots
   all_rows place [] same = refl
   all_rows place (dbd ∷ dbds) same =
       let free = all_free place (dbd ∷ dbds) same in
-      ap (λ (rows : List Row). rows ∷ rows_of (all_slots system image records [] (place + 1) dbds)) (rows_free (slots_by (slot_in image records [] dbd (data_first system place) (place + 1)) dbd.roots 0) free.0)
+      ap (λ (rows : List Row). rows ∷ rows_of_databases (all_slots system image records [] (place + 1) dbds)) (rows_free (slots_by (image_slot_in image records [] dbd (data_first system place) (place + 1)) dbd.roots 0) free.0)
       ∙ ap (λ (others : List (List Row)). [] ∷ others) (all_rows (place + 1) dbds (λ j. same (suc j) ∙ ap (slice_get system.databases) (omega arith)))
 
-  no_rows_there : rows_from system image records [] ≡ Ok (map (λ _. []) system.databases)
+  no_rows_there : image_rows_from system image records [] ≡ Ok (map (λ _. []) system.databases)
   no_rows_there =
       let same : (j : ℕ) → slice_get system.databases j ≡ slice_get system.databases (0 + j) = λ j. ap (slice_get system.databases) (omega arith) in
-      ap (λ (fault : Option Fault). unless_fault fault (rows_of (all_slots system image records [] 0 system.databases))) (no_fault (all_slots system image records [] 0 system.databases) (all_free 0 system.databases same))
+      ap (λ (fault : Option Fault). unless_fault fault (rows_of_databases (all_slots system image records [] 0 system.databases))) (no_fault (all_slots system image records [] 0 system.databases) (all_free 0 system.databases same))
       ∙ ap (λ (rows : List (List Row)). Ok rows) (all_rows 0 system.databases same)
 
 -- ---- the log
@@ -199,35 +201,35 @@ module _ (system : System) (image : Image) (records : List Record) (unnamed : (d
 chain_none : (count : ℕ) (image : Image) (at sequence epoch : ℕ) → ((k : ℕ) → at ≤ k → k < at + count → sector_at image k ≡ blank) → chain count image at sequence epoch ≡ []
 chain_none zero image at sequence epoch blanks = refl
 chain_none (suc n) image at sequence epoch blanks =
-    ap (λ (s : List ℕ). before (opened epoch sequence s) (chain n image (at + 1) (sequence + 1) epoch)) (blanks at (omega arith) (omega arith))
+    ap (λ (s : List ℕ). before (opened_payload epoch sequence s) (chain n image (at + 1) (sequence + 1) epoch)) (blanks at (omega arith) (omega arith))
     ∙ ap (λ (payload : Option (List ℕ)). before payload (chain n image (at + 1) (sequence + 1) epoch)) (opened-blank epoch sequence)
 
-nothing_cut : cut_of [] ≡ record { records = []; rest = [] }
+pub nothing_cut : cut_of [] ≡ record { records = []; rest = [] }
 unfolding cut_of
 nothing_cut = refl
 
-bind_is : {A B : Type 0} (a : Result A Fault) (f : A → Result B Fault) (x : A) → a ≡ Ok x → (a >>= f) ≡ f x
+pub bind_is : {A B : Type 0} (a : Result A Fault) (f : A → Result B Fault) (x : A) → a ≡ Ok x → (a >>= f) ≡ f x
 bind_is a f x is = ap (λ r. r >>= f) is
 
 -- what is left of the recovery, once the records are there
-abbrev of_rows : System → Image → RestartSector → LastingState → List (List Row) → Result LastingState Fault
+abbrev pub of_rows : System → Image → RestartSector → LastingState → List (List Row) → Result LastingState Fault
 of_rows system image now lasting rows = unless_fault (later_sector system image now) (record lasting { rows = rows })
 
-abbrev of_state : System → Image → RestartSector → List Record → List Record → LastingState → Result LastingState Fault
-of_state system image now records log lasting = rows_from system image records log >>= λ rows. of_rows system image now lasting rows
+abbrev pub of_state : System → Image → RestartSector → List Record → List Record → LastingState → Result LastingState Fault
+of_state system image now records log lasting = image_rows_from system image records log >>= λ rows. of_rows system image now lasting rows
 
-abbrev of_log : System → Image → RestartSector → List Record → List Record → Result LastingState Fault
+abbrev pub of_log : System → Image → RestartSector → List Record → List Record → Result LastingState Fault
 of_log system image now records log = state_from system now records log >>= λ lasting. of_state system image now records log lasting
 
-abbrev of_snapshot : System → Image → RestartSector → List Record → Result LastingState Fault
+abbrev pub of_snapshot : System → Image → RestartSector → List Record → Result LastingState Fault
 of_snapshot system image now records = log_from system image now true >>= λ log. of_log system image now records log
 
 -- The image has this restart sector, and the bytes of these records as its snapshot; the logs and the data are blank.
 pub record HasSnapshot (system : System) (now : RestartSector) (records : List Record) (image : Image) : Type 0 where
   pub restart : restart_in (snapshot_area system) image ≡ Ok (Some now)
   pub log : now.log ≤ 1
-  pub read : snapshot_in now.sectors image (snapshot_first system now.snapshot) now.checkpoint ≡ Ok (flat_map spelling records)
-  pub valid : AllByRecursion IsRecord records
+  pub read : snapshot_in now.sectors image (snapshot_first system now.snapshot) now.checkpoint ≡ Ok (flat_map record_spelling records)
+  pub valid : AllByRecursion IsLogRecord records
   pub blanks : AreBlank system image
 
 module _ (system : System) (state : LastingState) (checkpoint unit : ℕ) (terminals_apart : AreApart system.terminals) (codes_apart : AreApart (code_names system)) (is : IsOfSystem system state) (counts : AreCounts checkpoint unit) (sound : breaks_a_rule system state ≡ false) (now : RestartSector) (image : Image) (has : HasSnapshot system now (snapshot_records checkpoint unit state []) image) where
@@ -236,7 +238,7 @@ module _ (system : System) (state : LastingState) (checkpoint unit : ℕ) (termi
 
   log_is : log_in system image now ≡ record { records = []; rest = [] }
   log_is =
-      ap (λ (payloads : List (List ℕ)). cut_of (joined payloads))
+      ap (λ (payloads : List (List ℕ)). cut_of (joined_payloads payloads))
       (chain_none system.logs image (log_first system now.log) now.sequence now.epoch (λ k low high.
       has.blanks.each k (omega (arith, low, log_above system now.log)) (omega (arith, high, log_below system now.log has.log, slot_above system (length system.databases) 0))))
       ∙ nothing_cut
@@ -253,7 +255,7 @@ module _ (system : System) (state : LastingState) (checkpoint unit : ℕ) (termi
       bind_is (snapshot_from system image now) (of_snapshot system image now) records snapshot_is
       ∙ bind_is (log_from system image now true) (of_log system image now records) [] (ap (λ (cut : Cut). Ok cut.records) log_is)
       ∙ ap (of_state system image now records []) (state_told system state terminals_apart codes_apart is checkpoint unit [] tt)
-      ∙ bind_is (rows_from system image records []) (of_rows system image now (without_rows system state)) (map (λ _. []) system.databases) (no_rows_there system image records (none_named system checkpoint unit state) has.blanks)
+      ∙ bind_is (image_rows_from system image records []) (of_rows system image now (without_rows system state)) (map (λ _. []) system.databases) (no_rows_there system image records (none_named system checkpoint unit state) has.blanks)
       ∙ ap (λ (fault : Option Fault). unless_fault fault (without_rows system state)) none_is_later
 
   -- it recovers to that state, without rows
@@ -262,6 +264,6 @@ module _ (system : System) (state : LastingState) (checkpoint unit : ℕ) (termi
       let rest : log_rest system image ≡ [] = ap (rest_by system image) has.restart ∙ ap (λ (cut : Cut). cut.rest) log_is in
       record {
         is_cut_off = true;
-        decides = (λ _. subst (λ (l : List ℕ). IsCutOff l) (sym rest) nothing_cut_off, λ _. refl);
-        is = ap (λ (read : Result (Option RestartSector) ℕ). in_sector 0 read >>= λ restart. state_by system image true restart) has.restart ∙ state_is;
+        decides = (λ _. subst (λ (l : List ℕ). IsRecordCutOff l) (sym rest) nothing_cut_off, λ _. refl);
+        is = ap (λ (read : Result (Option RestartSector) ℕ). in_sector 0 read >>= λ restart. state_by_restart system image true restart) has.restart ∙ state_is;
       }

@@ -6,7 +6,7 @@ use Rattle.std.proofs.lemmas.Bool.Decides.{nat_tests}
 use Rattle.model_machine.specs.Machine.{LastingState}
 use Rattle.log_records.specs.declared.record.Record.{Record}
 use Rattle.log_records.specs.declared.record.Record.TheVariants.{Input, Command, Reply, Discarded, Completed, Acknowledged, SyncPoint, Checkpoint, Terminal, Code, Change}
-use Rattle.model_image.specs.Snapshot.{rank, are_ranked, is_of_no_unit, wrong_record, told, told_by, terminal_name, code_name, reply_terminal}
+use Rattle.model_image.specs.Snapshot.{rank, are_ranked, is_of_no_unit, wrong_record, with_record_told, with_records_told, terminal_name, code_name, reply_terminal}
 use Rattle.checkpointing.specs.Changes.{IsChange}
 
 -- a change tells nothing of the state, and has no place among other records
@@ -14,7 +14,7 @@ pub record Bare (r : Record) : Type 0 where
   pub ranked : rank r ≡ 5
   pub no_unit : is_of_no_unit r ≡ true
   pub counts : wrong_record r ≡ false
-  pub untold : (lasting : LastingState) → told r lasting ≡ lasting
+  pub untold : (lasting : LastingState) → with_record_told r lasting ≡ lasting
   pub no_terminal : terminal_name r ≡ None
   pub no_code : code_name r ≡ None
   pub no_reply : reply_terminal r ≡ None
@@ -33,10 +33,10 @@ bare (Checkpoint checkpoint next_id next_unit steps) is = absurd is
 bare (Terminal name last next stopped conversation) is = absurd is
 bare (Code name stopped class priority) is = absurd is
 
-pub changes_told : (changes : List Record) (lasting : LastingState) → AllByRecursion IsChange changes → told_by changes lasting ≡ lasting
+pub changes_told : (changes : List Record) (lasting : LastingState) → AllByRecursion IsChange changes → with_records_told changes lasting ≡ lasting
 changes_told [] lasting are = refl
 changes_told (r ∷ changes) lasting are =
-    ap (told_by changes) ((bare r are.0).untold lasting) ∙ changes_told changes lasting are.1
+    ap (with_records_told changes) ((bare r are.0).untold lasting) ∙ changes_told changes lasting are.1
 
 le_five : (k : ℕ) → k ≤ 5 → nat_le k 5 ≡ true
 le_five k le = grind (arith, nat_tests)

@@ -6,19 +6,19 @@ use Rattle.model_system.specs.System.{System}
 use Rattle.log_records.specs.declared.record.Record.{Record}
 use Rattle.restart_data.specs.declared.restart.RestartSector.{RestartSector}
 use Rattle.restart_data.specs.Restart.{IsRestart, restart_of, restart_in}
-use Rattle.log_sectors.specs.Sealed.{opened}
-use Rattle.log_sectors.specs.Chain.{before, chain, joined}
+use Rattle.log_sectors.specs.SealedSector.{opened_payload}
+use Rattle.log_sectors.specs.Chain.{before, chain, joined_payloads}
 use Rattle.log_writer.proofs.Gaining.{chain-same}
 use Rattle.model_image.specs.Areas.{snapshot_area, log_first}
-use Rattle.model_image.specs.Cut.{Cut, cut_of}
-use Rattle.model_image.specs.Ahead.{NoneAhead}
+use Rattle.model_image.specs.CutRecords.{Cut, cut_of}
+use Rattle.model_image.specs.SectorsAhead.{NoneAhead}
 use Rattle.model_image.specs.Counters.{next_sequence, next_unit, told_unit}
-use Rattle.model_image.specs.Recovered.{snapshot_from, log_in}
+use Rattle.model_image.specs.RecoveredState.{snapshot_from, log_in}
 use Rattle.model_image.proofs.Ahead.{ahead_empty}
 use Rattle.model_image.proofs.Alike.{ImagesAlike, AreasAlike, snapshot_same, log_alike}
 use Rattle.checkpointing.specs.Counts.{AreUpTo, CountsUpTo, RaisesCounts}
 
-one_restart : {E : Type 0} (x : Result (Option RestartSector) E) (r s : RestartSector) → x ≡ Ok (Some r) → x ≡ Ok (Some s) → r ≡ s
+pub one_restart : {E : Type 0} (x : Result (Option RestartSector) E) (r s : RestartSector) → x ≡ Ok (Some r) → x ≡ Ok (Some s) → r ≡ s
 one_restart x r s one other = cc
 
 one_snapshot : {E : Type 0} (x : Result (List Record) E) (r s : List Record) → x ≡ Ok r → x ≡ Ok s → r ≡ s
@@ -75,7 +75,7 @@ same_raises more system old new same high counts =
 short_chain : (count : ℕ) (image : Image) (at sequence epoch : ℕ) → length (chain count image at sequence epoch) ≤ count
 short_chain zero image at sequence epoch = omega arith
 short_chain (suc count) image at sequence epoch =
-    by_first (opened epoch sequence (sector_at image at)) (chain count image (at + 1) (sequence + 1) epoch) (short_chain count image (at + 1) (sequence + 1) epoch)
+    by_first (opened_payload epoch sequence (sector_at image at)) (chain count image (at + 1) (sequence + 1) epoch) (short_chain count image (at + 1) (sequence + 1) epoch)
   where
     by_first : (first : Option (List ℕ)) (rest : List (List ℕ)) → length rest ≤ count → length (before first rest) ≤ suc count
     by_first None rest less = omega arith
@@ -99,7 +99,7 @@ module _ (system : System) (image : Image) (r : RestartSector) (ahead : NoneAhea
   ahead_sequence = ap (λ (links : List (List ℕ)). r.sequence + length links) no_chain ∙ omega arith
 
   ahead_records : (log_in system image r).records ≡ []
-  ahead_records = ap (λ (links : List (List ℕ)). (cut_of (joined links)).records) no_chain ∙ no_records
+  ahead_records = ap (λ (links : List (List ℕ)). (cut_of (joined_payloads links)).records) no_chain ∙ no_records
 
   module _ (snapshot : List Record) (unit : ℕ) (found : snapshot_from system image r ≡ Ok snapshot) (told : told_unit snapshot ≡ unit) (there : restart_in (snapshot_area system) image ≡ Ok (Some r)) where
     unit_told : (other : List Record) → snapshot_from system image r ≡ Ok other → next_unit other (log_in system image r).records ≡ max unit 1

@@ -2,22 +2,22 @@
 use Rattle.std.proofs.Common.{◌≡◌, ℕ, ◌+◌, ◌-◌, ◌*◌, ◌<◌, ◌≤◌, ◌^◌, length, false, sym, ◌∙◌, ap, subst, ⊎_elim, arith, None, Ok, IsSome}
 use Rattle.tm_disk.specs.Disk.{Image, sector_at}
 use Rattle.model_machine.specs.Machine.{LastingState}
-use Rattle.log_sectors.specs.Sealed.{opened}
+use Rattle.log_sectors.specs.SealedSector.{opened_payload}
 use Rattle.log_writer.specs.Writer.{Writer}
-use Rattle.log_writer.specs.Log.{sectors_of}
+use Rattle.log_writer.specs.ForcedLog.{log_sectors_of}
 use Rattle.model_image.specs.Areas.{log_first}
-use Rattle.model_image.specs.Recovered.{is_later, first_later, Recovers}
+use Rattle.model_image.specs.RecoveredState.{is_later, first_later, Recovers}
 use Rattle.model_image.proofs.Places.{snapshot_below, both_logs}
 use Rattle.model_image.proofs.Readings.{opened_not_later}
 use Rattle.model_image.proofs.Later.{none_later, each_not_later, not_later}
-use Rattle.checkpointing.specs.Parts.{CheckpointParts, next_restart}
-use Rattle.seg_store.specs.Changed.{AllStores}
-use Rattle.checkpointing.specs.Checkpoint.{InArea, IsWritten, IsCheckpointed}
+use Rattle.checkpointing.specs.CheckpointParts.{CheckpointParts, next_restart}
+use Rattle.seg_store.specs.ChangedSlots.{AllStores}
+use Rattle.checkpointing.specs.Checkpoint.{InArea, IsCheckpointWritten, IsCheckpointed}
 use Rattle.checkpointing.proofs.Keeping.{Stands, dirty_above}
 
 module _ (parts : CheckpointParts) (log : Writer) (stores : AllStores) (a e : Image) (s : Stands parts log stores a) (done : IsCheckpointed parts log stores a e) where
   -- a sector of the logs that is written is one of the writer's
-  written_log : (k : ℕ) → log_first parts.system 0 ≤ k → k < log_first parts.system 2 → IsWritten parts log stores k → InArea (log.first + log.place) (sectors_of (length log.appended)) k
+  written_log : (k : ℕ) → log_first parts.system 0 ≤ k → k < log_first parts.system 2 → IsCheckpointWritten parts log stores k → InArea (log.first + log.place) (log_sectors_of (length log.appended)) k
   written_log k low high written =
       ⊎_elim (λ (zero : k ≡ 0). absurd (omega (arith, zero, low)))
       (λ others.
@@ -37,10 +37,10 @@ module _ (parts : CheckpointParts) (log : Writer) (stores : AllStores) (a e : Im
       let is : log.first + x ≡ k = omega (arith, in_.low) in
       ⊎_elim
       (λ same. subst (λ i. is_later parts.now.epoch (sector_at e i) ≡ false) is (ap (is_later parts.now.epoch) same ∙ subst (λ i. is_later parts.now.epoch (sector_at a i) ≡ false) (sym is) before))
-      (λ (logs : IsSome (opened log.epoch (log.sequence + x) (sector_at e (log.first + x)))).
+      (λ (logs : IsSome (opened_payload log.epoch (log.sequence + x) (sector_at e (log.first + x)))).
       subst (λ i. is_later parts.now.epoch (sector_at e i) ≡ false) is
       (opened_not_later parts.now.epoch (log.sequence + x) (sector_at e (log.first + x)) small
-      (subst (λ n. IsSome (opened n (log.sequence + x) (sector_at e (log.first + x)))) s.over.epoch logs)))
+      (subst (λ n. IsSome (opened_payload n (log.sequence + x) (sector_at e (log.first + x)))) s.over.epoch logs)))
       (done.log_each x (omega (arith, in_.high, s.room))))
       (done.elsewhere k)
 

@@ -19,13 +19,13 @@ use Rattle.model_messages.specs.Outputs.{outputs_bytes}
 use Rattle.model_machine.specs.Machine.{LastingState}
 use Rattle.log_records.specs.declared.record.Record.{Record}
 use Rattle.log_records.specs.declared.record.Record.TheVariants.{Checkpoint}
-use Rattle.log_records.specs.Spelling.{spelling, IsRecord, HasRoom}
+use Rattle.log_records.specs.RecordSpelling.{record_spelling, IsLogRecord, HasRoomForPad}
 use Rattle.model_image.specs.Areas.{snapshot_area}
-use Rattle.model_image.specs.States.{is_printable, is_conversation, is_pad_of, has_right_pad, wrong_values, wrong_ids, unknown_messages, wrong_replies, over_full, breaks_a_rule, is_next, is_small, is_setting}
-use Rattle.system_types.specs.Valid.{IsSystem, IsPadLength}
-use Rattle.checkpointing.specs.Records.{terminal_records, code_record, message_record, reply_records, snapshot_records, IsOfSystem}
-use Rattle.image_law.specs.Counted.{IsCounted}
-use Rattle.checkpointing.specs.Spelled.{HaveRoom, IsWritable}
+use Rattle.model_image.specs.States.{is_printable_byte, is_conversation, is_pad_of, has_right_pad, wrong_values, wrong_ids, unknown_messages, wrong_replies, over_full, breaks_a_rule, is_next, is_small, is_setting}
+use Rattle.system_types.specs.ValidSystem.{IsSystem, IsPadLength}
+use Rattle.checkpointing.specs.SnapshotRecords.{terminal_records, code_record, message_record, reply_records, snapshot_records, IsOfSystem}
+use Rattle.image_law.specs.SegmentCounts.{AreSegmentsCounted}
+use Rattle.checkpointing.specs.SpelledRecords.{HaveRoom, IsWritable}
 use Rattle.checkpointing.proofs.Sizes.{size, size_both, size_more, front_valid, back_valid, IsShortPad, counts_size, terminals_size, codes_size, messages_size, replies_size}
 
 -- ---- tests
@@ -62,7 +62,7 @@ found_holds P p (code ∷ codes) h = found_by P (p code) code (find p codes) (Al
 
 pad_of : (size most : ℕ) (c : Conversation) → most ≤ 1000 → size ≡ most → is_pad_of size c ≡ true → length c.pad ≤ 994
 pad_of size most c low same is =
-    let one = both (not (size == 0) && (length c.pad + 6 == size) && bytes_eq (take 8 c.pad) (code_field c.code)) (list_all is_printable (drop 8 c.pad)) is in
+    let one = both (not (size == 0) && (length c.pad + 6 == size) && bytes_eq (take 8 c.pad) (code_field c.code)) (list_all is_printable_byte (drop 8 c.pad)) is in
     let two = both (not (size == 0) && (length c.pad + 6 == size)) (bytes_eq (take 8 c.pad) (code_field c.code)) one.0 in
     let three = both (not (size == 0)) (length c.pad + 6 == size) two.0 in
     omega (arith, low, same, same_number (length c.pad + 6) size three.1)
@@ -109,7 +109,7 @@ whole_sectors : (bytes most : ℕ) → bytes ≤ most → bytes ≤ (most + 4063
 whole_sectors bytes most h = omega (arith, h, sectors_cover most)
 
 module _ (system : System) (state : LastingState) (checkpoint unit : ℕ) (changes : List Record) (defined : IsSystem system) (is : IsOfSystem system state) (sound : breaks_a_rule system state ≡ false)
-    (valid : AllByRecursion IsRecord (snapshot_records checkpoint unit state changes)) (few : size changes ≤ 262144 * length system.regions) where
+    (valid : AllByRecursion IsLogRecord (snapshot_records checkpoint unit state changes)) (few : size changes ≤ 262144 * length system.regions) where
   abbrev terminals : List Record
   terminals = terminal_records state.terminals state.outputs state.conversations
 
@@ -123,7 +123,7 @@ module _ (system : System) (state : LastingState) (checkpoint unit : ℕ) (chang
   replies = reply_records state.outputs
 
   -- so many bytes at most
-  pub fits_bytes : length (flat_map spelling (snapshot_records checkpoint unit state changes)) ≤ system.qbytes + 262144 * length system.regions + 131072
+  pub fits_bytes : length (flat_map record_spelling (snapshot_records checkpoint unit state changes)) ≤ system.qbytes + 262144 * length system.regions + 131072
   fits_bytes =
       let keeps = kept system state sound in
       let behind_counts = valid.1 in
@@ -153,10 +153,10 @@ module _ (system : System) (state : LastingState) (checkpoint unit : ℕ) (chang
       )
 
   -- and so they fit the sectors of the area
-  pub fits : length (flat_map spelling (snapshot_records checkpoint unit state changes)) ≤ snapshot_area system * 4064
-  fits = whole_sectors (length (flat_map spelling (snapshot_records checkpoint unit state changes))) (system.qbytes + 262144 * length system.regions + 131072) fits_bytes
+  pub fits : length (flat_map record_spelling (snapshot_records checkpoint unit state changes)) ≤ snapshot_area system * 4064
+  fits = whole_sectors (length (flat_map record_spelling (snapshot_records checkpoint unit state changes))) (system.qbytes + 262144 * length system.regions + 131072) fits_bytes
 
-  pub some : 0 < length (flat_map spelling (snapshot_records checkpoint unit state changes))
+  pub some : 0 < length (flat_map record_spelling (snapshot_records checkpoint unit state changes))
   some = omega (
     arith,
     size_more (Checkpoint checkpoint state.next_id unit state.steps) (terminals ++ (codes ++ (messages ++ (replies ++ changes)))),
@@ -164,17 +164,17 @@ module _ (system : System) (state : LastingState) (checkpoint unit : ℕ) (chang
 
 -- ---- what can be spelled
 
-room_of : (c : Option Conversation) → IsShortPad c → HasRoom c
+room_of : (c : Option Conversation) → IsShortPad c → HasRoomForPad c
 room_of None short = tt
 room_of (Some c) short = omega (arith, short)
 
 have_room : (cs : List TerminalConversation) → AllByRecursion (λ c. IsShortPad c.conversation) cs → HaveRoom cs
 have_room [] short place t found = absurd (none-some {A = TerminalConversation} t found)
-have_room (c ∷ cs) short zero t found = subst (λ (t : TerminalConversation). HasRoom t.conversation) (same_Some c t found) (room_of c.conversation short.0)
+have_room (c ∷ cs) short zero t found = subst (λ (t : TerminalConversation). HasRoomForPad t.conversation) (same_Some c t found) (room_of c.conversation short.0)
 have_room (c ∷ cs) short (suc place) t found = have_room cs short.1 place t found
 
 -- a state that keeps the rules, whose messages and replies have 1 to 32 segments
-pub writable : (system : System) (state : LastingState) → IsSystem system → IsOfSystem system state → breaks_a_rule system state ≡ false → IsCounted state → IsWritable state
+pub writable : (system : System) (state : LastingState) → IsSystem system → IsOfSystem system state → breaks_a_rule system state ≡ false → AreSegmentsCounted state → IsWritable state
 writable system state defined is sound counted = record {
   outputs =
       sym (length-map state.outputs (λ t. t.terminal)) ∙ ap length (is.outputs ∙ sym is.terminals) ∙ length-map state.terminals (λ t. t.name);

@@ -18,14 +18,14 @@ use Rattle.model_machine.specs.Machine.{LastingState}
 use Rattle.log_records.specs.declared.record.Record.{Record}
 use Rattle.log_records.specs.declared.record.Record.TheVariants.{Checkpoint, Terminal}
 use Rattle.restart_data.specs.Rules.{first_broken}
-use Rattle.model_image.specs.States.{is_terminal, is_small, is_next, wrong_values, wrong_ids, unknown_messages, wrong_replies, over_full, breaks_a_rule}
-use Rattle.model_image.specs.Snapshot.{is_of_no_unit, terminal_name, code_name, reply_terminal, are_same, are_others_in_order, has_name, ascend_places, follow, snapshot_rules, out_of_order, missing_or_twice, wrong_record, reply_of_none, wrong_changes, begins_with_counts, ascend}
+use Rattle.model_image.specs.States.{is_system_terminal, is_small, is_next, wrong_values, wrong_ids, unknown_messages, wrong_replies, over_full, breaks_a_rule}
+use Rattle.model_image.specs.Snapshot.{is_of_no_unit, terminal_name, code_name, reply_terminal, are_same, are_others_in_order, has_name, ascend_places, names_follow, snapshot_rules, out_of_order, missing_or_twice, wrong_record, reply_of_none, wrong_changes, begins_with_counts, ascend, code_names}
 use Rattle.model_image.specs.Slots.{is_image_of}
-use Rattle.checkpointing.specs.Records.{terminal_records, code_record, message_record, reply_record, reply_records, snapshot_records, code_names, AreApart, IsOfSystem}
+use Rattle.checkpointing.specs.SnapshotRecords.{terminal_records, code_record, message_record, reply_record, reply_records, snapshot_records, AreApart, IsOfSystem}
 use Rattle.checkpointing.specs.Changes.{IsChange, AreChanges}
 use Rattle.checkpointing.proofs.Changed.{changes_no_terminal, changes_no_code, changes_no_reply, named_before}
 use Rattle.checkpointing.proofs.Named.{regroup, place_among, position_map}
-use Rattle.checkpointing.proofs.Told.{AreOne, one_names, state_told}
+use Rattle.checkpointing.proofs.Told.{AreOne, one_names, state_told, of_output}
 use Rattle.checkpointing.proofs.Plain.{state_sections, ascend_more, le_is, are_both}
 
 -- ---- names
@@ -93,9 +93,6 @@ same_is [] = refl
 same_is (n ∷ ns) = are_both (bytes_eq n n) (are_same ns ns) ((bytes_eq-Decides n n).1 refl) (same_is ns)
 
 -- ---- the terminals of the replies
-
-abbrev of_output : TerminalReplies → List ℕ
-of_output o = o.terminal
 
 module _ (names : List (List ℕ)) (apart : AreApart names) where
   placed : (done : List TerminalReplies) (o : TerminalReplies) (rest : List TerminalReplies) → map of_output (done ++ o ∷ rest) ≡ names → position (λ other. bytes_eq other o.terminal) names ≡ Some (length done)
@@ -197,14 +194,14 @@ module _ (system : System) (state : LastingState) (checkpoint unit : ℕ) (termi
   codes_same : are_same (filter_map code_name (snapshot_records checkpoint unit state changes)) (code_names system) ≡ true
   codes_same = ap (λ (l : List (List ℕ)). are_same l (code_names system)) (names_of_codes checkpoint unit state changes changed.each ∙ is.codes) ∙ same_is (code_names system)
 
-  follows : follow system.terminals (filter_map reply_terminal (snapshot_records checkpoint unit state changes)) ≡ true
+  follows : names_follow system.terminals (filter_map reply_terminal (snapshot_records checkpoint unit state changes)) ≡ true
   follows =
-      ap (λ (l : List (List ℕ)). follow system.terminals l) (names_of_replies checkpoint unit state changes changed.each)
+      ap (λ (l : List (List ℕ)). names_follow system.terminals l) (names_of_replies checkpoint unit state changes changed.each)
       ∙ follow_all system.terminals terminals_apart state.outputs [] 0 is.outputs (omega arith)
 
-  known : list_all (is_terminal system) (filter_map reply_terminal (snapshot_records checkpoint unit state changes)) ≡ true
+  known : list_all (is_system_terminal system) (filter_map reply_terminal (snapshot_records checkpoint unit state changes)) ≡ true
   known =
-      ap (λ (l : List (List ℕ)). list_all (is_terminal system) l) (names_of_replies checkpoint unit state changes changed.each)
+      ap (λ (l : List (List ℕ)). list_all (is_system_terminal system) l) (names_of_replies checkpoint unit state changes changed.each)
       ∙ known_all system.terminals terminals_apart state.outputs [] is.outputs
 
   pub no_rule_broken : first_broken (snapshot_rules system (snapshot_records checkpoint unit state changes)) ≡ None
@@ -217,9 +214,9 @@ module _ (system : System) (state : LastingState) (checkpoint unit : ℕ) (termi
       let fourth = neither_is (wrong_values system state) (wrong_ids state) third.0 in
       ap (λ (lasting : LastingState). first_broken (rules_with system records lasting)) (state_told system state terminals_apart codes_apart is checkpoint unit changes changed.each)
       ∙ none_broken (out_of_order system records) (missing_or_twice system records || wrong_values system state) (wrong_ids state) (unknown_messages system state) (wrong_replies state || reply_of_none system records) (over_full system state) (wrong_changes system records)
-      (in_order (begins_with_counts records) (list_all is_of_no_unit records) (follow system.terminals (filter_map reply_terminal records)) (ascend records)
+      (in_order (begins_with_counts records) (list_all is_of_no_unit records) (names_follow system.terminals (filter_map reply_terminal records)) (ascend records)
       (are_others_in_order (filter_map terminal_name records) system.terminals) (are_others_in_order (filter_map code_name records) (code_names system))
       parts.ranked parts.no_unit (follows) (ascend_more system (Checkpoint checkpoint state.next_id unit state.steps) (rest_of state changes) (λ next. refl) parts.ascending) (others_not (filter_map terminal_name records) system.terminals terminals_same) (others_not (filter_map code_name records) (code_names system) codes_same))
       (all_there (are_same (filter_map terminal_name records) system.terminals) (are_same (filter_map code_name records) (code_names system)) (list_any wrong_record records) (wrong_values system state)
       (terminals_same) (codes_same) (right_counts (is_small checkpoint) (is_next unit) (list_any wrong_record (rest_of state changes)) counts.checkpoint_small counts.unit_next parts.counts) fourth.0)
-      fourth.1 third.1 (one_of_two (wrong_replies state) (list_all (is_terminal system) (filter_map reply_terminal records)) second.1 (known)) first.1 (not_true (list_all (is_image_of system) records) parts.images)
+      fourth.1 third.1 (one_of_two (wrong_replies state) (list_all (is_system_terminal system) (filter_map reply_terminal records)) second.1 (known)) first.1 (not_true (list_all (is_image_of system) records) parts.images)

@@ -1,29 +1,13 @@
 -- Lists by name, in which one element after the other is changed.
-use Rattle.std.proofs.Common.{◌≡◌, ℕ, suc, ◌+◌, Bool, true, false, List, [], ◌∷◌, ◌++◌, length, map, refl, sym, ◌∙◌, ap, subst, arith, Some, None, append_assoc, cond, nat_lt}
+use Rattle.std.proofs.Common.{◌≡◌, ℕ, suc, ◌+◌, Bool, List, [], ◌∷◌, ◌++◌, length, map, refl, sym, ◌∙◌, ap, subst, Some, append_assoc, cond}
 use Rattle.std.specs.Prelude.{Option, slice_get, slice_set, position}
 use Rattle.std.specs.Option.{option_map, option_map_or}
-use Rattle.std.specs.List.{position_or_len}
 use Rattle.std.specs.Str.{bytes_eq}
-use Rattle.std.proofs.lemmas.Bool.Decides.{nat_tests}
 use Rattle.model_system.specs.Lists.{change_at}
-use Rattle.checkpointing.specs.Records.{AreApart}
+use Rattle.checkpointing.specs.SnapshotRecords.{AreApart}
+use Rattle.tm_types.proofs.Positions.{found, position_more}
 
 -- ---- places
-
-less_more : (k n : ℕ) → nat_lt (1 + k) (suc n) ≡ nat_lt k n
-less_more k n = grind (arith, nat_tests)
-
-zero_less : (n : ℕ) → nat_lt 0 (suc n) ≡ true
-zero_less n = grind (arith, nat_tests)
-
-found : (a b : Bool) (k : ℕ) → a ≡ b → cond a (Some (1 + k)) None ≡ option_map (λ n. suc n) (cond b (Some k) None)
-found a true k is = ap (λ (t : Bool). cond t (Some (1 + k)) None) is ∙ ap (λ (n : ℕ). Some n) (omega arith)
-found a false k is = ap (λ (t : Bool). cond t (Some (1 + k)) None) is
-
-pub position_more : {X : Type 0} (p : X → Bool) (x : X) (xs : List X) (b : Bool) → p x ≡ b → position p (x ∷ xs) ≡ cond b (Some 0) (option_map (λ n. suc n) (position p xs))
-position_more {X} p x xs true h = rw (h) (ap (λ (t : Bool). cond t (Some 0) None) (zero_less (length xs)))
-position_more {X} p x xs false h =
-    rw (h) (found (nat_lt (1 + position_or_len p xs) (suc (length xs))) (nat_lt (position_or_len p xs) (length xs)) (position_or_len p xs) (less_more (position_or_len p xs) (length xs)))
 
 mapped : {X : Type 0} (name : X → List ℕ) (n : List ℕ) (x : X) (xs : List X) (b : Bool) → bytes_eq (name x) n ≡ b → position (λ y. bytes_eq (name y) n) xs ≡ position (λ m. bytes_eq m n) (map name xs) → position (λ y. bytes_eq (name y) n) (x ∷ xs) ≡ position (λ m. bytes_eq m n) (map name (x ∷ xs))
 mapped name n x xs b h more =

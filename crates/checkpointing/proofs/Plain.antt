@@ -13,10 +13,10 @@ use Rattle.model_machine.specs.declared.lasting.CodeSetting.{CodeSetting}
 use Rattle.model_machine.specs.Machine.{LastingState}
 use Rattle.log_records.specs.declared.record.Record.{Record}
 use Rattle.model_image.specs.Slots.{is_image_of, is_change_of}
-use Rattle.model_image.specs.Snapshot.{rank, are_ranked, is_of_no_unit, is_before, ascend, wrong_record}
+use Rattle.model_image.specs.Snapshot.{rank, are_ranked, is_of_no_unit, is_record_before, ascend, wrong_record}
 use Rattle.checkpointing.specs.Changes.{AreChanges}
 use Rattle.checkpointing.proofs.Changed.{changes_ranked, changes_no_unit, changes_count}
-use Rattle.checkpointing.specs.Records.{terminal_records, code_record, message_record, reply_record, reply_records, snapshot_records}
+use Rattle.checkpointing.specs.SnapshotRecords.{terminal_records, code_record, message_record, reply_record, reply_records, snapshot_records}
 
 -- ---- each record
 
@@ -24,7 +24,7 @@ use Rattle.checkpointing.specs.Records.{terminal_records, code_record, message_r
 pub record Plain (system : System) (k : ℕ) (r : Record) : Type 0 where
   pub ranked : rank r ≡ k
   pub no_unit : is_of_no_unit r ≡ true
-  pub first : (next : Record) → is_before r next ≡ true
+  pub first : (next : Record) → is_record_before r next ≡ true
   pub image : is_image_of system r ≡ true
   pub counts : wrong_record r ≡ false
   pub unnamed : (database slot : ℕ) → is_change_of database slot r ≡ false
@@ -94,9 +94,9 @@ module _ (system : System) where
       (are_both (nat_le least k && nat_lt k 6) (are_ranked k (rs ++ more)) (are_both (nat_le least k) (nat_lt k 6) (le_is least k low) (lt_is k 6 high))
       (ranked_section k k rs more (omega arith) high plain.1 are))
 
-  pub ascend_more : (r : Record) (rs : List Record) → ((next : Record) → is_before r next ≡ true) → ascend rs ≡ true → ascend (r ∷ rs) ≡ true
+  pub ascend_more : (r : Record) (rs : List Record) → ((next : Record) → is_record_before r next ≡ true) → ascend rs ≡ true → ascend (r ∷ rs) ≡ true
   ascend_more r [] first are = refl
-  ascend_more r (next ∷ rs) first are = are_both (is_before r next) (ascend (next ∷ rs)) (first next) are
+  ascend_more r (next ∷ rs) first are = are_both (is_record_before r next) (ascend (next ∷ rs)) (first next) are
 
   ascend_section : (k : ℕ) (rs more : List Record) → ArePlain system k rs → ascend more ≡ true → ascend (rs ++ more) ≡ true
   ascend_section k [] more plain are = are

@@ -1,27 +1,26 @@
 -- All steps before the restart sector.
 use Rattle.std.proofs.Common.{◌≡◌, ◌⊎◌, ℕ, ◌+◌, ◌*◌, ◌<◌, ◌≤◌, ⊎_elim, inl, inr, ◌∙◌, arith}
 use Rattle.std.proofs.lemmas.Bool.{cases_lt}
-use Rattle.tm_disk.specs.Disk.{Image, DiskState, sector_at, Follows, Within}
+use Rattle.tm_disk.specs.Disk.{Image, DiskState, sector_at, Follows, Within, ChangesOnly}
 use Rattle.tm_disk.proofs.Words.{follows_on}
-use Rattle.restart_data.specs.Images.{ChangesOnly}
 use Rattle.restart_data.specs.Snapshot as snapshot
 use Rattle.log_writer.specs.Writer.{Writer}
-use Rattle.log_writer.specs.Log.{AddsFront, AddsAll}
-use Rattle.checkpointing.specs.Parts.{CheckpointParts}
-use Rattle.seg_store.specs.Changed.{AllStores}
+use Rattle.log_writer.specs.ForcedLog.{AddsFront, AddsAll}
+use Rattle.checkpointing.specs.CheckpointParts.{CheckpointParts}
+use Rattle.seg_store.specs.ChangedSlots.{AllStores}
 use Rattle.seg_store.specs.DataSectors.{MayPut, HasPut}
-use Rattle.seg_store.specs.WriteBack.{changed_bytes}
+use Rattle.seg_store.specs.WrittenSlots.{changed_bytes}
 use Rattle.model_image.specs.Areas.{data_first}
-use Rattle.checkpointing.specs.Written.{DirtyAt, AreOf}
+use Rattle.checkpointing.specs.DirtySlots.{DirtyAt, AreStoresOf}
 use Rattle.checkpointing.proofs.Slots.{may_dirty, put_dirty}
 use Rattle.checkpointing.specs.Checkpoint.{InArea}
-use Rattle.checkpointing.specs.Steps.{WritesSlots, Prepares}
+use Rattle.checkpointing.specs.CheckpointSteps.{WritesSlots, Prepares}
 use Rattle.checkpointing.proofs.Calls.{within_then}
 
-pub sectors_fit : (n k : ℕ) → n ≤ k * 4064 → snapshot.sectors_of n ≤ k
+pub sectors_fit : (n k : ℕ) → n ≤ k * 4064 → snapshot.snapshot_sectors_of n ≤ k
 sectors_fit n k le = omega (arith, le)
 
-module _ (parts : CheckpointParts) (log : Writer) (stores : AllStores) (of_ : AreOf parts.system stores) where
+module _ (parts : CheckpointParts) (log : Writer) (stores : AllStores) (of_ : AreStoresOf parts.system stores) where
   -- changed slots are written
   slots_prepare : (a b c : Image) → AddsAll log a b → MayPut (data_first parts.system 0) (changed_bytes stores) b c → Prepares parts log stores a c
   slots_prepare a b c forced writes = inr (record {

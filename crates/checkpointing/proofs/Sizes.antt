@@ -17,33 +17,33 @@ use Rattle.model_machine.specs.declared.lasting.TerminalState.{TerminalState}
 use Rattle.model_machine.specs.declared.lasting.CodeSetting.{CodeSetting}
 use Rattle.log_records.specs.declared.record.Record.{Record}
 use Rattle.log_records.specs.declared.record.Record.TheVariants.{Input, Command, Reply as ReplyRecord, Discarded, Completed, Acknowledged, SyncPoint, Checkpoint, Terminal, Code, Change}
-use Rattle.log_records.specs.Spelling.{number2, spelling, content, text, conversation_field, record_length, IsConversation, IsRecord}
+use Rattle.log_records.specs.RecordSpelling.{number2, record_spelling, record_content, text, conversation_field, record_length, IsConversationSpelled, IsLogRecord}
 use Rattle.log_records.proofs.FieldLaws.{number2_length, number8_length}
 use Rattle.log_records.proofs.Lengths.{eight, one, text_length}
 use Rattle.checkpointing.specs.Changes.{IsChange}
-use Rattle.checkpointing.specs.Records.{terminal_records, code_record, message_record, reply_record, reply_records}
+use Rattle.checkpointing.specs.SnapshotRecords.{terminal_records, code_record, message_record, reply_record, reply_records}
 
 -- ---- bytes of records
 
 abbrev pub size : List Record → ℕ
-size records = length (flat_map spelling records)
+size records = length (flat_map record_spelling records)
 
 pub size_both : (some more : List Record) → size (some ++ more) ≡ size some + size more
-size_both some more = ap length (flat_map-append spelling some more) ∙ length-append (flat_map spelling some) (flat_map spelling more)
+size_both some more = ap length (flat_map-append record_spelling some more) ∙ length-append (flat_map record_spelling some) (flat_map record_spelling more)
 
 pub size_more : (r : Record) (records : List Record) → size (r ∷ records) ≡ record_length r + size records
 size_more r records =
-    ap length (flat_map-cons spelling r records)
-    ∙ length-append (spelling r) (flat_map spelling records)
-    ∙ ap (λ (k : ℕ). k + size records) (length-append (number2 (record_length r)) (content r) ∙ ap (λ (k : ℕ). k + length (content r)) (number2_length (record_length r)))
+    ap length (flat_map-cons record_spelling r records)
+    ∙ length-append (record_spelling r) (flat_map record_spelling records)
+    ∙ ap (λ (k : ℕ). k + size records) (length-append (number2 (record_length r)) (record_content r) ∙ ap (λ (k : ℕ). k + length (record_content r)) (number2_length (record_length r)))
 
 -- ---- valid records, one after another
 
-pub front_valid : (some more : List Record) → AllByRecursion IsRecord (some ++ more) → AllByRecursion IsRecord some
+pub front_valid : (some more : List Record) → AllByRecursion IsLogRecord (some ++ more) → AllByRecursion IsLogRecord some
 front_valid [] more are = tt
 front_valid (r ∷ some) more are = (are.0, front_valid some more are.1)
 
-pub back_valid : (some more : List Record) → AllByRecursion IsRecord (some ++ more) → AllByRecursion IsRecord more
+pub back_valid : (some more : List Record) → AllByRecursion IsLogRecord (some ++ more) → AllByRecursion IsLogRecord more
 back_valid [] more are = are
 back_valid (r ∷ some) more are = back_valid some more are.1
 
@@ -68,19 +68,19 @@ abbrev pub IsShortPad : Option Conversation → Type 0
 IsShortPad None = Unit {0}
 IsShortPad (Some c) = length c.pad ≤ 994
 
-conversation_size : (c : Option Conversation) → IsConversation c → IsShortPad c → length (conversation_field c) ≤ 1006
+conversation_size : (c : Option Conversation) → IsConversationSpelled c → IsShortPad c → length (conversation_field c) ≤ 1006
 conversation_size None is short = let none = text_length [] in omega arith
 conversation_size (Some c) is short =
     let code = is.0.1 in
     simp (two_bytes, length-append {A = ℕ}) (omega arith)
 
-terminal_size : (t : TerminalState) (next : ℕ) (c : Option Conversation) → IsRecord (Terminal t.name t.last next t.stopped c) → IsShortPad c → record_length (Terminal t.name t.last next t.stopped c) ≤ 1036
+terminal_size : (t : TerminalState) (next : ℕ) (c : Option Conversation) → IsLogRecord (Terminal t.name t.last next t.stopped c) → IsShortPad c → record_length (Terminal t.name t.last next t.stopped c) ≤ 1036
 terminal_size t next c is short =
     let last = conversation_size c is.fields.1.1.1.1 short in
     let name = is.fields.0.1 in
     simp (eight, one, length-append {A = ℕ}) (omega arith)
 
-pub terminals_size : (ts : List TerminalState) (os : List TerminalReplies) (cs : List TerminalConversation) → AllByRecursion IsRecord (terminal_records ts os cs) → AllByRecursion (λ c. IsShortPad c.conversation) cs
+pub terminals_size : (ts : List TerminalState) (os : List TerminalReplies) (cs : List TerminalConversation) → AllByRecursion IsLogRecord (terminal_records ts os cs) → AllByRecursion (λ c. IsShortPad c.conversation) cs
     → size (terminal_records ts os cs) ≤ 1036 * length ts
 terminals_size [] os cs valid short = omega arith
 terminals_size (t ∷ ts) [] cs valid short = omega arith
@@ -88,35 +88,35 @@ terminals_size (t ∷ ts) (o ∷ os) [] valid short = omega arith
 terminals_size (t ∷ ts) (o ∷ os) (c ∷ cs) valid short =
     omega (arith, size_more (Terminal t.name t.last o.next t.stopped c.conversation) (terminal_records ts os cs), terminal_size t o.next c.conversation valid.0 short.0, terminals_size ts os cs valid.1 short.1)
 
-code_size : (c : CodeSetting) → IsRecord (code_record c) → record_length (code_record c) ≤ 16
+code_size : (c : CodeSetting) → IsLogRecord (code_record c) → record_length (code_record c) ≤ 16
 code_size c is = let name = is.fields.0.1 in simp (one, length-append {A = ℕ}) (omega arith)
 
-pub codes_size : (cs : List CodeSetting) → AllByRecursion IsRecord (map code_record cs) → size (map code_record cs) ≤ 16 * length cs
+pub codes_size : (cs : List CodeSetting) → AllByRecursion IsLogRecord (map code_record cs) → size (map code_record cs) ≤ 16 * length cs
 codes_size [] valid = omega arith
 codes_size (c ∷ cs) valid = omega (arith, size_more (code_record c) (map code_record cs), code_size c valid.0, codes_size cs valid.1)
 
-message_size : (m : Message) → IsRecord (message_record m) → record_length (message_record m) ≤ message_bytes m
+message_size : (m : Message) → IsLogRecord (message_record m) → record_length (message_record m) ≤ message_bytes m
 message_size m is =
     let origin = is.fields.1.1.0.1 in
     let code = is.fields.1.1.1.0.1 in
     let texts = texts_size m.segments in
     simp (eight, one, length-append {A = ℕ}) (omega arith)
 
-pub messages_size : (ms : List Message) → AllByRecursion IsRecord (map message_record ms) → size (map message_record ms) ≤ messages_bytes ms
+pub messages_size : (ms : List Message) → AllByRecursion IsLogRecord (map message_record ms) → size (map message_record ms) ≤ messages_bytes ms
 messages_size [] valid = omega arith
 messages_size (m ∷ ms) valid = omega (arith, size_more (message_record m) (map message_record ms), message_size m valid.0, messages_size ms valid.1, sum_by-cons message_bytes m ms)
 
-reply_size : (name : List ℕ) (r : Reply) → IsRecord (reply_record name r) → record_length (reply_record name r) ≤ counted_bytes r.segments
+reply_size : (name : List ℕ) (r : Reply) → IsLogRecord (reply_record name r) → record_length (reply_record name r) ≤ counted_bytes r.segments
 reply_size name r is =
     let terminal = is.fields.1.0.1 in
     let texts = texts_size r.segments in
     simp (eight, length-append {A = ℕ}) (omega arith)
 
-replies_size_of : (name : List ℕ) (rs : List Reply) → AllByRecursion IsRecord (map (reply_record name) rs) → size (map (reply_record name) rs) ≤ replies_bytes rs
+replies_size_of : (name : List ℕ) (rs : List Reply) → AllByRecursion IsLogRecord (map (reply_record name) rs) → size (map (reply_record name) rs) ≤ replies_bytes rs
 replies_size_of name [] valid = omega arith
 replies_size_of name (r ∷ rs) valid = omega (arith, size_more (reply_record name r) (map (reply_record name) rs), reply_size name r valid.0, replies_size_of name rs valid.1, sum_by-cons reply_bytes r rs)
 
-pub replies_size : (os : List TerminalReplies) → AllByRecursion IsRecord (reply_records os) → size (reply_records os) ≤ outputs_bytes os
+pub replies_size : (os : List TerminalReplies) → AllByRecursion IsLogRecord (reply_records os) → size (reply_records os) ≤ outputs_bytes os
 replies_size [] valid = omega arith
 replies_size (o ∷ os) valid =
     let some : List Record = map (reply_record o.terminal) o.replies in
@@ -127,7 +127,7 @@ change_size unit database slot before after = simp (eight, two_bytes, length-app
 
 -- ---- changes
 
-short_change : (r : Record) → IsChange r → IsRecord r → record_length r ≤ 8018
+short_change : (r : Record) → IsChange r → IsLogRecord r → record_length r ≤ 8018
 short_change (Change unit database slot before after) is valid =
     let before_short = valid.fields.1.1.1.0 in
     let after_short = valid.fields.1.1.1.1 in
@@ -143,13 +143,13 @@ short_change (Checkpoint checkpoint next unit steps) is valid = absurd is
 short_change (Terminal name last next stopped conversation) is valid = absurd is
 short_change (Code name stopped class priority) is valid = absurd is
 
-changes_size : (changes : List Record) → AllByRecursion IsChange changes → AllByRecursion IsRecord changes → size changes ≤ 8018 * length changes
+changes_size : (changes : List Record) → AllByRecursion IsChange changes → AllByRecursion IsLogRecord changes → size changes ≤ 8018 * length changes
 changes_size [] are valid = omega arith
 changes_size (r ∷ changes) are valid =
     omega (arith, size_more r changes, short_change r are.0 valid.0, changes_size changes are.1 valid.1)
 
 -- at most 32 changes a region have room
-pub few_changes : (changes : List Record) (regions : ℕ) → AllByRecursion IsChange changes → AllByRecursion IsRecord changes → length changes ≤ 32 * regions → size changes ≤ 262144 * regions
+pub few_changes : (changes : List Record) (regions : ℕ) → AllByRecursion IsChange changes → AllByRecursion IsLogRecord changes → length changes ≤ 32 * regions → size changes ≤ 262144 * regions
 few_changes changes regions are valid few = omega (arith, changes_size changes are valid, few)
 
 pub no_changes_fit : (regions : ℕ) → size [] ≤ 262144 * regions

@@ -8,18 +8,18 @@ use Rattle.std.proofs.lemmas.List.Sums.{sum_by-cons}
 use Rattle.std.proofs.lemmas.List.{take_all}
 use Rattle.tm_types.specs.declared.dbd.Dbd.{Dbd}
 use Rattle.model_data.specs.declared.row.Row.{Row}
-use Rattle.model_data.specs.Record.{spelling}
+use Rattle.model_data.specs.Record.{rows_spelling}
 use Rattle.tm_disk.specs.Disk.{Image, sector_at}
 use Rattle.model_system.specs.System.{System}
 use Rattle.seg_store.specs.Slots.{Stored}
-use Rattle.seg_store.specs.Changed.{AllStores}
+use Rattle.seg_store.specs.ChangedSlots.{AllStores}
 use Rattle.seg_store.specs.DataSectors.{data_sector, IsGivenAt, given_at, MayPut, HasPut}
-use Rattle.seg_store.specs.WriteBack.{slot_count, bytes_behind, all_bytes, changed_bytes}
+use Rattle.seg_store.specs.WrittenSlots.{slot_count, bytes_behind, all_bytes, changed_bytes}
 use Rattle.seg_store.proofs.WritingBack.{is_given_front, is_given_back}
 use Rattle.model_image.specs.Areas.{data_first}
 use Rattle.model_image.proofs.Alike.{IsSlotOf}
 use Rattle.model_image.proofs.Places.{one_slot}
-use Rattle.checkpointing.specs.Written.{DirtySlot, DirtyAt, AreOf}
+use Rattle.checkpointing.specs.DirtySlots.{DirtySlot, DirtyAt, AreStoresOf}
 
 -- the slots of the databases before one
 abbrev pub slots_before : List Stored → ℕ → ℕ
@@ -31,14 +31,14 @@ pub record Gives (first others : ℕ) (stores : List Stored) (changed : List (Li
   pub number : ℕ
   pub slot : DirtySlot (record { stores = stores; changed = changed }) place number
   pub is : at ≡ first + others + slots_before stores place + number
-  pub holds : sector ≡ data_sector (spelling (slice_index_or slot.store.slots number []))
+  pub holds : sector ≡ data_sector (rows_spelling (slice_index_or slot.store.slots number []))
 
 record InNumbers (first others : ℕ) (images : List (List Row)) (numbers : List ℕ) (at : ℕ) (sector : List ℕ) : Type 0 where
   pub number : ℕ
   pub index : ℕ
   pub listed : slice_get numbers index ≡ Some number
   pub is : at ≡ first + others + number
-  pub holds : sector ≡ data_sector (spelling (slice_index_or images number []))
+  pub holds : sector ≡ data_sector (rows_spelling (slice_index_or images number []))
 
 in_numbers : (first others : ℕ) (images : List (List Row)) (numbers : List ℕ) (rest : List (ℕ × List ℕ)) (at : ℕ) (sector : List ℕ) → IsGivenAt first (bytes_behind others images numbers ++ rest) at sector → InNumbers first others images numbers at sector ⊎ IsGivenAt first rest at sector
 in_numbers first others images [] rest at sector given = inr given
@@ -75,25 +75,25 @@ gives first others (s ∷ stores) (numbers ∷ changed) at sector given =
     (in_numbers first others s.slots numbers (all_bytes (others + s.dbd.roots) stores changed) at sector given)
 
 -- and each of them is given
-given_number : (first others : ℕ) (images : List (List Row)) (numbers : List ℕ) (i n at : ℕ) → slice_get numbers i ≡ Some n → at ≡ first + others + n → IsGivenAt first (bytes_behind others images numbers) at (data_sector (spelling (slice_index_or images n [])))
+given_number : (first others : ℕ) (images : List (List Row)) (numbers : List ℕ) (i n at : ℕ) → slice_get numbers i ≡ Some n → at ≡ first + others + n → IsGivenAt first (bytes_behind others images numbers) at (data_sector (rows_spelling (slice_index_or images n [])))
 given_number first others images [] i n at listed is = absurd (none_of i listed) where
   none_of : (k : ℕ) → slice_get {X = ℕ} [] k ≡ Some n → ⊥
   none_of k e = cc
 given_number first others images (m ∷ numbers) zero n at listed is =
-    let same : m ≡ n = cc in inl (omega (arith, is, same), ap (λ k. data_sector (spelling (slice_index_or images k []))) (sym same))
+    let same : m ≡ n = cc in inl (omega (arith, is, same), ap (λ k. data_sector (rows_spelling (slice_index_or images k []))) (sym same))
 given_number first others images (m ∷ numbers) (suc i) n at listed is = inr (given_number first others images numbers i n at listed is)
 
-pub given : (first others : ℕ) (stores : List Stored) (changed : List (List ℕ)) (place n i at : ℕ) (store : Stored) (numbers : List ℕ) → slice_get stores place ≡ Some store → slice_get changed place ≡ Some numbers → slice_get numbers i ≡ Some n → at ≡ first + others + slots_before stores place + n → IsGivenAt first (all_bytes others stores changed) at (data_sector (spelling (slice_index_or store.slots n [])))
+pub given : (first others : ℕ) (stores : List Stored) (changed : List (List ℕ)) (place n i at : ℕ) (store : Stored) (numbers : List ℕ) → slice_get stores place ≡ Some store → slice_get changed place ≡ Some numbers → slice_get numbers i ≡ Some n → at ≡ first + others + slots_before stores place + n → IsGivenAt first (all_bytes others stores changed) at (data_sector (rows_spelling (slice_index_or store.slots n [])))
 given first others [] changed place n i at store numbers found listed is at_is = absurd (omega (arith, slice_get_within [] place store found))
 given first others (s ∷ stores) [] place n i at store numbers found listed is at_is = absurd (omega (arith, slice_get_within [] place numbers listed))
 given first others (s ∷ stores) (ns ∷ changed) zero n i at store numbers found listed is at_is =
     let store_is : s ≡ store = cc in
     let numbers_is : ns ≡ numbers = cc in
-    is_given_front first (bytes_behind others s.slots ns) (all_bytes (others + s.dbd.roots) stores changed) at (data_sector (spelling (slice_index_or store.slots n [])))
-    (subst (λ (x : Stored). IsGivenAt first (bytes_behind others s.slots ns) at (data_sector (spelling (slice_index_or x.slots n [])))) store_is
+    is_given_front first (bytes_behind others s.slots ns) (all_bytes (others + s.dbd.roots) stores changed) at (data_sector (rows_spelling (slice_index_or store.slots n [])))
+    (subst (λ (x : Stored). IsGivenAt first (bytes_behind others s.slots ns) at (data_sector (rows_spelling (slice_index_or x.slots n [])))) store_is
     (given_number first others s.slots ns i n at (subst (λ (l : List ℕ). slice_get l i ≡ Some n) (sym numbers_is) is) (omega (arith, at_is))))
 given first others (s ∷ stores) (ns ∷ changed) (suc place) n i at store numbers found listed is at_is =
-    is_given_back first (bytes_behind others s.slots ns) (all_bytes (others + s.dbd.roots) stores changed) at (data_sector (spelling (slice_index_or store.slots n [])))
+    is_given_back first (bytes_behind others s.slots ns) (all_bytes (others + s.dbd.roots) stores changed) at (data_sector (rows_spelling (slice_index_or store.slots n [])))
     (given first (others + s.dbd.roots) stores changed place n i at store numbers found listed is (omega (arith, at_is, sum_by-cons (λ (x : Stored). x.dbd.roots) s (take place stores))))
 
 -- ---- the sector that a list gives
@@ -135,7 +135,7 @@ dbd_found stores dbds place store are found =
     subst (λ (l : List Dbd). slice_get l place ≡ Some store.dbd) are
     (slice_get-map (λ (s : Stored). s.dbd) stores place ∙ ap (λ (o : Option Stored). option_map (λ (s : Stored). s.dbd) o) found)
 
-module _ (system : System) (stores : AllStores) (of_ : AreOf system stores) where
+module _ (system : System) (stores : AllStores) (of_ : AreStoresOf system stores) where
   place_is : (place : ℕ) → data_first system place ≡ data_first system 0 + 0 + slots_before stores.stores place
   place_is place =
       omega (arith, sums_map stores.stores place, ap (λ (l : List Dbd). sum_by (λ (d : Dbd). d.roots) (take place l)) of_.databases)
@@ -177,23 +177,23 @@ module _ (system : System) (stores : AllStores) (of_ : AreOf system stores) wher
       ⊎_elim (λ same. inl (has.each k ∙ same)) (λ dirty. inr dirty) (given_cases b k o refl)
 
   -- a list that gives a slot's place a sector gives it that of the slot
-  one_given : (place number : ℕ) (slot : DirtySlot stores place number) (s : List ℕ) → Gives (data_first system 0) 0 stores.stores stores.changed (data_first system place + number) s → s ≡ data_sector (spelling (slice_index_or slot.store.slots number []))
+  one_given : (place number : ℕ) (slot : DirtySlot stores place number) (s : List ℕ) → Gives (data_first system 0) 0 stores.stores stores.changed (data_first system place + number) s → s ≡ data_sector (rows_spelling (slice_index_or slot.store.slots number []))
   one_given place number slot s w =
       let one = one_slot system w.place w.number place number (dirty_slot w.place w.number w.slot) (dirty_slot place number slot) (omega (arith, w.is, place_is w.place)) in
       let same : Some w.slot.store ≡ Some slot.store = sym w.slot.found ∙ ap (λ p. slice_get stores.stores p) one.place ∙ slot.found in
       let store : w.slot.store ≡ slot.store = cc in
-      w.holds ∙ ap (λ (x : Stored). data_sector (spelling (slice_index_or x.slots w.number []))) store
-      ∙ ap (λ n. data_sector (spelling (slice_index_or slot.store.slots n []))) one.number
+      w.holds ∙ ap (λ (x : Stored). data_sector (rows_spelling (slice_index_or x.slots w.number []))) store
+      ∙ ap (λ n. data_sector (rows_spelling (slice_index_or slot.store.slots n []))) one.number
 
-  put_one : (b c : Image) (place number : ℕ) (slot : DirtySlot stores place number) (o : Option (List ℕ)) → given_at (data_first system 0) (changed_bytes stores) (data_first system place + number) ≡ o → unwrap_or o (sector_at b (data_first system place + number)) ≡ data_sector (spelling (slice_index_or slot.store.slots number []))
+  put_one : (b c : Image) (place number : ℕ) (slot : DirtySlot stores place number) (o : Option (List ℕ)) → given_at (data_first system 0) (changed_bytes stores) (data_first system place + number) ≡ o → unwrap_or o (sector_at b (data_first system place + number)) ≡ data_sector (rows_spelling (slice_index_or slot.store.slots number []))
   put_one b c place number slot None is =
-      absurd (given_some (data_first system 0) (changed_bytes stores) (data_first system place + number) (data_sector (spelling (slice_index_or slot.store.slots number [])))
+      absurd (given_some (data_first system 0) (changed_bytes stores) (data_first system place + number) (data_sector (rows_spelling (slice_index_or slot.store.slots number [])))
       (given (data_first system 0) 0 stores.stores stores.changed place number slot.index (data_first system place + number) slot.store slot.numbers slot.found slot.changed slot.listed (omega (arith, place_is place))) is)
   put_one b c place number slot (Some s) is =
       one_given place number slot s (gives (data_first system 0) 0 stores.stores stores.changed (data_first system place + number) s (given_is (data_first system 0) (changed_bytes stores) (data_first system place + number) s is))
 
   -- each changed slot stands in its sector
-  pub put_holds : (b c : Image) → HasPut (data_first system 0) (changed_bytes stores) b c → (place number : ℕ) (slot : DirtySlot stores place number) → sector_at c (data_first system place + number) ≡ data_sector (spelling (slice_index_or slot.store.slots number []))
+  pub put_holds : (b c : Image) → HasPut (data_first system 0) (changed_bytes stores) b c → (place number : ℕ) (slot : DirtySlot stores place number) → sector_at c (data_first system place + number) ≡ data_sector (rows_spelling (slice_index_or slot.store.slots number []))
   put_holds b c has place number slot =
       let k = data_first system place + number in
       has.each k ∙ put_one b c place number slot (given_at (data_first system 0) (changed_bytes stores) k) refl

@@ -1,24 +1,24 @@
 -- The whole of a checkpoint on a disk.
 use Rattle.std.proofs.Common.{◌≡◌, ℕ, ◌+◌, ◌*◌, ◌<◌, ◌≤◌, ◌^◌, [], refl, ap, length, ⊎_elim, inl, inr, ◌∙◌, arith, sym, subst}
-use Rattle.tm_disk.specs.Disk.{Image, DiskState, IsDisk, Follows, Within, MayWrite}
+use Rattle.tm_disk.specs.Disk.{Image, DiskState, IsDisk, Follows, Within, MayWrite, ChangesOnly}
 use Rattle.tm_disk.proofs.Words.{follows_on, follows_where, within_where}
 use Rattle.restart_data.specs.declared.restart.RestartSector.{RestartSector}
 use Rattle.restart_data.specs.Restart.{IsRestart, restart_sector}
 use Rattle.restart_data.specs.Snapshot as snapshot
-use Rattle.restart_data.specs.Images.{ChangesOnly, Restarts}
+use Rattle.restart_data.specs.WrittenSectors.{Restarts}
 use Rattle.restart_data.proofs.ImageLaws.{restart_either}
-use Rattle.log_sectors.specs.Chain.{joined}
+use Rattle.log_sectors.specs.Chain.{joined_payloads}
 use Rattle.log_writer.specs.Writer.{Writer}
 use Rattle.log_writer.proofs.Gaining.{chain-ended}
-use Rattle.log_writer.specs.Log.{log_of, sectors_of, IsAtEnd, IsReady}
-use Rattle.checkpointing.specs.Parts.{CheckpointParts, AreFree, IsOver, sequence_behind, forced_writer, next_restart, next_writer}
-use Rattle.seg_store.specs.Changed.{AllStores}
-use Rattle.checkpointing.specs.Written.{AreOf}
+use Rattle.log_writer.specs.ForcedLog.{log_of_writer, log_sectors_of, IsAtEnd, IsWriterReady}
+use Rattle.checkpointing.specs.CheckpointParts.{CheckpointParts, AreAreasFree, IsOver, sequence_behind, forced_writer, next_restart, next_writer}
+use Rattle.seg_store.specs.ChangedSlots.{AllStores}
+use Rattle.checkpointing.specs.DirtySlots.{AreStoresOf}
 use Rattle.checkpointing.specs.Checkpoint.{KeepsRecovery, IsCheckpointed}
-use Rattle.checkpointing.specs.Conditions.{HasRestart, NoneIsAhead, ChangedAreNamed, ForceKeeps, SnapshotKeeps}
-use Rattle.checkpointing.specs.Texts.{KeepsText}
+use Rattle.checkpointing.specs.CheckpointNeeds.{HasRestart, NoneIsAhead, ChangedAreNamed, ForceKeeps, SnapshotKeeps}
+use Rattle.checkpointing.specs.DefinitionText.{KeepsText}
 use Rattle.checkpointing.proofs.Texts.{prepares_text, written_text}
-use Rattle.checkpointing.specs.Steps.{WritesSnapshot, WritesRestart, Prepares, Takes}
+use Rattle.checkpointing.specs.CheckpointSteps.{WritesSnapshot, WritesRestart, Prepares, Takes}
 use Rattle.checkpointing.proofs.Calls.{within_then}
 use Rattle.checkpointing.proofs.Preparing.{sectors_fit, snapshot_prepares}
 use Rattle.model_image.specs.Areas.{log_first, data_first}
@@ -29,11 +29,11 @@ use Rattle.checkpointing.proofs.Keeping.{Stands, prepares_keep, is_checkpointed,
 pub record Asked (parts : CheckpointParts) (log : Writer) (stores : AllStores) (disk : DiskState) : Type 0 where
   pub areas : data_first parts.system (length parts.system.databases) ≤ disk.size
   pub now : HasRestart parts.system parts.now disk
-  pub free : AreFree parts
+  pub free : AreAreasFree parts
   pub over : IsOver parts log
-  pub room : log.place + sectors_of (length log.appended) ≤ log.count
-  pub of_ : AreOf parts.system stores
-  pub fits : snapshot.sectors_of (length parts.snapshot) ≤ parts.snapshot_sectors
+  pub room : log.place + log_sectors_of (length log.appended) ≤ log.count
+  pub of_ : AreStoresOf parts.system stores
+  pub fits : snapshot.snapshot_sectors_of (length parts.snapshot) ≤ parts.snapshot_sectors
   pub next : IsRestart (next_restart parts log)
   pub named : ChangedAreNamed parts log stores disk
   pub ahead : NoneIsAhead parts.system parts.now.epoch (sequence_behind log) disk
@@ -68,7 +68,7 @@ module _ (parts : CheckpointParts) (log : Writer) (stores : AllStores) (old : Di
   some_size : 0 < old.size
   some_size = omega (arith, asked.areas)
 
-  small : snapshot.sectors_of (length parts.snapshot) < 2 ^ 32
+  small : snapshot.snapshot_sectors_of (length parts.snapshot) < 2 ^ 32
   small = omega (arith, asked.areas, asked.fits, asked.free.snapshot_sectors, disk.size_fits)
 
   -- while the restart sector is written
@@ -77,7 +77,7 @@ module _ (parts : CheckpointParts) (log : Writer) (stores : AllStores) (old : Di
       let image_size : length a ≡ old.size = disk.image_size old.clock a (disk.now_counts old.clock a (omega arith) left) in
       let some : 0 < length b = omega (arith, image_size, some_size, saved.two.changes.size, saved.one.two.size, saved.one.one.changes.size) in
       ⊎_elim
-      (λ (same : c ≡ b). inl (snapshot_prepares parts log stores asked.of_ (snapshot.sectors_of (length parts.snapshot)) a saved.middle c asked.fits saved.one (subst (λ (i : Image). ChangesOnly parts.snapshot_at (snapshot.sectors_of (length parts.snapshot)) saved.middle i) (sym same) saved.two.changes)))
+      (λ (same : c ≡ b). inl (snapshot_prepares parts log stores asked.of_ (snapshot.snapshot_sectors_of (length parts.snapshot)) a saved.middle c asked.fits saved.one (subst (λ (i : Image). ChangesOnly parts.snapshot_at (snapshot.snapshot_sectors_of (length parts.snapshot)) saved.middle i) (sym same) saved.two.changes)))
       (λ (new : Restarts (next_restart parts log) b c). inr (record { middle = b; one = saved; two = new }))
       (restart_either (next_restart parts log) asked.next small b c some may)
 
@@ -128,11 +128,11 @@ module _ (parts : CheckpointParts) (log : Writer) (stores : AllStores) (old : Di
   taken_ahead new follows image left =
       let w = follows.from image left in next_ahead parts log stores w.before (stands w.before w.left) image w.by (asked.ahead w.before w.left)
 
-  pub taken_ready : (new : DiskState) → Follows (IsCheckpointed parts log stores) old new → IsReady (next_writer parts log) new
+  pub taken_ready : (new : DiskState) → Follows (IsCheckpointed parts log stores) old new → IsWriterReady (next_writer parts log) new
   taken_ready new follows image left =
       next_at_end parts log asked.free image (omega (arith, asked.next.sequence.1, small_logs, both_logs parts.system)) (taken_ahead new follows image left)
 
-pub all_asked : (parts : CheckpointParts) (log : Writer) (stores : AllStores) (disk : DiskState) → data_first parts.system (length parts.system.databases) ≤ disk.size → HasRestart parts.system parts.now disk → AreFree parts → IsOver parts log → log.place + sectors_of (length log.appended) ≤ log.count → AreOf parts.system stores → length parts.snapshot ≤ parts.snapshot_sectors * 4064 → IsRestart (next_restart parts log) → ChangedAreNamed parts log stores disk → NoneIsAhead parts.system parts.now.epoch (sequence_behind log) disk → ForceKeeps parts log disk → SnapshotKeeps parts log stores disk → Asked parts log stores disk
+pub all_asked : (parts : CheckpointParts) (log : Writer) (stores : AllStores) (disk : DiskState) → data_first parts.system (length parts.system.databases) ≤ disk.size → HasRestart parts.system parts.now disk → AreAreasFree parts → IsOver parts log → log.place + log_sectors_of (length log.appended) ≤ log.count → AreStoresOf parts.system stores → length parts.snapshot ≤ parts.snapshot_sectors * 4064 → IsRestart (next_restart parts log) → ChangedAreNamed parts log stores disk → NoneIsAhead parts.system parts.now.epoch (sequence_behind log) disk → ForceKeeps parts log disk → SnapshotKeeps parts log stores disk → Asked parts log stores disk
 all_asked parts log stores disk areas now free over room of_ fits next named ahead force snapshot_keeps = record {
   areas = areas;
   now = now;
@@ -160,6 +160,6 @@ pub same_writer : (first count : ℕ) (r next : RestartSector) → r ≡ next �
 same_writer first count r next same = subst (λ (n : RestartSector). writer_at first count r ≡ writer_at first count n) same refl
 
 -- a writer at the start of an area has no log
-pub begins_empty : (w : Writer) (image : Image) → IsAtEnd w image → w.place ≡ 0 → log_of w image ≡ []
+pub begins_empty : (w : Writer) (image : Image) → IsAtEnd w image → w.place ≡ 0 → log_of_writer w image ≡ []
 begins_empty w image end none =
-    ap joined (chain-ended w.count image w.first w.sequence w.epoch (λ some. end.free 0 (omega (arith, none)) some))
+    ap joined_payloads (chain-ended w.count image w.first w.sequence w.epoch (λ some. end.free 0 (omega (arith, none)) some))

@@ -1,21 +1,21 @@
 -- A checkpoint leaves the text of the definition.
-use Rattle.std.proofs.Common.{◌≡◌, ◌⊎◌, ℕ, zero, suc, ◌+◌, ◌<◌, ◌≤◌, List, ◌++◌, take, refl, sym, ◌∙◌, ap, ⊎_elim, arith, Some, Ok}
-use Rattle.std.specs.Prelude.{Option, Result}
+use Rattle.std.proofs.Common.{◌≡◌, ◌⊎◌, ℕ, zero, suc, ◌+◌, ◌<◌, ◌≤◌, List, ◌++◌, take, refl, sym, ◌∙◌, ap, ⊎_elim, arith}
 use Rattle.tm_disk.specs.Disk.{Image, sector_at}
 use Rattle.restart_data.specs.declared.restart.RestartSector.{RestartSector}
 use Rattle.restart_data.specs.Restart.{restart_of, restart_in}
 use Rattle.log_writer.specs.Writer.{Writer}
-use Rattle.log_writer.specs.Log.{AddsFront, AddsAll}
-use Rattle.seg_store.specs.Changed.{AllStores}
+use Rattle.log_writer.specs.ForcedLog.{AddsFront, AddsAll}
+use Rattle.seg_store.specs.ChangedSlots.{AllStores}
 use Rattle.model_image.specs.Areas.{snapshot_area}
 use Rattle.model_image.specs.Text.{bytes_from, text_in}
 use Rattle.model_image.proofs.Places.{log_above, snapshot_below}
-use Rattle.checkpointing.specs.Parts.{CheckpointParts, next_restart}
-use Rattle.checkpointing.specs.Written.{DirtyAt}
-use Rattle.checkpointing.specs.Checkpoint.{InArea, IsWritten, IsCheckpointed}
-use Rattle.checkpointing.specs.Steps.{Then, ChangesUnread, Prepares}
-use Rattle.checkpointing.specs.Texts.{KeepsText}
+use Rattle.checkpointing.specs.CheckpointParts.{CheckpointParts, next_restart}
+use Rattle.checkpointing.specs.DirtySlots.{DirtyAt}
+use Rattle.checkpointing.specs.Checkpoint.{InArea, IsCheckpointWritten, IsCheckpointed}
+use Rattle.checkpointing.specs.CheckpointSteps.{Then, ChangesUnread, Prepares}
+use Rattle.checkpointing.specs.DefinitionText.{KeepsText}
 use Rattle.checkpointing.proofs.Keeping.{Stands, dirty_above}
+use Rattle.checkpointing.proofs.Counted.{one_restart}
 
 bytes_alike : (n : ℕ) (a b : Image) (at : ℕ) → ((k : ℕ) → at ≤ k → k < at + n → sector_at b k ≡ sector_at a k) → bytes_from n b at ≡ bytes_from n a at
 bytes_alike zero a b at same = refl
@@ -25,9 +25,6 @@ bytes_alike (suc n) a b at same =
 
 text_alike : (a b : Image) (size : ℕ) → ((k : ℕ) → 1 ≤ k → k < 65 → sector_at b k ≡ sector_at a k) → text_in b size ≡ text_in a size
 text_alike a b size same = ap (λ (l : List ℕ). take size l) (bytes_alike 64 a b 1 (λ k low high. same k low (omega (arith, high))))
-
-one_restart : {E : Type 0} (x : Result (Option RestartSector) E) (r s : RestartSector) → x ≡ Ok (Some r) → x ≡ Ok (Some s) → r ≡ s
-one_restart x r s one other = cc
 
 module _ (parts : CheckpointParts) (log : Writer) (stores : AllStores) (a : Image) (s : Stands parts log stores a) where
   low_log : (k : ℕ) → k < 65 → k < log.first + log.place
@@ -61,7 +58,7 @@ module _ (parts : CheckpointParts) (log : Writer) (stores : AllStores) (a : Imag
   written_low e done k some low =
       ⊎_elim
       (λ same. same)
-      (λ (written : IsWritten parts log stores k).
+      (λ (written : IsCheckpointWritten parts log stores k).
       ⊎_elim
       (λ first. absurd (omega (arith, some, first)))
       (λ further. ⊎_elim

@@ -18,17 +18,18 @@ use Rattle.model_machine.specs.declared.lasting.CodeSetting.{CodeSetting}
 use Rattle.model_machine.specs.Machine.{LastingState, empty_state, fresh_terminal_state, first_setting}
 use Rattle.log_records.specs.declared.record.Record.{Record}
 use Rattle.log_records.specs.declared.record.Record.TheVariants.{Terminal}
-use Rattle.model_image.specs.Snapshot.{told, told_by, snapshot_state, with_kept}
-use Rattle.checkpointing.specs.Records.{terminal_records, code_record, message_record, reply_record, reply_records, snapshot_records, code_names, AreApart, IsOfSystem}
+use Rattle.model_image.specs.Snapshot.{with_record_told, with_records_told, snapshot_state, with_kept, code_names}
+use Rattle.checkpointing.specs.SnapshotRecords.{terminal_records, code_record, message_record, reply_record, reply_records, snapshot_records, AreApart, IsOfSystem}
 use Rattle.checkpointing.specs.Changes.{IsChange}
 use Rattle.checkpointing.proofs.Changed.{changes_told}
-use Rattle.checkpointing.proofs.Named.{position_more, change_among, place_among, map_among, change_named, put_all, Pairs, Puts, put_each, regroup}
+use Rattle.checkpointing.proofs.Named.{change_among, place_among, map_among, change_named, put_all, Pairs, Puts, put_each, regroup}
+use Rattle.tm_types.proofs.Positions.{position_more}
 
 -- ---- records one after another
 
-pub told_both : (some more : List Record) (state : LastingState) → told_by (some ++ more) state ≡ told_by more (told_by some state)
+pub told_both : (some more : List Record) (state : LastingState) → with_records_told (some ++ more) state ≡ with_records_told more (with_records_told some state)
 told_both [] more state = refl
-told_both (r ∷ some) more state = told_both some more (told r state)
+told_both (r ∷ some) more state = told_both some more (with_record_told r state)
 
 -- ---- the first terminal of a name
 
@@ -97,7 +98,7 @@ with_lists state ts os cs = record state { terminals = ts; outputs = os; convers
 abbrev name_of : TerminalState → List ℕ
 name_of t = t.name
 
-abbrev of_output : TerminalReplies → List ℕ
+abbrev pub of_output : TerminalReplies → List ℕ
 of_output o = o.terminal
 
 abbrev of_conversation : TerminalConversation → List ℕ
@@ -118,7 +119,7 @@ AreOne (t ∷ ts) (o ∷ os) (c ∷ cs) = (o.terminal ≡ t.name) × (c.terminal
 AreOne _ _ _ = ⊥
 
 terminals_step : (t : TerminalState) (o : TerminalReplies) (c : TerminalConversation) (ts : List TerminalState) (os : List TerminalReplies) (cs : List TerminalConversation) (state : LastingState) → o.terminal ≡ t.name → c.terminal ≡ t.name
-    → with_terminals ts os cs (told (Terminal t.name t.last o.next t.stopped c.conversation) state) ≡ with_terminals (t ∷ ts) (o ∷ os) (c ∷ cs) state
+    → with_terminals ts os cs (with_record_told (Terminal t.name t.last o.next t.stopped c.conversation) state) ≡ with_terminals (t ∷ ts) (o ∷ os) (c ∷ cs) state
 terminals_step t o c ts os cs state same_o same_c =
     let terminals : List TerminalState = put_all name_of put_terminal (t ∷ ts) state.terminals in
     let told_outputs : outputs.with_terminal t.name (put_output o) state.outputs ≡ change_named of_output o.terminal (put_output o) state.outputs =
@@ -128,7 +129,7 @@ terminals_step t o c ts os cs state same_o same_c =
     ap (λ (l : List TerminalReplies). with_lists state terminals (put_all of_output put_output os l) (put_all of_conversation put_conversation cs (conversations.with_terminal t.name (put_conversation c) state.conversations))) told_outputs
     ∙ ap (λ (l : List TerminalConversation). with_lists state terminals (put_all of_output put_output (o ∷ os) state.outputs) (put_all of_conversation put_conversation cs l)) told_conversations
 
-terminals_told : (ts : List TerminalState) (os : List TerminalReplies) (cs : List TerminalConversation) (state : LastingState) → AreOne ts os cs → told_by (terminal_records ts os cs) state ≡ with_terminals ts os cs state
+terminals_told : (ts : List TerminalState) (os : List TerminalReplies) (cs : List TerminalConversation) (state : LastingState) → AreOne ts os cs → with_records_told (terminal_records ts os cs) state ≡ with_terminals ts os cs state
 terminals_told [] [] [] state one = refl
 terminals_told [] [] (c ∷ cs) state one = absurd one
 terminals_told [] (o ∷ os) [] state one = absurd one
@@ -137,22 +138,22 @@ terminals_told (t ∷ ts) [] [] state one = absurd one
 terminals_told (t ∷ ts) [] (c ∷ cs) state one = absurd one
 terminals_told (t ∷ ts) (o ∷ os) [] state one = absurd one
 terminals_told (t ∷ ts) (o ∷ os) (c ∷ cs) state one =
-    terminals_told ts os cs (told (Terminal t.name t.last o.next t.stopped c.conversation) state) one.2
+    terminals_told ts os cs (with_record_told (Terminal t.name t.last o.next t.stopped c.conversation) state) one.2
     ∙ terminals_step t o c ts os cs state one.0 one.1
 
-codes_told : (cs : List CodeSetting) (state : LastingState) → told_by (map code_record cs) state ≡ record state { codes = put_all of_code put_code cs state.codes }
+codes_told : (cs : List CodeSetting) (state : LastingState) → with_records_told (map code_record cs) state ≡ record state { codes = put_all of_code put_code cs state.codes }
 codes_told [] state = refl
-codes_told (c ∷ cs) state = codes_told cs (told (code_record c) state)
+codes_told (c ∷ cs) state = codes_told cs (with_record_told (code_record c) state)
 
 -- ---- messages
 
 abbrev with_messages : LastingState → List Message → LastingState
 with_messages state ms = record state { messages = ms }
 
-messages_told : (ms : List Message) (state : LastingState) → told_by (map message_record ms) state ≡ with_messages state (state.messages ++ ms)
+messages_told : (ms : List Message) (state : LastingState) → with_records_told (map message_record ms) state ≡ with_messages state (state.messages ++ ms)
 messages_told [] state = ap (with_messages state) (sym (append-nil state.messages))
 messages_told (m ∷ ms) state =
-    messages_told ms (told (message_record m) state) ∙ ap (with_messages state) (append_assoc state.messages (m ∷ []) ms)
+    messages_told ms (with_record_told (message_record m) state) ∙ ap (with_messages state) (append_assoc state.messages (m ∷ []) ms)
 
 -- ---- replies
 
@@ -173,15 +174,15 @@ module _ (names : List (List ℕ)) (apart : AreApart names) where
       map_among of_output done y rest ∙ ap (λ (n : List ℕ). map of_output done ++ n ∷ map of_output rest) (sym same) ∙ sym (map_among of_output done x rest) ∙ are
 
   replies_told : (rs : List Reply) (done : List TerminalReplies) (x : TerminalReplies) (rest : List TerminalReplies) (state : LastingState) → map of_output (done ++ x ∷ rest) ≡ names
-      → told_by (map (reply_record x.terminal) rs) (with_outputs state (done ++ x ∷ rest)) ≡ with_outputs state (done ++ with_more x rs ∷ rest)
+      → with_records_told (map (reply_record x.terminal) rs) (with_outputs state (done ++ x ∷ rest)) ≡ with_outputs state (done ++ with_more x rs ∷ rest)
   replies_told [] done x rest state are =
       ap (λ (l : List Reply). with_outputs state (done ++ record x { replies = l } ∷ rest)) (sym (append-nil x.replies))
   replies_told (r ∷ rs) done x rest state are =
-      ap (λ (l : List TerminalReplies). told_by (map (reply_record x.terminal) rs) (with_outputs state l)) (kept_among r done x rest are)
+      ap (λ (l : List TerminalReplies). with_records_told (map (reply_record x.terminal) rs) (with_outputs state l)) (kept_among r done x rest are)
       ∙ replies_told rs done (with_more x (r ∷ [])) rest state (same_names done x (with_more x (r ∷ [])) rest refl are)
       ∙ ap (λ (l : List Reply). with_outputs state (done ++ record x { replies = l } ∷ rest)) (append_assoc x.replies (r ∷ []) rs)
 
-  all_replies_told : (os done : List TerminalReplies) (state : LastingState) → map of_output (done ++ os) ≡ names → told_by (reply_records os) (with_outputs state (done ++ map without_replies os)) ≡ with_outputs state (done ++ os)
+  all_replies_told : (os done : List TerminalReplies) (state : LastingState) → map of_output (done ++ os) ≡ names → with_records_told (reply_records os) (with_outputs state (done ++ map without_replies os)) ≡ with_outputs state (done ++ os)
   all_replies_told [] done state are = refl
   all_replies_told (o ∷ os) done state are =
       let bare : map of_output (done ++ without_replies o ∷ map without_replies os) ≡ names =
@@ -189,7 +190,7 @@ module _ (names : List (List ℕ)) (apart : AreApart names) where
       ∙ ap (λ (l : List (List ℕ)). map of_output done ++ o.terminal ∷ l) (names_stay os)
       ∙ sym (map_among of_output done o os) ∙ are in
       told_both (map (reply_record o.terminal) o.replies) (reply_records os) (with_outputs state (done ++ without_replies o ∷ map without_replies os))
-      ∙ ap (told_by (reply_records os))
+      ∙ ap (with_records_told (reply_records os))
       (replies_told o.replies done (without_replies o) (map without_replies os) state bare
       ∙ ap (with_outputs state) (regroup done o (map without_replies os)))
       ∙ all_replies_told os (done ++ o ∷ []) state (ap (map of_output) (sym (regroup done o os)) ∙ are)
@@ -283,7 +284,7 @@ module _ (system : System) (state : LastingState) (terminals_apart : AreApart sy
       (first_codes state.codes system.codes is.codes)
       (named_codes system.codes) ∙ map_same state.codes
 
-  of_terminals : told_by (terminal_records state.terminals state.outputs state.conversations) (record (empty_state system) { next_id = state.next_id; steps = state.steps })
+  of_terminals : with_records_told (terminal_records state.terminals state.outputs state.conversations) (record (empty_state system) { next_id = state.next_id; steps = state.steps })
       ≡ with_lists (record (empty_state system) { next_id = state.next_id; steps = state.steps }) state.terminals (map without_replies state.outputs) state.conversations
   of_terminals =
       let base : LastingState = record (empty_state system) { next_id = state.next_id; steps = state.steps } in
@@ -300,11 +301,11 @@ module _ (system : System) (state : LastingState) (terminals_apart : AreApart sy
       let two : LastingState = record one { codes = state.codes } in
       let three : LastingState = record two { messages = state.messages } in
       told_both (terminal_records state.terminals state.outputs state.conversations) (map code_record state.codes ++ (map message_record state.messages ++ (reply_records state.outputs ++ changes))) base
-      ∙ ap (told_by (map code_record state.codes ++ (map message_record state.messages ++ (reply_records state.outputs ++ changes)))) of_terminals
+      ∙ ap (with_records_told (map code_record state.codes ++ (map message_record state.messages ++ (reply_records state.outputs ++ changes)))) of_terminals
       ∙ told_both (map code_record state.codes) (map message_record state.messages ++ (reply_records state.outputs ++ changes)) one
-      ∙ ap (told_by (map message_record state.messages ++ (reply_records state.outputs ++ changes))) (codes_told state.codes one ∙ ap (λ (l : List CodeSetting). record one { codes = l }) all_codes)
+      ∙ ap (with_records_told (map message_record state.messages ++ (reply_records state.outputs ++ changes))) (codes_told state.codes one ∙ ap (λ (l : List CodeSetting). record one { codes = l }) all_codes)
       ∙ told_both (map message_record state.messages) (reply_records state.outputs ++ changes) two
-      ∙ ap (told_by (reply_records state.outputs ++ changes)) (messages_told state.messages two)
+      ∙ ap (with_records_told (reply_records state.outputs ++ changes)) (messages_told state.messages two)
       ∙ told_both (reply_records state.outputs) changes (with_outputs three (map without_replies state.outputs))
-      ∙ ap (told_by changes) (all_replies_told system.terminals terminals_apart state.outputs [] three is.outputs)
+      ∙ ap (with_records_told changes) (all_replies_told system.terminals terminals_apart state.outputs [] three is.outputs)
       ∙ changes_told changes (without_rows system state) are

@@ -5,16 +5,16 @@ use Rattle.tm_disk.specs.Disk.{Image}
 use Rattle.model_system.specs.System.{System}
 use Rattle.model_machine.specs.Machine.{LastingState}
 use Rattle.log_records.specs.declared.record.Record.{Record}
-use Rattle.log_records.specs.Spelling.{spelling}
+use Rattle.log_records.specs.RecordSpelling.{record_spelling}
 use Rattle.restart_data.specs.declared.restart.RestartSector.{RestartSector}
 use Rattle.restart_data.specs.Snapshot.{snapshot_in}
 use Rattle.model_image.specs.Areas.{snapshot_area, snapshot_first}
-use Rattle.model_image.specs.Recovered.{snapshot_from}
+use Rattle.model_image.specs.RecoveredState.{snapshot_from}
 use Rattle.model_image.specs.States.{breaks_a_rule}
-use Rattle.system_types.specs.Valid.{IsSystem}
-use Rattle.checkpointing.specs.Records.{snapshot_records, IsOfSystem}
+use Rattle.system_types.specs.ValidSystem.{IsSystem}
+use Rattle.checkpointing.specs.SnapshotRecords.{snapshot_records, IsOfSystem}
 use Rattle.checkpointing.specs.Changes.{AreChanges}
-use Rattle.checkpointing.specs.Spelled.{Adds}
+use Rattle.checkpointing.specs.SpelledRecords.{AddsSpelled}
 use Rattle.checkpointing.proofs.Apart.{codes_apart}
 use Rattle.checkpointing.proofs.Judged.{AreCounts}
 use Rattle.checkpointing.proofs.Read.{IsRead}
@@ -26,14 +26,14 @@ use Rattle.checkpointing.proofs.Fits as fitting
 pub record IsWhole (system : System) (checkpoint unit : ℕ) (state : LastingState) (changes : List Record) (bytes : List ℕ) : Type 0 where
   pub some : 0 < length bytes
   pub fits : length bytes ≤ snapshot_area system * 4064
-  pub spelled : bytes ≡ flat_map spelling (snapshot_records checkpoint unit state changes)
+  pub spelled : bytes ≡ flat_map record_spelling (snapshot_records checkpoint unit state changes)
   pub read : IsRead system checkpoint unit state changes
   pub from : (now : RestartSector) (image : Image) → snapshot_in now.sectors image (snapshot_first system now.snapshot) now.checkpoint ≡ Ok bytes
       → snapshot_from system image now ≡ Ok (snapshot_records checkpoint unit state changes)
 
 -- so for what `write` answers
 pub whole : (system : System) (checkpoint unit : ℕ) (state : LastingState) (changes : List Record) (bytes : List ℕ) → IsSystem system → IsOfSystem system state → AreCounts checkpoint unit → breaks_a_rule system state ≡ false → AreChanges system changes
-    → size changes ≤ 262144 * length system.regions → Adds (snapshot_records checkpoint unit state changes) [] bytes → IsWhole system checkpoint unit state changes bytes
+    → size changes ≤ 262144 * length system.regions → AddsSpelled (snapshot_records checkpoint unit state changes) [] bytes → IsWhole system checkpoint unit state changes bytes
 whole system checkpoint unit state changes bytes defined is counts sound changed few adds =
     let apart = codes_apart system defined in
     record {

@@ -6,14 +6,14 @@ use Rattle.model_machine.specs.Machine.{LastingState}
 use Rattle.restart_data.specs.Restart.{restart_in}
 use Rattle.restart_data.specs.Snapshot.{snapshot_in}
 use Rattle.log_writer.specs.Writer.{Writer}
-use Rattle.log_writer.specs.Log.{log_of, sectors_of, StaysOrLogs}
-use Rattle.model_image.specs.Recovered.{Recovers}
-use Rattle.checkpointing.specs.Parts.{CheckpointParts, next_restart}
-use Rattle.model_data.specs.Record.{spelling}
-use Rattle.seg_store.specs.Changed.{AllStores}
+use Rattle.log_writer.specs.ForcedLog.{log_of_writer, log_sectors_of, StaysOrLogs}
+use Rattle.model_image.specs.RecoveredState.{Recovers}
+use Rattle.checkpointing.specs.CheckpointParts.{CheckpointParts, next_restart}
+use Rattle.model_data.specs.Record.{rows_spelling}
+use Rattle.seg_store.specs.ChangedSlots.{AllStores}
 use Rattle.seg_store.specs.DataSectors.{data_sector}
 use Rattle.model_image.specs.Areas.{data_first}
-use Rattle.checkpointing.specs.Written.{DirtySlot, DirtyAt}
+use Rattle.checkpointing.specs.DirtySlots.{DirtySlot, DirtyAt}
 
 -- What lasts by the image before, lasts by the one after.
 abbrev pub KeepsRecovery : System → Image → Image → Type 0
@@ -26,11 +26,11 @@ pub record InArea (first count k : ℕ) : Type 0 where
 
 -- The sectors that a checkpoint writes: the restart sector, the free snapshot area, the log's next sectors, and those of
 -- the slots that were changed.
-abbrev pub IsWritten : CheckpointParts → Writer → AllStores → ℕ → Type 0
-IsWritten parts log stores k =
+abbrev pub IsCheckpointWritten : CheckpointParts → Writer → AllStores → ℕ → Type 0
+IsCheckpointWritten parts log stores k =
     (k ≡ 0)
     ⊎ (InArea parts.snapshot_at parts.snapshot_sectors k
-    ⊎ (InArea (log.first + log.place) (sectors_of (length log.appended)) k ⊎ DirtyAt parts.system stores k))
+    ⊎ (InArea (log.first + log.place) (log_sectors_of (length log.appended)) k ⊎ DirtyAt parts.system stores k))
 
 -- The image after a checkpoint, by the one before: the log has what was appended; each slot that was changed stands in
 -- its sector; the new snapshot stands in the area that was free; and the restart sector names it and the other log
@@ -38,8 +38,8 @@ IsWritten parts log stores k =
 pub record IsCheckpointed (parts : CheckpointParts) (log : Writer) (stores : AllStores) (before after : Image) : Type 0 where
   pub restart : (most : ℕ) → (next_restart parts log).sectors ≤ most → restart_in most after ≡ Ok (Some (next_restart parts log))
   pub snapshot : snapshot_in (next_restart parts log).sectors after parts.snapshot_at (next_restart parts log).checkpoint ≡ Ok parts.snapshot
-  pub log_has : log_of log after ≡ log_of log before ++ log.appended
+  pub log_has : log_of_writer log after ≡ log_of_writer log before ++ log.appended
   pub log_each : (x : ℕ) → x < log.count → StaysOrLogs log before after x
-  pub slots : (place number : ℕ) (slot : DirtySlot stores place number) → sector_at after (data_first parts.system place + number) ≡ data_sector (spelling (slice_index_or slot.store.slots number []))
+  pub slots : (place number : ℕ) (slot : DirtySlot stores place number) → sector_at after (data_first parts.system place + number) ≡ data_sector (rows_spelling (slice_index_or slot.store.slots number []))
   pub size : length after ≡ length before
-  pub elsewhere : (k : ℕ) → (sector_at after k ≡ sector_at before k) ⊎ IsWritten parts log stores k
+  pub elsewhere : (k : ℕ) → (sector_at after k ≡ sector_at before k) ⊎ IsCheckpointWritten parts log stores k

@@ -7,7 +7,7 @@ use Rattle.restart_data.specs.declared.restart.RestartSector.{RestartSector}
 use Rattle.restart_data.specs.Restart.{restart_in}
 use Rattle.model_image.specs.Areas.{snapshot_area}
 use Rattle.model_image.specs.Counters.{next_sequence, next_unit}
-use Rattle.model_image.specs.Recovered.{snapshot_from, log_in}
+use Rattle.model_image.specs.RecoveredState.{snapshot_from, log_in}
 
 -- No counter of an image with this restart sector is above a bound: the epoch, the log's next sequence, the checkpoint and the
 -- next unit.

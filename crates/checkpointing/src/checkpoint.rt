@@ -3,15 +3,15 @@ ghost use Rattle.std.specs.Prelude.{◌≡◌, ◌+◌, ◌*◌, ◌<◌, ◌≤
 ghost use Rattle.tm_disk.specs.Disk.{Image, Stays, Within, Follows, Only, WritesAtMost, FailedSince};
 ghost use Rattle.restart_data.specs.Restart.{IsRestart};
 ghost use Rattle.restart_data.specs.Snapshot as snapshot;
-ghost use Rattle.log_writer.specs.Log.{sectors_of, log_of, IsReady};
+ghost use Rattle.log_writer.specs.ForcedLog.{log_sectors_of, log_of_writer, IsWriterReady};
 ghost use Rattle.model_image.specs.Areas.{data_first};
-ghost use Rattle.seg_store.specs.WriteBack.{changed_count};
-ghost use Rattle.checkpointing.specs.Parts.{parts_of, other_area, restart_behind, sequence_behind, next_restart, next_writer, AreFree, IsOver};
-ghost use Rattle.checkpointing.specs.Written.{AreOf};
+ghost use Rattle.seg_store.specs.WrittenSlots.{changed_count};
+ghost use Rattle.checkpointing.specs.CheckpointParts.{checkpoint_parts_of, other_area, restart_behind, sequence_behind, next_restart, next_writer, AreAreasFree, IsOver};
+ghost use Rattle.checkpointing.specs.DirtySlots.{AreStoresOf};
 ghost use Rattle.checkpointing.specs.Checkpoint.{KeepsRecovery, IsCheckpointed};
-ghost use Rattle.checkpointing.specs.Texts.{KeepsText};
-ghost use Rattle.checkpointing.specs.Steps.{Takes};
-ghost use Rattle.checkpointing.specs.Conditions.{HasRestart, NoneIsAhead, ChangedAreNamed, ForceKeeps, SnapshotKeeps};
+ghost use Rattle.checkpointing.specs.DefinitionText.{KeepsText};
+ghost use Rattle.checkpointing.specs.CheckpointSteps.{Takes};
+ghost use Rattle.checkpointing.specs.CheckpointNeeds.{HasRestart, NoneIsAhead, ChangedAreNamed, ForceKeeps, SnapshotKeeps};
 
 use crate::steps::prepare;
 use log_writer::LogWriter;
@@ -63,23 +63,23 @@ pub fn take<D: Disk>(
     requires areas { data_first parts.now.system.now (length parts.now.system.now.databases) ≤ (D.state disk.old).size }
     // The restart sector is the disk's, and the areas are those that it doesn't name.
     requires now { HasRestart parts.now.system.now parts.now.now.now (D.state disk.old) }
-    requires free { AreFree (parts_of parts.now) }
+    requires free { AreAreasFree (checkpoint_parts_of parts.now) }
     // The snapshot isn't empty and fits its area.
     requires some { 0 < length parts.now.snapshot.now }
     requires fits { length parts.now.snapshot.now ≤ parts.now.snapshot_sectors * 4064 }
     // The counters of the new restart sector are in their range.
-    requires next { IsRestart (next_restart (parts_of parts.now) log.old) }
+    requires next { IsRestart (next_restart (checkpoint_parts_of parts.now) log.old) }
     // The stores are those of the system, and each slot that was changed is named by a record.
-    requires stores { AreOf parts.now.system.now stores.now }
-    requires named { ChangedAreNamed (parts_of parts.now) log.old stores.now (D.state disk.old) }
+    requires stores { AreStoresOf parts.now.system.now stores.now }
+    requires named { ChangedAreNamed (checkpoint_parts_of parts.now) log.old stores.now (D.state disk.old) }
     // The writer is over the log area that holds, and neither area has a sector of what is to come.
-    requires over { IsOver (parts_of parts.now) log.old }
+    requires over { IsOver (checkpoint_parts_of parts.now) log.old }
     requires log_area { log.old.first + log.old.count ≤ (D.state disk.old).size }
-    requires ready { IsReady log.old (D.state disk.old) }
+    requires ready { IsWriterReady log.old (D.state disk.old) }
     requires ahead { NoneIsAhead parts.now.system.now parts.now.now.now.epoch (sequence_behind log.old) (D.state disk.old) }
     // What lasts is the same within the force, and by the new snapshot.
-    requires force_keeps { ForceKeeps (parts_of parts.now) log.old (D.state disk.old) }
-    requires snapshot_keeps { SnapshotKeeps (parts_of parts.now) log.old stores.now (D.state disk.old) }
+    requires force_keeps { ForceKeeps (checkpoint_parts_of parts.now) log.old (D.state disk.old) }
+    requires snapshot_keeps { SnapshotKeeps (checkpoint_parts_of parts.now) log.old stores.now (D.state disk.old) }
 
     ensures stays { Stays (D.state disk.old) (D.state disk.new) }
     // Whenever a crash comes, the image recovers to what lasted before.
@@ -87,19 +87,19 @@ pub fn take<D: Disk>(
     // It is of the same text.
     ensures texts { Within (KeepsText parts.entry.now.system.now) (D.state disk.old) (D.state disk.new) }
     // It is the one before with a front of the steps done.
-    ensures steps { Within (Takes (parts_of parts.entry.now) log.old stores.now) (D.state disk.old) (D.state disk.new) }
+    ensures steps { Within (Takes (checkpoint_parts_of parts.entry.now) log.old stores.now) (D.state disk.old) (D.state disk.new) }
     // Then each image is that of the checkpoint, and no other is left.
-    ensures answer { IfOk result (λ restart. restart ≡ next_restart (parts_of parts.entry.now) log.old) }
-    ensures done { OnOk result (Follows (IsCheckpointed (parts_of parts.entry.now) log.old stores.now) (D.state disk.old) (D.state disk.new)) }
+    ensures answer { IfOk result (λ restart. restart ≡ next_restart (checkpoint_parts_of parts.entry.now) log.old) }
+    ensures done { OnOk result (Follows (IsCheckpointed (checkpoint_parts_of parts.entry.now) log.old stores.now) (D.state disk.old) (D.state disk.new)) }
     ensures restart { IfOk result (λ restart. HasRestart parts.entry.now.system.now restart (D.state disk.new)) }
     ensures synced { OnOk result (Only (D.state disk.new).shown (D.state disk.new)) }
     // The writer begins the other log area, which has nothing of its log.
-    ensures writer { OnOk result (log.new ≡ next_writer (parts_of parts.entry.now) log.old) }
-    ensures ready { OnOk result (IsReady log.new (D.state disk.new)) }
+    ensures writer { OnOk result (log.new ≡ next_writer (checkpoint_parts_of parts.entry.now) log.old) }
+    ensures ready { OnOk result (IsWriterReady log.new (D.state disk.new)) }
     ensures ahead { OnOk result (NoneIsAhead parts.entry.now.system.now parts.entry.now.now.now.epoch (sequence_behind log.old) (D.state disk.new)) }
-    ensures empty { OnOk result ((image : Image) → (D.state disk.new).may_leave image → log_of log.new image ≡ []) }
+    ensures empty { OnOk result ((image : Image) → (D.state disk.new).may_leave image → log_of_writer log.new image ≡ []) }
 
-    ensures writes { WritesAtMost (sectors_of (length log.old.appended) + changed_count stores.now.changed + snapshot.sectors_of (length parts.entry.now.snapshot.now) + 1) (D.state disk.old) (D.state disk.new) }
+    ensures writes { WritesAtMost (log_sectors_of (length log.old.appended) + changed_count stores.now.changed + snapshot.snapshot_sectors_of (length parts.entry.now.snapshot.now) + 1) (D.state disk.old) (D.state disk.new) }
     ensures no_fault { OnOk result ((D.state disk.new).faults ≡ (D.state disk.old).faults) }
     ensures cause { OnErr result (FailedSince (D.state disk.old) (D.state disk.new)) }
     ensures memory { IsErrOf result CheckFault.Memory → ⊥ }
@@ -126,8 +126,8 @@ pub fn take<D: Disk>(
 // The restart sector behind the one that holds, for a snapshot of so many sectors and a log with this first sequence.
 fn next_restart(parts: &PartsView, sectors: u32, sequence: u64) -> RestartSector
     requires checkpoint { parts.now.now.now.checkpoint + 1 < 2 ^ 64 }
-    requires sectors { sectors ≡ snapshot.sectors_of (length parts.now.snapshot.now) }
-    ensures { result ≡ restart_behind (parts_of parts.entry.now) sequence }
+    requires sectors { sectors ≡ snapshot.snapshot_sectors_of (length parts.now.snapshot.now) }
+    ensures { result ≡ restart_behind (checkpoint_parts_of parts.entry.now) sequence }
 {
     RestartSector {
         epoch: parts.now.epoch,
@@ -142,7 +142,7 @@ fn next_restart(parts: &PartsView, sectors: u32, sequence: u64) -> RestartSector
 
 // The first sector of the slots, which stand behind both log areas.
 fn data_at(parts: &PartsView) -> u32
-    requires free { AreFree (parts_of parts.now) }
+    requires free { AreAreasFree (checkpoint_parts_of parts.now) }
     requires fits { data_first parts.now.system.now 0 < 2 ^ 32 }
     ensures { result ≡ data_first parts.entry.now.system.now 0 }
 {

@@ -1,10 +1,10 @@
 //! The messages of a snapshot.
 ghost use Rattle.std.specs.Prelude.{◌≡◌, ◌++◌, map, OnOk};
-ghost use Rattle.log_records.specs.Spelling.{spelling, IsCount, IsRecord};
+ghost use Rattle.log_records.specs.RecordSpelling.{record_spelling, IsCount, IsLogRecord};
 ghost use Rattle.model_messages.specs.Queue.{messages_of};
-ghost use Rattle.image_law.specs.Counted.{AreCounted};
-ghost use Rattle.checkpointing.specs.Records.{message_record};
-ghost use Rattle.checkpointing.specs.Spelled.{Adds};
+ghost use Rattle.image_law.specs.SegmentCounts.{AreCounted};
+ghost use Rattle.checkpointing.specs.SnapshotRecords.{message_record};
+ghost use Rattle.checkpointing.specs.SpelledRecords.{AddsSpelled};
 
 use log_records::append_input;
 use model_messages::Queued;
@@ -19,8 +19,8 @@ const NO_NUMBER: u64 = 0;
 // Appends the record of a message, which has 1 to 32 segments.
 fn append_message(out: &mut Vec<u8>, queued: &Queued) -> Result<(), Memory>
     requires { IsCount queued.now.message.segments }
-    ensures ok { OnOk result (out.new.items ≡ out.old.items ++ spelling (message_record queued.now.message)) }
-    ensures valid { OnOk result (IsRecord (message_record queued.now.message)) }
+    ensures ok { OnOk result (out.new.items ≡ out.old.items ++ record_spelling (message_record queued.now.message)) }
+    ensures valid { OnOk result (IsLogRecord (message_record queued.now.message)) }
 {
     let message = &queued.message;
     append_input(
@@ -39,7 +39,7 @@ fn append_message(out: &mut Vec<u8>, queued: &Queued) -> Result<(), Memory>
 // segments. After `Memory` a part of them may be appended.
 pub(crate) fn append_messages(out: &mut Vec<u8>, queues: &Queues) -> Result<(), Memory>
     requires { AreCounted (messages_of queues.now.queued) }
-    ensures { OnOk result (Adds (map message_record (messages_of queues.now.queued)) out.old.items out.new.items) }
+    ensures { OnOk result (AddsSpelled (map message_record (messages_of queues.now.queued)) out.old.items out.new.items) }
 {
     for queued in queues.by_id().values() {
         append_message(out, queued)?;

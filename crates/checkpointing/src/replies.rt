@@ -1,9 +1,9 @@
 //! The replies of a snapshot.
 ghost use Rattle.std.specs.Prelude.{◌≡◌, length, map, slice_get, OnOk};
 ghost use Rattle.std.specs.Option.{option_copied};
-ghost use Rattle.image_law.specs.Counted.{AreRepliesCounted, AreAllCounted};
-ghost use Rattle.checkpointing.specs.Records.{reply_record, reply_records};
-ghost use Rattle.checkpointing.specs.Spelled.{Adds};
+ghost use Rattle.image_law.specs.SegmentCounts.{AreRepliesCounted, AreAllCounted};
+ghost use Rattle.checkpointing.specs.SnapshotRecords.{reply_record, reply_records};
+ghost use Rattle.checkpointing.specs.SpelledRecords.{AddsSpelled};
 
 use log_records::append_reply;
 use model_messages::{Replies, TerminalReplies};
@@ -28,7 +28,7 @@ fn reply_at(replies: &Replies, place: usize) -> Option<&Reply>
 // Appends the records of a terminal's replies.
 fn append_some(out: &mut Vec<u8>, terminal: &Name, replies: &Replies) -> Result<(), Memory>
     requires { AreRepliesCounted replies.now }
-    ensures { OnOk result (Adds (map (reply_record terminal.now) replies.now) out.old.items out.new.items) }
+    ensures { OnOk result (AddsSpelled (map (reply_record terminal.now) replies.now) out.old.items out.new.items) }
 {
     for place in 0..count(replies) {
         let Some(reply) = reply_at(replies, place) else {
@@ -43,7 +43,7 @@ fn append_some(out: &mut Vec<u8>, terminal: &Name, replies: &Replies) -> Result<
 // be appended.
 pub(crate) fn append_replies(out: &mut Vec<u8>, terminals: &[TerminalReplies]) -> Result<(), Memory>
     requires { AreAllCounted terminals.now }
-    ensures { OnOk result (Adds (reply_records terminals.now) out.old.items out.new.items) }
+    ensures { OnOk result (AddsSpelled (reply_records terminals.now) out.old.items out.new.items) }
 {
     for terminal in terminals {
         append_some(out, &terminal.terminal, &terminal.replies)?;

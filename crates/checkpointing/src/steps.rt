@@ -1,16 +1,16 @@
 //! The parts of a checkpoint, each with the sync that makes it last.
 ghost use Rattle.std.specs.Prelude.{◌≡◌, ◌+◌, ◌*◌, ◌<◌, ◌≤◌, ◌^◌, length, IfOk, OnOk, OnErr};
 ghost use Rattle.std.specs.List.{AllByRecursion};
-ghost use Rattle.tm_disk.specs.Disk.{Stays, Within, Follows, Only, WritesAtMost, FailedSince};
+ghost use Rattle.tm_disk.specs.Disk.{Stays, Within, Follows, Only, WritesAtMost, FailedSince, ChangesOnly};
 ghost use Rattle.restart_data.specs.Snapshot as snapshot;
-ghost use Rattle.restart_data.specs.Images.{ChangesOnly, Saves};
-ghost use Rattle.log_writer.specs.Log.{sectors_of, IsReady};
+ghost use Rattle.restart_data.specs.WrittenSectors.{Saves};
+ghost use Rattle.log_writer.specs.ForcedLog.{log_sectors_of, IsWriterReady};
 ghost use Rattle.seg_store.specs.DataSectors.{MayPut, HasPut};
-ghost use Rattle.seg_store.specs.WriteBack.{slot_count, changed_count, changed_bytes};
+ghost use Rattle.seg_store.specs.WrittenSlots.{slot_count, changed_count, changed_bytes};
 ghost use Rattle.model_image.specs.Areas.{data_first};
-ghost use Rattle.checkpointing.specs.Parts.{parts_of, forced_writer};
-ghost use Rattle.checkpointing.specs.Written.{AreOf};
-ghost use Rattle.checkpointing.specs.Steps.{WritesSnapshot, Prepares};
+ghost use Rattle.checkpointing.specs.CheckpointParts.{checkpoint_parts_of, forced_writer};
+ghost use Rattle.checkpointing.specs.DirtySlots.{AreStoresOf};
+ghost use Rattle.checkpointing.specs.CheckpointSteps.{WritesSnapshot, Prepares};
 
 use crate::PartsView;
 use log_writer::LogWriter;
@@ -47,10 +47,10 @@ pub fn save_snapshot<D: Disk>(
     requires some { 0 < length bytes.now }
     requires fits { length bytes.now ≤ count * 4064 }
     ensures stays { Stays (D.state disk.old) (D.state disk.new) }
-    ensures any_moment { Within (ChangesOnly first (snapshot.sectors_of (length bytes.now))) (D.state disk.old) (D.state disk.new) }
+    ensures any_moment { Within (ChangesOnly first (snapshot.snapshot_sectors_of (length bytes.now))) (D.state disk.old) (D.state disk.new) }
     ensures done { OnOk result (Follows (Saves first number bytes.now) (D.state disk.old) (D.state disk.new)) }
-    ensures sectors { IfOk result (λ n. n ≡ snapshot.sectors_of (length bytes.now)) }
-    ensures writes { WritesAtMost (snapshot.sectors_of (length bytes.now)) (D.state disk.old) (D.state disk.new) }
+    ensures sectors { IfOk result (λ n. n ≡ snapshot.snapshot_sectors_of (length bytes.now)) }
+    ensures writes { WritesAtMost (snapshot.snapshot_sectors_of (length bytes.now)) (D.state disk.old) (D.state disk.new) }
     ensures no_fault { OnOk result ((D.state disk.new).faults ≡ (D.state disk.old).faults) }
     ensures cause { OnErr result (FailedSince (D.state disk.old) (D.state disk.new)) }
 {
@@ -72,20 +72,20 @@ pub(crate) fn prepare<D: Disk>(
 ) -> Result<u32, DiskFault>
     requires log_area { log.old.first + log.old.count ≤ (D.state disk.old).size }
     requires sequences { log.old.sequence + log.old.count < 2 ^ 64 }
-    requires ready { IsReady log.old (D.state disk.old) }
+    requires ready { IsWriterReady log.old (D.state disk.old) }
     requires area { first + slot_count stores.now.stores ≤ (D.state disk.old).size }
     requires first { first ≡ data_first parts.now.system.now 0 }
-    requires stores { AreOf parts.now.system.now stores.now }
+    requires stores { AreStoresOf parts.now.system.now stores.now }
     requires within { parts.now.snapshot_at + parts.now.snapshot_sectors ≤ (D.state disk.old).size }
     requires some { 0 < length parts.now.snapshot.now }
     requires fits { length parts.now.snapshot.now ≤ parts.now.snapshot_sectors * 4064 }
     requires number { parts.now.now.now.checkpoint + 1 < 2 ^ 64 }
     ensures stays { Stays (D.state disk.old) (D.state disk.new) }
-    ensures any_moment { Within (Prepares (parts_of parts.entry.now) log.old stores.now) (D.state disk.old) (D.state disk.new) }
-    ensures done { OnOk result (Follows (WritesSnapshot (parts_of parts.entry.now) log.old stores.now) (D.state disk.old) (D.state disk.new)) }
-    ensures sectors { IfOk result (λ n. n ≡ snapshot.sectors_of (length parts.entry.now.snapshot.now)) }
+    ensures any_moment { Within (Prepares (checkpoint_parts_of parts.entry.now) log.old stores.now) (D.state disk.old) (D.state disk.new) }
+    ensures done { OnOk result (Follows (WritesSnapshot (checkpoint_parts_of parts.entry.now) log.old stores.now) (D.state disk.old) (D.state disk.new)) }
+    ensures sectors { IfOk result (λ n. n ≡ snapshot.snapshot_sectors_of (length parts.entry.now.snapshot.now)) }
     ensures forced { OnOk result (log.new ≡ forced_writer log.old) }
-    ensures writes { WritesAtMost (sectors_of (length log.old.appended) + changed_count stores.now.changed + snapshot.sectors_of (length parts.entry.now.snapshot.now)) (D.state disk.old) (D.state disk.new) }
+    ensures writes { WritesAtMost (log_sectors_of (length log.old.appended) + changed_count stores.now.changed + snapshot.snapshot_sectors_of (length parts.entry.now.snapshot.now)) (D.state disk.old) (D.state disk.new) }
     ensures no_fault { OnOk result ((D.state disk.new).faults ≡ (D.state disk.old).faults) }
     ensures cause { OnErr result (FailedSince (D.state disk.old) (D.state disk.new)) }
 {

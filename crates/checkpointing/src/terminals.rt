@@ -1,7 +1,7 @@
 //! The terminals of a snapshot.
 ghost use Rattle.std.specs.Prelude.{◌≡◌, length, OnOk};
-ghost use Rattle.checkpointing.specs.Records.{terminal_records};
-ghost use Rattle.checkpointing.specs.Spelled.{Adds, HaveRoom};
+ghost use Rattle.checkpointing.specs.SnapshotRecords.{terminal_records};
+ghost use Rattle.checkpointing.specs.SpelledRecords.{AddsSpelled, HaveRoom};
 
 use log_records::append_terminal;
 use model_machine::TerminalState;
@@ -19,7 +19,7 @@ pub(crate) fn append_terminals(
     requires outputs { length outputs.now ≡ length terminals.now }
     requires conversations { length conversations.now ≡ length terminals.now }
     requires pads { HaveRoom conversations.now }
-    ensures { OnOk result (Adds (terminal_records terminals.now outputs.now conversations.now) out.old.items out.new.items) }
+    ensures { OnOk result (AddsSpelled (terminal_records terminals.now outputs.now conversations.now) out.old.items out.new.items) }
 {
     for place in 0..terminals.len() {
         let Some(terminal) = terminals.get(place) else {

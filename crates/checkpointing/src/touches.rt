@@ -1,11 +1,11 @@
 //! The changes of open units in a snapshot.
 ghost use Rattle.std.specs.Prelude.{◌≡◌, ◌≤◌, ◌++◌, length, OnOk};
 ghost use Rattle.std.specs.List.{AllByRecursion};
-ghost use Rattle.model_data.specs.Record.{spelling as rows_spelling};
-ghost use Rattle.log_records.specs.Spelling.{spelling, IsRecord};
-ghost use Rattle.unit_work.specs.Shown.{shown};
-ghost use Rattle.checkpointing.specs.Spelled.{Adds};
-ghost use Rattle.checkpointing.specs.Touches.{image_in, touch_record, touch_records, changes_of, HasOneSector, IsSpelled, AreSpelled, AreAllSpelled};
+ghost use Rattle.model_data.specs.Record.{rows_spelling as rows_spelling};
+ghost use Rattle.log_records.specs.RecordSpelling.{record_spelling, IsLogRecord};
+ghost use Rattle.unit_work.specs.ShownTouch.{shown_slot};
+ghost use Rattle.checkpointing.specs.SpelledRecords.{AddsSpelled};
+ghost use Rattle.checkpointing.specs.Touches.{image_in, touch_record, touch_records, changes_of_units, HasOneSector, IsSpelled, AreSpelled, AreAllSpelled};
 
 use log_records::append_change;
 use model_data::Row;
@@ -41,10 +41,10 @@ fn append_touch(
     slot: &UnitSlot,
     stores: &Stores,
 ) -> Result<(), Memory>
-    requires spelled { IsSpelled stores.now.stores (shown slot.now) }
+    requires spelled { IsSpelled stores.now.stores (shown_slot slot.now) }
     requires one_sector { AllByRecursion HasOneSector stores.now.stores }
-    ensures ok { OnOk result (out.new.items ≡ out.old.items ++ spelling (touch_record number stores.entry.now.stores (shown slot.entry.now))) }
-    ensures valid { OnOk result (IsRecord (touch_record number stores.entry.now.stores (shown slot.entry.now))) }
+    ensures ok { OnOk result (out.new.items ≡ out.old.items ++ record_spelling (touch_record number stores.entry.now.stores (shown_slot slot.entry.now))) }
+    ensures valid { OnOk result (IsLogRecord (touch_record number stores.entry.now.stores (shown_slot slot.entry.now))) }
 {
     let after = present_rows(stores, slot.db, slot.slot);
     append_change(
@@ -61,7 +61,7 @@ fn append_touch(
 fn append_unit(out: &mut Vec<u8>, unit: &OpenUnit, stores: &Stores) -> Result<(), Memory>
     requires spelled { AreSpelled stores.now.stores unit.now.work.now.slots }
     requires one_sector { AllByRecursion HasOneSector stores.now.stores }
-    ensures { OnOk result (Adds (touch_records unit.entry.now.number stores.entry.now.stores unit.entry.now.work.now.slots) out.old.items out.new.items) }
+    ensures { OnOk result (AddsSpelled (touch_records unit.entry.now.number stores.entry.now.stores unit.entry.now.work.now.slots) out.old.items out.new.items) }
 {
     let mut place = 0;
     while let Some(slot) = unit.work.slot(place) {
@@ -81,7 +81,7 @@ pub(crate) fn append_touches(
 ) -> Result<(), Memory>
     requires spelled { AreAllSpelled stores.now.stores units.now }
     requires one_sector { AllByRecursion HasOneSector stores.now.stores }
-    ensures { OnOk result (Adds (changes_of stores.entry.now.stores units.entry.now) out.old.items out.new.items) }
+    ensures { OnOk result (AddsSpelled (changes_of_units stores.entry.now.stores units.entry.now) out.old.items out.new.items) }
 {
     for unit in units {
         append_unit(out, unit, stores)?;

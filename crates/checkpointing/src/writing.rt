@@ -3,10 +3,10 @@ ghost use Rattle.std.specs.Prelude.{◌≡◌, [], ◌∷◌, ◌++◌, length, 
 ghost use Rattle.std.specs.List.{AllByRecursion};
 ghost use Rattle.log_records.specs.declared.record.Record.TheVariants.{Checkpoint};
 ghost use Rattle.model_machine.specs.Machine.{setting_of};
-ghost use Rattle.checkpointing.specs.Records.{terminal_records, code_record, snapshot_records};
-ghost use Rattle.checkpointing.specs.Spelled.{Adds, HaveRoom, IsWritable};
-ghost use Rattle.checkpointing.specs.Touches.{changes_of, HasOneSector, AreAllSpelled};
-ghost use Rattle.checkpointing.specs.View.{state_of};
+ghost use Rattle.checkpointing.specs.SnapshotRecords.{terminal_records, code_record, snapshot_records};
+ghost use Rattle.checkpointing.specs.SpelledRecords.{AddsSpelled, HaveRoom, IsWritable};
+ghost use Rattle.checkpointing.specs.Touches.{changes_of_units, HasOneSector, AreAllSpelled};
+ghost use Rattle.checkpointing.specs.SnapshotState.{snapshot_state_of};
 
 use crate::codes::append_codes;
 use crate::messages::append_messages;
@@ -49,10 +49,10 @@ pub struct SnapshotView<'a> {
 
 // Appends the records of a snapshot. After `Memory` a part of them may be appended.
 fn append_snapshot(out: &mut Vec<u8>, view: &SnapshotView) -> Result<(), Memory>
-    requires state { IsWritable (state_of view.now) }
+    requires state { IsWritable (snapshot_state_of view.now) }
     requires units { AreAllSpelled view.now.stores.now.stores view.now.units.now }
     requires one_sector { AllByRecursion HasOneSector view.now.stores.now.stores }
-    ensures { OnOk result (Adds (snapshot_records view.entry.now.checkpoint view.entry.now.next_unit (state_of view.entry.now) (changes_of view.entry.now.stores.now.stores view.entry.now.units.now)) out.old.items out.new.items) }
+    ensures { OnOk result (AddsSpelled (snapshot_records view.entry.now.checkpoint view.entry.now.next_unit (snapshot_state_of view.entry.now) (changes_of_units view.entry.now.stores.now.stores view.entry.now.units.now)) out.old.items out.new.items) }
 {
     append_checkpoint(
         out,
@@ -76,10 +76,10 @@ fn append_snapshot(out: &mut Vec<u8>, view: &SnapshotView) -> Result<(), Memory>
 /// The bytes of a snapshot: the counts, the terminals, the codes, the messages by their ids, the replies by terminal and
 /// number, and the slots that open units changed.
 pub fn write(alloc: Global, view: &SnapshotView) -> Result<Vec<u8>, Memory>
-    requires state { IsWritable (state_of view.now) }
+    requires state { IsWritable (snapshot_state_of view.now) }
     requires units { AreAllSpelled view.now.stores.now.stores view.now.units.now }
     requires one_sector { AllByRecursion HasOneSector view.now.stores.now.stores }
-    ensures { IfOk result (λ bytes. Adds (snapshot_records view.entry.now.checkpoint view.entry.now.next_unit (state_of view.entry.now) (changes_of view.entry.now.stores.now.stores view.entry.now.units.now)) [] bytes.items) }
+    ensures { IfOk result (λ bytes. AddsSpelled (snapshot_records view.entry.now.checkpoint view.entry.now.next_unit (snapshot_state_of view.entry.now) (changes_of_units view.entry.now.stores.now.stores view.entry.now.units.now)) [] bytes.items) }
 {
     let mut bytes = Vec::new(alloc);
     append_snapshot(&mut bytes, view)?;
@@ -99,7 +99,7 @@ pub fn write_first(
     requires outputs { length outputs.now ≡ length terminals.now }
     requires conversations { length conversations.now ≡ length terminals.now }
     requires pads { HaveRoom conversations.now }
-    ensures { IfOk result (λ bytes. Adds (Checkpoint 1 1 1 0 ∷ (terminal_records terminals.now outputs.now conversations.now ++ map code_record (map setting_of codes.now))) [] bytes.items) }
+    ensures { IfOk result (λ bytes. AddsSpelled (Checkpoint 1 1 1 0 ∷ (terminal_records terminals.now outputs.now conversations.now ++ map code_record (map setting_of codes.now))) [] bytes.items) }
 {
     let mut bytes = Vec::new(alloc);
     append_checkpoint(&mut bytes, 1, 1, 1, 0)?;

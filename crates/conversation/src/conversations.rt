@@ -5,8 +5,8 @@ ghost use Rattle.model_messages.specs.Queue.{messages_of};
 ghost use Rattle.model_messages.specs.Terminals.{without_conversation, conversation_at, pad_at, IsTerminal, with_terminal, with_conversation};
 ghost use Rattle.model_messages.specs.Pads.{begun};
 ghost use Rattle.conversation.specs.Changes.{with_new_pad};
-ghost use Rattle.conversation.specs.Refusals.{RefusesPad, input_answer, update_fault, updated};
-ghost use Rattle.model_messages.specs.Input.{busy_id};
+ghost use Rattle.conversation.specs.Refusals.{RefusesPad, conversation_answer, update_fault, updated};
+ghost use Rattle.model_messages.specs.ConversationInput.{busy_id};
 
 use crate::pads::PadRefused;
 use crate::{pads, table};
@@ -85,7 +85,7 @@ impl Conversations {
     /// with the message's id. A message is of the terminal's conversation where it came from the
     /// terminal and has the flag of conversations.
     pub fn input(&self, terminal: &Name, queues: &Queues) -> Result<Option<Name>, Busy>
-        ensures { result ≡ input_answer (conversation_at terminal.now self.now) (busy_id terminal.now (messages_of queues.now.queued)) }
+        ensures { result ≡ conversation_answer (conversation_at terminal.now self.now) (busy_id terminal.now (messages_of queues.now.queued)) }
     {
         match table::conversation_of(&self.terminals, terminal) {
             Some(conversation) => answer(conversation, queues.busy_id(terminal)),
@@ -158,7 +158,7 @@ impl Conversations {
 }
 
 fn answer(conversation: &Conversation, busy: Option<u64>) -> Result<Option<Name>, Busy>
-    ensures { result ≡ input_answer (Some conversation.now) busy }
+    ensures { result ≡ conversation_answer (Some conversation.now) busy }
 {
     match busy {
         Some(id) => Err(Busy { id }),

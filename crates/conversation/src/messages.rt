@@ -1,6 +1,6 @@
 //! The messages of a conversation.
 ghost use Rattle.std.specs.Prelude.{◌≡◌};
-ghost use Rattle.model_messages.specs.Input.{is_conversing};
+ghost use Rattle.model_messages.specs.ConversationInput.{is_conversing};
 
 use tm_types::{Message, Name};
 

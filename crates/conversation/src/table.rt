@@ -1,7 +1,7 @@
 //! The terminals of a system by their names.
 ghost use Rattle.std.specs.Prelude.{◌≡◌, map, position, IfOk};
 ghost use Rattle.std.specs.Option.{option_copied};
-ghost use Rattle.model_messages.specs.Terminals.{without_conversation, is_of, conversation_at, with_terminal, with_conversation};
+ghost use Rattle.model_messages.specs.Terminals.{without_conversation, is_conversation_of, conversation_at, with_terminal, with_conversation};
 ghost use Rattle.conversation.specs.Changes.{with_new_pad};
 
 use model_messages::{Conversation, TerminalConversation};
@@ -31,13 +31,13 @@ fn without_conversation(name: &Name) -> TerminalConversation
 }
 
 fn is_of(name: &Name, kept: &TerminalConversation) -> bool
-    ensures { result ≡ is_of name.now kept.now }
+    ensures { result ≡ is_conversation_of name.now kept.now }
 {
     &kept.terminal == name
 }
 
 fn position(terminals: &[TerminalConversation], name: &Name) -> Option<usize>
-    ensures { result ≡ position (is_of name.now) terminals.now }
+    ensures { result ≡ position (is_conversation_of name.now) terminals.now }
 {
     terminals.iter().position(|kept| is_of(name, kept))
 }

@@ -11,14 +11,14 @@ use Rattle.std.proofs.lemmas.Map.Keys.{IsDistinct-IsPermutation}
 use Rattle.model_data.specs.declared.request.Request.{Request}
 use Rattle.model_data.specs.declared.victim.Victim.{Victim}
 use Rattle.model_data.specs.Table.{EnqueueTable, blockers, blocked_by, wait_of, waits_for}
-use Rattle.model_data.specs.Ask.{granted, waiting, waits_only_for, waits_for_nothing, released, after_asks, first_blocked}
-use Rattle.model_data.specs.Cycle.{IsRegion, WaitsAlong, IsRing, IsCycle, HasNoCycle, changes_of, gives_way, victim_of, Breaks, after_victims}
-use Rattle.pi_enqueue.specs.Kept.{IsKept, Upgrades, Waits, waiting_regions}
+use Rattle.model_data.specs.EnqueueRequests.{granted, with_waiter, waits_only_for, waits_for_nothing, released, after_asks, first_blocked}
+use Rattle.model_data.specs.Cycle.{IsTableRegion, WaitsAlong, IsRing, IsCycle, HasNoCycle, changed_count_of, gives_way, victim_of, Breaks, after_victims}
+use Rattle.pi_enqueue.specs.KeptTable.{IsTableKept, Upgrades, RegionWaits, waiting_regions}
 use Rattle.pi_enqueue.proofs.Granting.{clash}
 use Rattle.pi_enqueue.proofs.Ascending.{all_map}
 use Rattle.pi_enqueue.proofs.Asking.{AreOf}
-use Rattle.deadlock_pick.specs.Broken.{HasNoCycles}
-use Rattle.deadlock_pick.specs.Weighed.{IsWeighed}
+use Rattle.deadlock_pick.specs.NoCycles.{HasNoCycles}
+use Rattle.deadlock_pick.specs.Weights.{IsWeighed}
 use Rattle.deadlock_pick.proofs.Ways.{each, few_regions}
 use Rattle.deadlock_pick.proofs.Fewer.{Fewer, fewer_less, less_nothing, less_released, fewer_asked}
 
@@ -53,12 +53,12 @@ module _ (T : EnqueueTable) where
   every P [] h = λ k d l. absurd (omega arith)
   every P (x ∷ xs) h = All-cons P x xs h.0 (every P xs h.1)
 
-  turned : (x r : ℕ) (us vs : List ℕ) → IsRegion T x → IsRing T x (us ++ r ∷ vs) → IsRing T r (vs ++ x ∷ us)
+  turned : (x r : ℕ) (us vs : List ℕ) → IsTableRegion T x → IsRing T x (us ++ r ∷ vs) → IsRing T r (vs ++ x ∷ us)
   turned x r us vs is ring =
       let parts = cut x us r vs x ring.waits in
-      let regions = each (IsRegion T) (us ++ r ∷ vs) ring.regions in
+      let regions = each (IsTableRegion T) (us ++ r ∷ vs) ring.regions in
       record {
-        regions = All-append (IsRegion T) vs (x ∷ us) (every (IsRegion T) vs (all_back (IsRegion T) us (r ∷ vs) regions).1) (All-cons (IsRegion T) x us is (every (IsRegion T) us (all_front (IsRegion T) us (r ∷ vs) regions)));
+        regions = All-append (IsTableRegion T) vs (x ∷ us) (every (IsTableRegion T) vs (all_back (IsTableRegion T) us (r ∷ vs) regions).1) (All-cons (IsTableRegion T) x us is (every (IsTableRegion T) us (all_front (IsTableRegion T) us (r ∷ vs) regions)));
         distinct = IsDistinct-IsPermutation nat_eq flips ((x ∷ us) ++ r ∷ vs) ((r ∷ vs) ++ x ∷ us) (IsPermutation-append_comm (x ∷ us) (r ∷ vs)) ring.distinct;
         waits = paste r vs x us r parts.1 parts.0;
       }
@@ -87,7 +87,7 @@ module _ (r : ℕ) (T U : EnqueueTable) (fewer : Fewer r U T) where
       let parts = or_none (eqb r n) (list_any (eqb r) ns) y in
       (fewer.waits a n x (flip r n parts.0) h.0, along n ns end (flip r n parts.0) parts.1 z h.1)
 
-  old_region : (x : ℕ) → IsRegion U x → IsRegion T x
+  old_region : (x : ℕ) → IsTableRegion U x → IsTableRegion T x
   old_region x h = (h.0, subst (λ n. x ≤ n) fewer.regions h.1)
 
   old_ring : (first : ℕ) (others : List ℕ) → list_any (eqb r) (first ∷ others) ≡ false → IsRing U first others → IsRing T first others
@@ -104,8 +104,8 @@ module _ (r : ℕ) (T U : EnqueueTable) (fewer : Fewer r U T) where
   no_cycles none here x is [] c = absurd c
   no_cycles none here x is (first ∷ others) c = by (eqb r first) (list_any (eqb r) others) refl refl
     where
-      at : IsRegion U first
-      at = subst (IsRegion U) (sym c.0) is
+      at : IsTableRegion U first
+      at = subst (IsTableRegion U) (sym c.0) is
 
       by : (p q : Bool) → eqb r first ≡ p → list_any (eqb r) others ≡ q → ⊥
       by true q e f = here (first ∷ others) (sym (eqb-true r first e), c.1)
@@ -154,7 +154,7 @@ waits_no_longer region (q ∷ qs) T h = by (blocked_by q T) h (waits_no_longer r
   where
     by : (o : Option ℕ) → option_map_or (λ by. Some (q, by)) o (first_blocked qs (granted q T)) ≡ None
         → (first_blocked qs (granted q T) ≡ None → wait_of region (after_asks region qs (granted q T)) ≡ None)
-        → wait_of region (option_map_or (λ by. waiting q (waits_only_for q T)) o (after_asks region qs (granted q T))) ≡ None
+        → wait_of region (option_map_or (λ by. with_waiter q (waits_only_for q T)) o (after_asks region qs (granted q T))) ≡ None
     by None g rec = rec g
     by (Some b) g rec = clash (ap is_some g)
 
@@ -198,7 +198,7 @@ all_waiting T a [] end h = ((end, h), tt)
 all_waiting T a (n ∷ ns) end h = ((n, h.0), all_waiting T n ns end h.1)
 
 gives_one : (P : ℕ → Type 0) (weights : List ℕ) (a b : ℕ) → P a → P b → P (gives_way weights a b)
-gives_one P weights a b p q = either (nat_lt (changes_of weights a) (changes_of weights b) || ((changes_of weights a == changes_of weights b) && nat_lt b a))
+gives_one P weights a b p q = either (nat_lt (changed_count_of weights a) (changed_count_of weights b) || ((changed_count_of weights a == changed_count_of weights b) && nat_lt b a))
   where
     either : (c : Bool) → P (cond c a b)
     either true = p
@@ -214,10 +214,10 @@ victim_waits T region weights [] c = absurd c
 victim_waits T region weights (first ∷ others) c = victim_among (Waiting T) weights first others (all_waiting T first others first c.1.waits)
 
 -- the victim is a region of the table
-pub victim_region : (T : EnqueueTable) (region : ℕ) (weights cycle : List ℕ) → IsRegion T region → IsCycle T region cycle → IsRegion T (victim_of weights cycle)
+pub victim_region : (T : EnqueueTable) (region : ℕ) (weights cycle : List ℕ) → IsTableRegion T region → IsCycle T region cycle → IsTableRegion T (victim_of weights cycle)
 victim_region T region weights [] is c = absurd c
 victim_region T region weights (first ∷ others) is c =
-    victim_among (IsRegion T) weights first others (subst (IsRegion T) (sym c.0) is, each (IsRegion T) others c.1.regions)
+    victim_among (IsTableRegion T) weights first others (subst (IsTableRegion T) (sym c.0) is, each (IsTableRegion T) others c.1.regions)
 
 -- how many waits there are
 abbrev pub waits_count : EnqueueTable → ℕ
@@ -252,31 +252,31 @@ victims_waits weights region T (v ∷ victims) h =
     let waits : Waiting T v.region = subst (Waiting T) (sym h.1) (victim_waits T region weights v.cycle h.0.stands) in
     omega (arith, fewer_waiting T v.region waits, victims_waits weights region (released v.region T) victims h.2)
 
-kept_regions : (T : EnqueueTable) → IsKept T → AllByRecursion (IsRegion T) (waiting_regions T)
+kept_regions : (T : EnqueueTable) → IsTableKept T → AllByRecursion (IsTableRegion T) (waiting_regions T)
 kept_regions T kept = both T.upgrades T.waits (up T.upgrades kept.upgrading) (down T.waits kept.waiting)
   where
-    up : (ws : List Request) → AllByRecursion (Upgrades T) ws → AllByRecursion (IsRegion T) (map (λ w. w.region) ws)
+    up : (ws : List Request) → AllByRecursion (Upgrades T) ws → AllByRecursion (IsTableRegion T) (map (λ w. w.region) ws)
     up [] h = tt
     up (w ∷ ws) h = (h.0.region, up ws h.1)
 
-    down : (ws : List Request) → AllByRecursion (Waits T) ws → AllByRecursion (IsRegion T) (map (λ w. w.region) ws)
+    down : (ws : List Request) → AllByRecursion (RegionWaits T) ws → AllByRecursion (IsTableRegion T) (map (λ w. w.region) ws)
     down [] h = tt
     down (w ∷ ws) h = (h.0.region, down ws h.1)
 
-    both : (us ws : List Request) → AllByRecursion (IsRegion T) (map (λ w. w.region) us) → AllByRecursion (IsRegion T) (map (λ w. w.region) ws) → AllByRecursion (IsRegion T) (map (λ w. w.region) (us ++ ws))
+    both : (us ws : List Request) → AllByRecursion (IsTableRegion T) (map (λ w. w.region) us) → AllByRecursion (IsTableRegion T) (map (λ w. w.region) ws) → AllByRecursion (IsTableRegion T) (map (λ w. w.region) (us ++ ws))
     both [] ws h g = g
     both (u ∷ us) ws h g = (h.0, both us ws h.1 g)
 
 -- no more waits than regions
-pub few_waits : (T : EnqueueTable) → IsKept T → waits_count T ≤ T.regions
+pub few_waits : (T : EnqueueTable) → IsTableKept T → waits_count T ≤ T.regions
 few_waits T kept = subst (λ n. n ≤ T.regions) (length-map (T.upgrades ++ T.waits) (λ (w : Request). w.region)) (few_regions T (waiting_regions T) kept.once (kept_regions T kept))
 
 -- Breaking ends: there are no more victims than regions.
-pub few_victims : (weights : List ℕ) (region : ℕ) (T : EnqueueTable) (victims : List Victim) → IsKept T → Breaks weights region T victims → length victims ≤ T.regions
+pub few_victims : (weights : List ℕ) (region : ℕ) (T : EnqueueTable) (victims : List Victim) → IsTableKept T → Breaks weights region T victims → length victims ≤ T.regions
 few_victims weights region T victims kept h = omega (arith, victims_waits weights region T victims h, few_waits T kept)
 
 -- Each region of a cycle has a weight where each region of the table has one.
-pub cycle_weighed : (T : EnqueueTable) (region : ℕ) (weights cycle : List ℕ) → IsRegion T region → T.regions ≤ length weights → IsCycle T region cycle → AllByRecursion (IsWeighed weights) cycle
+pub cycle_weighed : (T : EnqueueTable) (region : ℕ) (weights cycle : List ℕ) → IsTableRegion T region → T.regions ≤ length weights → IsCycle T region cycle → AllByRecursion (IsWeighed weights) cycle
 cycle_weighed T region weights [] is enough c = absurd c
 cycle_weighed T region weights (first ∷ others) is enough c =
-    all_map (λ x h. record { first = h.0; last = omega (arith, h.1) }) (first ∷ others) (subst (IsRegion T) (sym c.0) is, each (IsRegion T) others c.1.regions)
+    all_map (λ x h. record { first = h.0; last = omega (arith, h.1) }) (first ∷ others) (subst (IsTableRegion T) (sym c.0) is, each (IsTableRegion T) others c.1.regions)

@@ -9,15 +9,15 @@ use Rattle.std.proofs.lemmas.Bool.{eq-eqb, ne_eqb, eqb-true}
 use Rattle.tm_types.specs.declared.resource.Mode.{Mode}
 use Rattle.model_data.specs.declared.request.Holder.{Holder}
 use Rattle.model_data.specs.declared.request.Request.{Request}
-use Rattle.model_data.specs.Modes.{same_resource, serves, holder_cmp}
+use Rattle.model_data.specs.Modes.{same_resource, mode_serves, holder_cmp}
 use Rattle.model_data.specs.Table.{EnqueueTable, mode_held, is_upgrade, is_against, holders_against, is_own, ahead, blockers, blocked_by, wait_of, waits_for}
-use Rattle.model_data.specs.Ask.{asker, granted_mode, with_hold, placed, granted, waiting, waits_only_for, waits_for_nothing, released, after_asks}
-use Rattle.pi_enqueue.proofs.Keys.{holder_total, holder_exact, resource_exact}
+use Rattle.model_data.specs.EnqueueRequests.{asker, granted_mode, with_hold, placed_request, granted, with_waiter, waits_only_for, waits_for_nothing, released, after_asks}
 use Rattle.pi_enqueue.proofs.Ascending.{filter_inserted}
 use Rattle.pi_enqueue.proofs.Granting.{clash, and_split}
 use Rattle.pi_enqueue.proofs.Keeping.{held_released}
 use Rattle.pi_enqueue.proofs.Asking.{AreOf}
 use Rattle.pi_enqueue.proofs.Laws.{others_have}
+use Rattle.model_data.proofs.Holders.{holder_total, holder_exact, resource_exact}
 
 -- between other regions than this one, none waits in the new table for one for which it didn't before
 pub record Fewer (region : ℕ) (new old : EnqueueTable) : Type 0 where
@@ -151,7 +151,7 @@ blockers_fewer b q new old same f g k h =
     by (mode_held q old.holds) (sym (ap (λ o. list_any (λ x. eqb x b) (row o (holders_against q new.holds) (ahead q new.upgrades) (ahead q new.waits))) same) ∙ h)
   where
     row : Option Mode → List ℕ → List ℕ → List ℕ → List ℕ
-    row o against us ws = if option_map_or (λ m. serves m q.mode) o false then [] else against ++ (us ++ (if is_some o then [] else ws))
+    row o against us ws = if option_map_or (λ m. mode_serves m q.mode) o false then [] else against ++ (us ++ (if is_some o then [] else ws))
 
     step : (served up : Bool)
         → list_any (λ x. eqb x b) (if served then [] else holders_against q new.holds ++ (ahead q new.upgrades ++ (if up then [] else ahead q new.waits))) ≡ true
@@ -166,7 +166,7 @@ blockers_fewer b q new old same f g k h =
 
     by : (o : Option Mode) → list_any (λ x. eqb x b) (row o (holders_against q new.holds) (ahead q new.upgrades) (ahead q new.waits)) ≡ true
         → list_any (λ x. eqb x b) (row o (holders_against q old.holds) (ahead q old.upgrades) (ahead q old.waits)) ≡ true
-    by o s = step (option_map_or (λ m. serves m q.mode) o false) (is_some o) s
+    by o s = step (option_map_or (λ m. mode_serves m q.mode) o false) (is_some o) s
 
 -- ---- some wait no longer
 less_waits : (region : ℕ) (keep : Request → Bool) → ((w : Request) → eqb w.region region ≡ false → keep w ≡ true) → (T : EnqueueTable)
@@ -276,7 +276,7 @@ fewer_granted p T = fewer_on (fewer_less (less_waits p.region (λ w. not (is_own
 
 -- ---- a region waits
 ahead_placed : (b : ℕ) (p q : Request) (ws : List Request) → eqb b p.region ≡ false → eqb q.region p.region ≡ false
-    → list_any (λ x. eqb x b) (ahead q (placed p ws)) ≡ true → list_any (λ x. eqb x b) (ahead q ws) ≡ true
+    → list_any (λ x. eqb x b) (ahead q (placed_request p ws)) ≡ true → list_any (λ x. eqb x b) (ahead q ws) ≡ true
 ahead_placed b p q [] out apart h = by (is_own q p) (same_resource p.resource q.resource) h
   where
     by : (own same : Bool) → list_any (λ x. eqb x b) (cond own [] (cond same (p.region ∷ []) [])) ≡ true → false ≡ true
@@ -285,15 +285,15 @@ ahead_placed b p q [] out apart h = by (is_own q p) (same_resource p.resource q.
     by false false g = g
 ahead_placed b p q (w ∷ ws) out apart h = by (is_own p w) refl h (ahead_placed b p q ws out apart)
   where
-    stays : (own same : Bool) → (list_any (λ x. eqb x b) (ahead q (placed p ws)) ≡ true → list_any (λ x. eqb x b) (ahead q ws) ≡ true)
-        → list_any (λ x. eqb x b) (cond own [] (cond same (w.region ∷ ahead q (placed p ws)) (ahead q (placed p ws)))) ≡ true
+    stays : (own same : Bool) → (list_any (λ x. eqb x b) (ahead q (placed_request p ws)) ≡ true → list_any (λ x. eqb x b) (ahead q ws) ≡ true)
+        → list_any (λ x. eqb x b) (cond own [] (cond same (w.region ∷ ahead q (placed_request p ws)) (ahead q (placed_request p ws)))) ≡ true
         → list_any (λ x. eqb x b) (cond own [] (cond same (w.region ∷ ahead q ws) (ahead q ws))) ≡ true
     stays true same rec g = g
-    stays false true rec g = or_less (eqb w.region b) (list_any (λ x. eqb x b) (ahead q (placed p ws))) (list_any (λ x. eqb x b) (ahead q ws)) rec g
+    stays false true rec g = or_less (eqb w.region b) (list_any (λ x. eqb x b) (ahead q (placed_request p ws))) (list_any (λ x. eqb x b) (ahead q ws)) rec g
     stays false false rec g = rec g
 
-    by : (o : Bool) → is_own p w ≡ o → list_any (λ x. eqb x b) (ahead q (cond o (p ∷ ws) (w ∷ placed p ws))) ≡ true
-        → (list_any (λ x. eqb x b) (ahead q (placed p ws)) ≡ true → list_any (λ x. eqb x b) (ahead q ws) ≡ true) → list_any (λ x. eqb x b) (ahead q (w ∷ ws)) ≡ true
+    by : (o : Bool) → is_own p w ≡ o → list_any (λ x. eqb x b) (ahead q (cond o (p ∷ ws) (w ∷ placed_request p ws))) ≡ true
+        → (list_any (λ x. eqb x b) (ahead q (placed_request p ws)) ≡ true → list_any (λ x. eqb x b) (ahead q ws) ≡ true) → list_any (λ x. eqb x b) (ahead q (w ∷ ws)) ≡ true
     by true e g rec =
         let parts = and_split (same_resource w.resource p.resource) (eqb w.region p.region) e in
         let r : p.region ≡ w.region = sym (eqb-true w.region p.region parts.1) in
@@ -301,36 +301,36 @@ ahead_placed b p q (w ∷ ws) out apart h = by (is_own p w) refl h (ahead_placed
         sym (λ i. list_any (λ x. eqb x b) (ahead q (record { region = r i; resource = s i; mode = p.mode } ∷ ws))) ∙ g
     by false e g rec = stays (is_own q w) (same_resource w.resource q.resource) rec g
 
-found_placed : (a : ℕ) (p : Request) (ws : List Request) → eqb a p.region ≡ false → find (λ w. eqb w.region a) (placed p ws) ≡ find (λ w. eqb w.region a) ws
+found_placed : (a : ℕ) (p : Request) (ws : List Request) → eqb a p.region ≡ false → find (λ w. eqb w.region a) (placed_request p ws) ≡ find (λ w. eqb w.region a) ws
 found_placed a p [] out = ap (λ c. cond c (Some p) None) (ne_eqb p.region a (λ e. clash (sym (eq-eqb a p.region (sym e)) ∙ out)))
 found_placed a p (w ∷ ws) out = by (is_own p w) refl (found_placed a p ws out)
   where
     miss : eqb p.region a ≡ false
     miss = ne_eqb p.region a (λ e. clash (sym (eq-eqb a p.region (sym e)) ∙ out))
 
-    by : (o : Bool) → is_own p w ≡ o → find (λ w. eqb w.region a) (placed p ws) ≡ find (λ w. eqb w.region a) ws
-        → find (λ w. eqb w.region a) (cond o (p ∷ ws) (w ∷ placed p ws)) ≡ cond (eqb w.region a) (Some w) (find (λ w. eqb w.region a) ws)
+    by : (o : Bool) → is_own p w ≡ o → find (λ w. eqb w.region a) (placed_request p ws) ≡ find (λ w. eqb w.region a) ws
+        → find (λ w. eqb w.region a) (cond o (p ∷ ws) (w ∷ placed_request p ws)) ≡ cond (eqb w.region a) (Some w) (find (λ w. eqb w.region a) ws)
     by true e rec =
         let r : w.region ≡ p.region = eqb-true w.region p.region (and_split (same_resource w.resource p.resource) (eqb w.region p.region) e).1 in
         ap (λ c. cond c (Some p) (find (λ w. eqb w.region a) ws)) miss
         ∙ sym (ap (λ c. cond c (Some w) (find (λ w. eqb w.region a) ws)) (ap (λ n. eqb n a) r ∙ miss))
     by false e rec = ap (cond (eqb w.region a) (Some w)) rec
 
-pub fewer_waiting : (p : Request) (T : EnqueueTable) → Fewer p.region (waiting p T) T
+pub fewer_waiting : (p : Request) (T : EnqueueTable) → Fewer p.region (with_waiter p T) T
 fewer_waiting p T = by (is_upgrade p T.holds)
   where
-    by : (u : Bool) → Fewer p.region (cond u (record T { upgrades = placed p T.upgrades }) (record T { waits = placed p T.waits })) T
+    by : (u : Bool) → Fewer p.region (cond u (record T { upgrades = placed_request p T.upgrades }) (record T { waits = placed_request p T.waits })) T
     by true = record {
       regions = refl;
-      waits = λ a b out other. waits_fewer a b (record T { upgrades = placed p T.upgrades }) T
-          (find_append (λ w. eqb w.region a) (placed p T.upgrades) T.waits T.upgrades T.waits (found_placed a p T.upgrades out) refl)
-          (λ q e. blockers_fewer b q (record T { upgrades = placed p T.upgrades }) T refl (λ h. h) (ahead_placed b p q T.upgrades other (ap (λ n. eqb n p.region) e ∙ out)) (λ h. h));
+      waits = λ a b out other. waits_fewer a b (record T { upgrades = placed_request p T.upgrades }) T
+          (find_append (λ w. eqb w.region a) (placed_request p T.upgrades) T.waits T.upgrades T.waits (found_placed a p T.upgrades out) refl)
+          (λ q e. blockers_fewer b q (record T { upgrades = placed_request p T.upgrades }) T refl (λ h. h) (ahead_placed b p q T.upgrades other (ap (λ n. eqb n p.region) e ∙ out)) (λ h. h));
     }
     by false = record {
       regions = refl;
-      waits = λ a b out other. waits_fewer a b (record T { waits = placed p T.waits }) T
-          (find_append (λ w. eqb w.region a) T.upgrades (placed p T.waits) T.upgrades T.waits refl (found_placed a p T.waits out))
-          (λ q e. blockers_fewer b q (record T { waits = placed p T.waits }) T refl (λ h. h) (λ h. h) (ahead_placed b p q T.waits other (ap (λ n. eqb n p.region) e ∙ out)));
+      waits = λ a b out other. waits_fewer a b (record T { waits = placed_request p T.waits }) T
+          (find_append (λ w. eqb w.region a) T.upgrades (placed_request p T.waits) T.upgrades T.waits refl (found_placed a p T.waits out))
+          (λ q e. blockers_fewer b q (record T { waits = placed_request p T.waits }) T refl (λ h. h) (λ h. h) (ahead_placed b p q T.waits other (ap (λ n. eqb n p.region) e ∙ out)));
     }
 
 -- ---- all requests of a call
@@ -342,6 +342,6 @@ fewer_asked region (q ∷ qs) T of = by (blocked_by q T) (fewer_asked region qs 
     turned {U} {V} f = subst (λ r. Fewer r U V) of.0 f
 
     by : (o : Option ℕ) → Fewer region (after_asks region qs (granted q T)) (granted q T)
-        → Fewer region (option_map_or (λ by. waiting q (waits_only_for q T)) o (after_asks region qs (granted q T))) T
+        → Fewer region (option_map_or (λ by. with_waiter q (waits_only_for q T)) o (after_asks region qs (granted q T))) T
     by None rec = fewer_on rec (turned (fewer_granted q T))
     by (Some b) rec = turned (fewer_on (fewer_waiting q (waits_only_for q T)) (fewer_only_for q T))

@@ -1,22 +1,20 @@
 -- Ways along the waits, and the rings in which they may end.
-use Rattle.std.proofs.Common.{◌≡◌, ℕ, ◌<◌, ◌≤◌, ◌+◌, ◌∷◌, [], ◌++◌, List, refl, sym, ap, subst, ◌∙◌, arith, Bool, true, false, cond, not, ◌&&◌, ◌||◌, eqb, length, ⊎_elim, append_assoc, length-append}
+use Rattle.std.proofs.Common.{◌≡◌, ℕ, ◌<◌, ◌≤◌, ◌+◌, ◌∷◌, [], ◌++◌, List, refl, sym, ap, subst, ◌∙◌, arith, Bool, true, false, not, ◌&&◌, ◌||◌, eqb, length, ⊎_elim, append_assoc, length-append}
 use Rattle.std.specs.Prelude.{All, nat_eq, Option, None, Some, IfSome, IfNone}
 use Rattle.std.specs.List.{AllByRecursion, IsDistinct, list_any}
 use Rattle.std.specs.Cmp.Lexicographic.{slice_cmp}
 use Rattle.std.specs.Ordering.{nat_cmp, is_gt, ordering_then}
-use Rattle.std.specs.declared.cmp.Ordering.TheVariants.{Less, Equal, Greater}
-use Rattle.std.proofs.lemmas.Bool.{lt-ltb, eq-eqb, ne_eqb, eqb-true, cases_order}
+use Rattle.std.proofs.lemmas.Bool.{eq-eqb, ne_eqb, eqb-true, cases_order}
 use Rattle.std.proofs.lemmas.Cmp.{nat_cmp_total, tied_itself}
 use Rattle.std.proofs.lemmas.List.Elements.{All-cons, All-tail, All-push}
 use Rattle.std.proofs.lemmas.Map.Keys.{IsDistinct-head, IsDistinct-tail, IsDistinct-cons, IsDistinct-push}
 use Rattle.std.proofs.lemmas.Map.Steps.{length-le_from_distinct_below}
 use Rattle.std.proofs.lemmas.Cmp.{nat_eq_equiv}
 use Rattle.model_data.specs.Table.{EnqueueTable, waits_for}
-use Rattle.model_data.specs.Cycle.{IsRegion, WaitsAlong, IsRing, IsCycle, IsLeastCycle, HasNoCycle}
+use Rattle.model_data.specs.Cycle.{IsTableRegion, WaitsAlong, IsRing, IsCycle, IsLeastCycle, HasNoCycle}
 use Rattle.deadlock_pick.specs.Way.{WaitsTo, IsWayOf, BeginsWith, IsLeastOf, HasNoneOf}
-
-clash : {P : Type 0} → true ≡ false → P
-clash h = absurd (cc)
+use Rattle.pi_enqueue.proofs.Granting.{clash}
+use Rattle.tm_types.proofs.Ordered.{less_from}
 
 -- ---- lists of numbers
 pub each : {A : Type 0} (P : A → Type 0) (xs : List A) → All P xs → AllByRecursion P xs
@@ -46,9 +44,6 @@ same_front : (ws xs ys : List ℕ) → slice_cmp nat_cmp (ws ++ xs) (ws ++ ys) �
 same_front [] xs ys = refl
 same_front (w ∷ ws) xs ys = ap (λ o. ordering_then o (slice_cmp nat_cmp (ws ++ xs) (ws ++ ys))) (tied_itself nat_cmp_total w) ∙ same_front ws xs ys
 
-less_from : (a b : ℕ) → a < b → nat_cmp a b ≡ Less
-less_from a b h = ap (λ t. cond t Less (cond (eqb a b) Equal Greater)) (lt-ltb a b h)
-
 append_nil : (xs : List ℕ) → xs ≡ xs ++ []
 append_nil [] = refl
 append_nil (x ∷ xs) = ap (λ ys. x ∷ ys) (append_nil xs)
@@ -72,17 +67,17 @@ module _ (T : EnqueueTable) where
   one_more r (n ∷ ns) last next w h = (w.0, one_more n ns last next w.1 h)
 
   -- distinct regions are no more than there are
-  pub few_regions : (xs : List ℕ) → IsDistinct nat_eq xs → AllByRecursion (IsRegion T) xs → length xs ≤ T.regions
+  pub few_regions : (xs : List ℕ) → IsDistinct nat_eq xs → AllByRecursion (IsTableRegion T) xs → length xs ≤ T.regions
   few_regions xs distinct regions =
       let longer : length (0 ∷ xs) ≤ T.regions + 1 =
       length-le_from_distinct_below (0 ∷ xs) (T.regions + 1) (IsDistinct-cons nat_eq 0 xs (positive xs regions) distinct) (λ q h. below q (eqb q 0) refl xs regions h) in
       omega (arith, longer)
     where
-      positive : (xs : List ℕ) → AllByRecursion (IsRegion T) xs → AllByRecursion (λ y. eqb 0 y ≡ false) xs
+      positive : (xs : List ℕ) → AllByRecursion (IsTableRegion T) xs → AllByRecursion (λ y. eqb 0 y ≡ false) xs
       positive [] h = tt
       positive (x ∷ xs) h = (ne_eqb 0 x (λ e. absurd (omega (arith, h.0.0))), positive xs h.1)
 
-      found : (q : ℕ) (xs : List ℕ) → AllByRecursion (IsRegion T) xs → list_any (eqb q) xs ≡ true → q < T.regions + 1
+      found : (q : ℕ) (xs : List ℕ) → AllByRecursion (IsTableRegion T) xs → list_any (eqb q) xs ≡ true → q < T.regions + 1
       found q [] h g = clash (sym g)
       found q (x ∷ xs) h g = by (eqb q x) refl g (found q xs h.1)
         where
@@ -90,7 +85,7 @@ module _ (T : EnqueueTable) where
           by true e f rec = let s : q ≡ x = eqb-true q x e in omega (arith, h.0.1)
           by false e f rec = rec f
 
-      below : (q : ℕ) (b : Bool) → eqb q 0 ≡ b → (xs : List ℕ) → AllByRecursion (IsRegion T) xs → b || list_any (eqb q) xs ≡ true → q < T.regions + 1
+      below : (q : ℕ) (b : Bool) → eqb q 0 ≡ b → (xs : List ℕ) → AllByRecursion (IsTableRegion T) xs → b || list_any (eqb q) xs ≡ true → q < T.regions + 1
       below q true e xs h g = let s : q ≡ 0 = eqb-true q 0 e in omega arith
       below q false e xs h g = found q xs h g
 
@@ -106,11 +101,11 @@ unfolding IsDistinct
 distinct_none = tt
 
 -- a region alone
-pub way_of_one : (T : EnqueueTable) (region : ℕ) (way : List ℕ) → way ≡ region ∷ [] → IsRegion T region → IsWayOf T region way region
+pub way_of_one : (T : EnqueueTable) (region : ℕ) (way : List ℕ) → way ≡ region ∷ [] → IsTableRegion T region → IsWayOf T region way region
 way_of_one T region way e h = subst (λ w. IsWayOf T region w region) (sym e) (record {
   others = [];
   whole = refl;
-  regions = All-cons (IsRegion T) region [] h (λ k d l. absurd (omega arith));
+  regions = All-cons (IsTableRegion T) region [] h (λ k d l. absurd (omega arith));
   distinct = IsDistinct-cons nat_eq region [] tt distinct_none;
   waits = refl;
 })
@@ -120,7 +115,7 @@ module _ (T : EnqueueTable) (region : ℕ) (way : List ℕ) (last : ℕ) (w : Is
   pub ring_here : waits_for last region T ≡ true → IsLeastOf T region way way
   ring_here h = record {
     stands = cycle_of T region way w.others w.whole (record {
-      regions = All-tail (IsRegion T) region w.others (subst (All (IsRegion T)) w.whole w.regions);
+      regions = All-tail (IsTableRegion T) region w.others (subst (All (IsTableRegion T)) w.whole w.regions);
       distinct = subst (IsDistinct nat_eq) w.whole w.distinct;
       waits = closes T region w.others last region w.waits h;
     });
@@ -136,8 +131,8 @@ module _ (T : EnqueueTable) (region : ℕ) (way : List ℕ) (last : ℕ) (w : Is
     ring : IsRing T region (w.others ++ m ∷ ms)
     ring = ring_of T region (w.others ++ m ∷ ms) (subst (IsCycle T region) whole_is stands)
 
-    next_region : IsRegion T m
-    next_region = middle (IsRegion T) w.others ms m (each (IsRegion T) (w.others ++ m ∷ ms) ring.regions)
+    next_region : IsTableRegion T m
+    next_region = middle (IsTableRegion T) w.others ms m (each (IsTableRegion T) (w.others ++ m ∷ ms) ring.regions)
 
     next_fresh : list_any (nat_eq m) way ≡ false
     next_fresh = fresh way ms m (subst (IsDistinct nat_eq) (sym whole_is ∙ e) ring.distinct)
@@ -146,7 +141,7 @@ module _ (T : EnqueueTable) (region : ℕ) (way : List ℕ) (last : ℕ) (w : Is
     next_waits = waits_next T region w.others last m ms region w.waits ring.waits
 
   -- no region has this number
-  pub none_outside : (m : ℕ) → (IsRegion T m → ⊥) → HasNoneOf T region (way ++ m ∷ [])
+  pub none_outside : (m : ℕ) → (IsTableRegion T m → ⊥) → HasNoneOf T region (way ++ m ∷ [])
   none_outside m out cycle stands b =
       out (next_region m b.rest cycle stands (b.whole ∙ append_assoc way (m ∷ []) b.rest))
 
@@ -160,21 +155,21 @@ module _ (T : EnqueueTable) (region : ℕ) (way : List ℕ) (last : ℕ) (w : Is
   both true b h = clash (sym h)
   both false b h = (refl, h)
 
-  pub way_longer : (next : ℕ) (longer : List ℕ) → longer ≡ way ++ next ∷ [] → IsRegion T next → not (list_any (nat_eq next) way) && waits_for last next T ≡ true → IsWayOf T region longer next
+  pub way_longer : (next : ℕ) (longer : List ℕ) → longer ≡ way ++ next ∷ [] → IsTableRegion T next → not (list_any (nat_eq next) way) && waits_for last next T ≡ true → IsWayOf T region longer next
   way_longer next longer e is h =
       let parts = both (list_any (nat_eq next) way) (waits_for last next T) h in
       subst (λ l. IsWayOf T region l next) (sym e) (record {
         others = w.others ++ next ∷ [];
         whole = ap (λ x. x ++ next ∷ []) w.whole;
-        regions = All-push (IsRegion T) way next w.regions is;
+        regions = All-push (IsTableRegion T) way next w.regions is;
         distinct = IsDistinct-push nat_eq_equiv way next w.distinct parts.0;
         waits = one_more T region w.others last next w.waits parts.1;
       })
 
-  pub fits : T.regions ≤ 8 → (next : ℕ) → IsRegion T next → not (list_any (nat_eq next) way) && waits_for last next T ≡ true → length way < 8
+  pub fits : T.regions ≤ 8 → (next : ℕ) → IsTableRegion T next → not (list_any (nat_eq next) way) && waits_for last next T ≡ true → length way < 8
   fits few next is h =
       let longer = way_longer next (way ++ next ∷ []) refl is h in
-      let n : length (way ++ next ∷ []) ≤ T.regions = few_regions T (way ++ next ∷ []) longer.distinct (each (IsRegion T) (way ++ next ∷ []) longer.regions) in
+      let n : length (way ++ next ∷ []) ≤ T.regions = few_regions T (way ++ next ∷ []) longer.distinct (each (IsTableRegion T) (way ++ next ∷ []) longer.regions) in
       omega (arith, n, length-append way (next ∷ []))
 
   module _ (open_end : waits_for last region T ≡ false) where

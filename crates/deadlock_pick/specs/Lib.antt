@@ -1,3 +1,3 @@
-pub mod Weighed
+pub mod Weights
 pub mod Way
-pub mod Broken
+pub mod NoCycles

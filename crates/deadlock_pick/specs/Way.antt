@@ -4,7 +4,7 @@ use Rattle.std.specs.List.{IsDistinct}
 use Rattle.std.specs.Ordering.{nat_cmp, is_gt}
 use Rattle.std.specs.Cmp.Lexicographic.{slice_cmp}
 use Rattle.model_data.specs.Table.{EnqueueTable, waits_for}
-use Rattle.model_data.specs.Cycle.{IsRegion, IsCycle}
+use Rattle.model_data.specs.Cycle.{IsTableRegion, IsCycle}
 
 -- each region waits for the next, up to the last one
 abbrev pub WaitsTo : EnqueueTable → ℕ → List ℕ → ℕ → Type 0
@@ -15,7 +15,7 @@ WaitsTo table region (next ∷ regions) last = IsTrue (waits_for region next tab
 pub record IsWayOf (table : EnqueueTable) (region : ℕ) (way : List ℕ) (last : ℕ) : Type 0 where
   pub others : List ℕ
   pub whole : way ≡ region ∷ others
-  pub regions : All (IsRegion table) way
+  pub regions : All (IsTableRegion table) way
   pub distinct : IsDistinct nat_eq way
   pub waits : WaitsTo table region others last
 

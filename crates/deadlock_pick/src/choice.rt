@@ -2,7 +2,7 @@
 ghost use Rattle.std.specs.Prelude.{◌≡◌, ◌≤◌, ◌<◌, length};
 ghost use Rattle.std.specs.List.{AllByRecursion};
 ghost use Rattle.model_data.specs.Cycle.{gives_way, victim_of};
-ghost use Rattle.deadlock_pick.specs.Weighed.{IsWeighed};
+ghost use Rattle.deadlock_pick.specs.Weights.{IsWeighed};
 
 use crate::Weights;
 use model_data::Cycle;

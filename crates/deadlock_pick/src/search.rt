@@ -2,7 +2,7 @@
 ghost use Rattle.std.specs.Prelude.{◌≡◌, ◌≤◌, ◌<◌, ◌∷◌, [], ◌++◌, length, IfSome, IfNone, IfOk, IsOk, MatchOption, not, ◌&&◌, nat_eq};
 ghost use Rattle.std.specs.List.{list_any};
 ghost use Rattle.model_data.specs.Table.{waits_for};
-ghost use Rattle.model_data.specs.Cycle.{IsRegion, IsLeastCycle, HasNoCycle};
+ghost use Rattle.model_data.specs.Cycle.{IsTableRegion, IsLeastCycle, HasNoCycle};
 ghost use Rattle.deadlock_pick.specs.Way.{IsWayOf, IsLeastOf, HasNoneOf};
 
 use model_data::Cycle;
@@ -15,7 +15,7 @@ use tm_types::Memory;
 /// The table has at most 8 regions.
 pub fn least_cycle(table: &Table, region: u32) -> Option<Cycle>
     requires few { table.now.regions ≤ 8 }
-    requires region { IsRegion table.now region }
+    requires region { IsTableRegion table.now region }
     ensures some { IfSome result (IsLeastCycle table.now region) }
     ensures none { IfNone result (HasNoCycle table.now region) }
 {
@@ -27,7 +27,7 @@ pub fn least_cycle(table: &Table, region: u32) -> Option<Cycle>
 /// The least of the rings through a region, as `least_cycle` gives it. It wants no memory.
 pub fn cycle_through(table: &Table, region: u32) -> Result<Option<Cycle>, Memory>
     requires few { table.now.regions ≤ 8 }
-    requires region { IsRegion table.now region }
+    requires region { IsTableRegion table.now region }
     ensures ok { IsOk result }
     ensures cycle { IfOk result (λ found. MatchOption found (HasNoCycle table.now region) (IsLeastCycle table.now region)) }
 {

@@ -1,6 +1,6 @@
 //! How many records each region's unit has changed.
 ghost use Rattle.std.specs.Prelude.{◌≡◌, ◌<◌, ◌≤◌, [], ◌∷◌, ◌++◌, length};
-ghost use Rattle.model_data.specs.Cycle.{changes_of};
+ghost use Rattle.model_data.specs.Cycle.{changed_count_of};
 
 use std::marker::Model;
 
@@ -14,7 +14,7 @@ pub struct Weights {
 
 impl Model for Weights {
     ghost use Rattle.std.specs.Prelude.{◌≡◌, ◌≤◌, ◌++◌, ℕ, List, length, take, drop};
-    ghost use Rattle.model_data.specs.Padded.{no_regions, padded};
+    ghost use Rattle.model_data.specs.PaddedLists.{no_regions, padded_list};
 
     ghost Value = { List ℕ };
 
@@ -24,7 +24,7 @@ impl Model for Weights {
 
     ghost inverse = { λ changes. record { len = length changes; changes = changes ++ drop (length changes) no_regions } };
 
-    ghost inverse_ok = { λ w h i. let fields = padded no_regions w.len w.changes h.0 h.1 h.2 in record { len = fields.0 i; changes = fields.1 i } };
+    ghost inverse_ok = { λ w h i. let fields = padded_list no_regions w.len w.changes h.0 h.1 h.2 in record { len = fields.0 i; changes = fields.1 i } };
 }
 
 impl Weights {
@@ -51,7 +51,7 @@ impl Weights {
     pub fn of(&self, region: u32) -> u32
         requires first { 1 ≤ region }
         requires last { region ≤ length self.now }
-        ensures { result ≡ changes_of self.now region }
+        ensures { result ≡ changed_count_of self.now region }
     {
         self.changes[(region - 1) as usize]
     }

@@ -7,12 +7,12 @@ use Rattle.std.proofs.lemmas.Bool.{ne_eqb}
 use Rattle.log_records.specs.declared.record.Record.{Record}
 use Rattle.log_records.specs.declared.record.Record.TheVariants.{Change}
 use Rattle.model_image.specs.Slots.{is_synced, before_image, after_image, named_by}
-use Rattle.disk_law.specs.Committed.{Touch, Touches, Bytes, changes_of, is_by, IsLast, AreCommitted, IsTold, TellsTouches}
+use Rattle.disk_law.specs.CommittedBytes.{Touch, Touches, Bytes, changes_of_slot, is_by, IsLast, AreCommitted, IsTouchTold, TellsTouches}
 
-abbrev named_of : (Record → Bool) → List Record → Option (List ℕ)
+abbrev pub named_of : (Record → Bool) → List Record → Option (List ℕ)
 named_of test changes = option_or (option_map after_image (find test (reverse changes))) (option_map before_image (slice_get changes 0))
 
-named_is : (snapshot log : List Record) (database slot : ℕ) → named_by snapshot log database slot ≡ named_of (is_synced log) (changes_of (snapshot ++ log) database slot)
+pub named_is : (snapshot log : List Record) (database slot : ℕ) → named_by snapshot log database slot ≡ named_of (is_synced log) (changes_of_slot (snapshot ++ log) database slot)
 unfolding named_by
 named_is snapshot log database slot = refl
 
@@ -20,16 +20,16 @@ module _ (told : List Record) (may_sync : ℕ → Bool) (touches : Touches) (com
     (live : (unit database slot : ℕ) (t : Touch) → touches unit database slot ≡ Some t → may_sync unit ≡ true)
     (first : (unit database slot : ℕ) (t : Touch) → touches unit database slot ≡ Some t → t.first ≡ committed database slot) where
   abbrev Told : ℕ → ℕ → Type 0
-  Told d s = (changes_of told d s ≡ []) ⊎ ((unit : ℕ) × (t : Touch) × IsTold told touches unit d s t)
+  Told d s = (changes_of_slot told d s ≡ []) ⊎ ((unit : ℕ) × (t : Touch) × IsTouchTold told touches unit d s t)
 
-  alone_is : (d s : ℕ) → changes_of (told ++ []) d s ≡ changes_of told d s
-  alone_is d s = ap (λ (records : List Record). changes_of records d s) (append-nil told)
+  alone_is : (d s : ℕ) → changes_of_slot (told ++ []) d s ≡ changes_of_slot told d s
+  alone_is d s = ap (λ (records : List Record). changes_of_slot records d s) (append-nil told)
 
-  by_tells : (d s : ℕ) → Told d s → IfSome (named_of (is_synced []) (changes_of told d s)) (λ bytes. bytes ≡ committed d s)
+  by_tells : (d s : ℕ) → Told d s → IfSome (named_of (is_synced []) (changes_of_slot told d s)) (λ bytes. bytes ≡ committed d s)
   by_tells d s (inl none) = subst (λ (changes : List Record). IfSome (named_of (is_synced []) changes) (λ bytes. bytes ≡ committed d s)) (sym none) tt
   by_tells d s (inr is) = subst (λ (changes : List Record). IfSome (named_of (is_synced []) changes) (λ bytes. bytes ≡ committed d s)) (sym is.2.1) (first is.0 d s is.1 is.2.0)
 
-  not_by : (u d s : ℕ) → touches u d s ≡ None → Told d s → list_any (is_by u) (changes_of told d s) ≡ false
+  not_by : (u d s : ℕ) → touches u d s ≡ None → Told d s → list_any (is_by u) (changes_of_slot told d s) ≡ false
   not_by u d s none (inl no_change) = ap (λ (changes : List Record). list_any (is_by u) changes) no_change
   not_by u d s none (inr is) =
       ap (λ (changes : List Record). list_any (is_by u) changes) is.2.1
@@ -47,11 +47,11 @@ module _ (told : List Record) (may_sync : ℕ → Bool) (touches : Touches) (com
     others = λ u d s may none. ap (λ (changes : List Record). list_any (is_by u) changes) (alone_is d s) ∙ not_by u d s none (tells.each d s);
   }
 
-  some_change : (u d s : ℕ) (t : Touch) → touches u d s ≡ Some t → changes_of told d s ≡ [] → ⊥
+  some_change : (u d s : ℕ) (t : Touch) → touches u d s ≡ Some t → changes_of_slot told d s ≡ [] → ⊥
   some_change u d s t is none = let clash : Change u d s t.first t.present ∷ [] ≡ [] = sym (tells.all u d s t is) ∙ none in cc
 
   -- a slot that it doesn't tell of is touched by no open unit
-  pub none_told : (d s : ℕ) → changes_of (told ++ []) d s ≡ [] → (unit : ℕ) → touches unit d s ≡ None
+  pub none_told : (d s : ℕ) → changes_of_slot (told ++ []) d s ≡ [] → (unit : ℕ) → touches unit d s ≡ None
   none_told d s none unit = by_touch (touches unit d s) refl where
     by_touch : (o : Option Touch) → touches unit d s ≡ o → o ≡ None
     by_touch None is = refl

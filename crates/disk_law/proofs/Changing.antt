@@ -12,17 +12,17 @@ use Rattle.tm_types.specs.declared.dbd.Dbd.{Dbd}
 use Rattle.tm_disk.specs.Disk.{Image}
 use Rattle.model_system.specs.System.{System}
 use Rattle.log_records.specs.declared.record.Record.{Record}
-use Rattle.log_records.specs.Spelling.{spelling, IsRecord}
+use Rattle.log_records.specs.RecordSpelling.{record_spelling, IsLogRecord}
 use Rattle.log_records.proofs.Takes.{IsBytes}
 use Rattle.model_image.specs.Slots.{is_change_of, is_sync_point_of, is_synced, is_image, are_images, is_image_of, named_by}
-use Rattle.image_law.specs.Records.{is_change}
+use Rattle.image_law.specs.Records.{is_change_record}
 use Rattle.image_law.proofs.Bools.{first_of, second_of, neither_first}
 use Rattle.image_law.proofs.Lists.{all_more}
-use Rattle.disk_law.specs.Committed.{Touch, Touches, Bytes, changes_of, IsLast, AreCommitted, is_place, touched}
+use Rattle.disk_law.specs.CommittedBytes.{Touch, Touches, Bytes, changes_of_slot, IsLast, AreCommitted, is_place, touched}
 use Rattle.disk_law.proofs.Slots.{change_keeps, ended_keeps}
-use Rattle.disk_law.specs.Life.{LifeOnDisk, IsLife, AreBeside}
-use Rattle.disk_law.specs.Kept.{IsKept, StandsAt}
-use Rattle.disk_law.specs.Changes.{SlotChange, change_record, with_slot_change, MayChange, with_slot_changes, MayChangeAll, without_unit, MarksBack}
+use Rattle.disk_law.specs.Life.{LifeOnDisk, IsLifeOnDisk, AreBeside}
+use Rattle.disk_law.specs.KeptImages.{IsImageKept, StandsAt}
+use Rattle.disk_law.specs.SlotChanges.{SlotChange, change_record, with_slot_change, MayChange, with_slot_changes, MayChangeAll, life_without_unit, MarksBack}
 use Rattle.disk_law.proofs.Naming.{all_behind, unnamed_changes, named_stays}
 use Rattle.disk_law.proofs.Front.{all_both}
 
@@ -33,10 +33,10 @@ bytes_both [] ys one other i = other i
 bytes_both (x ∷ xs) ys one other zero = one zero
 bytes_both (x ∷ xs) ys one other (suc i) = bytes_both xs ys (λ j. one (suc j)) other i
 
-pub spelled_more : (records : List Record) (r : Record) → flat_map spelling (records ++ r ∷ []) ≡ flat_map spelling records ++ spelling r
+pub spelled_more : (records : List Record) (r : Record) → flat_map record_spelling (records ++ r ∷ []) ≡ flat_map record_spelling records ++ record_spelling r
 spelled_more records r =
-    flat_map-append spelling records (r ∷ [])
-    ∙ ap (λ (l : List ℕ). flat_map spelling records ++ l) (flat_map-cons spelling r [] ∙ append-nil (spelling r))
+    flat_map-append record_spelling records (r ∷ [])
+    ∙ ap (λ (l : List ℕ). flat_map record_spelling records ++ l) (flat_map-cons record_spelling r [] ∙ append-nil (record_spelling r))
 
 -- ---- places of slots
 
@@ -95,7 +95,7 @@ last_some xs r false is e = cc
 pub named_last : (snapshot log : List Record) (r : Record) (d s : ℕ) → is_change_of d s r ≡ true → IsSome (named_by snapshot (log ++ r ∷ []) d s)
 named_last snapshot log r d s is =
     by_some (named_by snapshot (log ++ r ∷ []) d s)
-    (λ none. last_some (changes_of (snapshot ++ log) d s) r (is_change_of d s r) is (sym (all_behind snapshot log (r ∷ []) d s) ∙ unnamed_changes snapshot (log ++ r ∷ []) d s none))
+    (λ none. last_some (changes_of_slot (snapshot ++ log) d s) r (is_change_of d s r) is (sym (all_behind snapshot log (r ∷ []) d s) ∙ unnamed_changes snapshot (log ++ r ∷ []) d s none))
 
 no_last : (unit : ℕ) (present : List ℕ) (changes : List Record) → IsLast unit present (slice_get (reverse changes) 0) → changes ≡ [] → ⊥
 no_last unit present changes last none = subst (λ (l : List Record). IsLast unit present (slice_get (reverse l) 0)) none last
@@ -104,11 +104,11 @@ no_last unit present changes last none = subst (λ (l : List Record). IsLast uni
 pub touched_named : (snapshot log : List Record) (may_sync : ℕ → Bool) (touches : Touches) (committed : Bytes) → AreCommitted snapshot log may_sync touches committed → (unit d s : ℕ) (t : Touch) → touches unit d s ≡ Some t → IsSome (named_by snapshot log d s)
 touched_named snapshot log may_sync touches committed c unit d s t is =
     by_some (named_by snapshot log d s)
-    (λ none. no_last unit t.present (changes_of (snapshot ++ log) d s) (c.last unit d s t is) (unnamed_changes snapshot log d s none))
+    (λ none. no_last unit t.present (changes_of_slot (snapshot ++ log) d s) (c.last unit d s t is) (unnamed_changes snapshot log d s none))
 
 -- ---- a change
 
-module _ (unit : ℕ) (c : SlotChange) (life : LifeOnDisk) (l : IsLife life) (may : MayChange unit c life) where
+module _ (unit : ℕ) (c : SlotChange) (life : LifeOnDisk) (l : IsLifeOnDisk life) (may : MayChange unit c life) where
   abbrev pub life_after : LifeOnDisk
   life_after = with_slot_change unit c life
 
@@ -189,16 +189,16 @@ module _ (unit : ℕ) (c : SlotChange) (life : LifeOnDisk) (l : IsLife life) (ma
         l.slots.untouched place number dbd found below both.1 ∙ sym (ap (λ b. if b then c.after else life.present (place + 1) number) both.0);
   }
 
-  pub change_life : IsLife life_after
+  pub change_life : IsLifeOnDisk life_after
   change_life = record {
     in_range = l.in_range;
     few = l.few;
     writer = record { first = l.writer.first; count = l.writer.count; sequence = l.writer.sequence; epoch = l.writer.epoch };
     appended = record {
       fits = may.fits;
-      spelled = ap (λ (b : List ℕ). b ++ spelling its_record) l.appended.spelled ∙ sym (spelled_more life.appended its_record);
-      records = all_both IsRecord life.appended (its_record ∷ []) l.appended.records (may.is_record, tt);
-      changes = filter-append (λ r. not (is_change r)) life.appended (its_record ∷ []) ∙ ap (λ (rs : List Record). rs ++ []) l.appended.changes;
+      spelled = ap (λ (b : List ℕ). b ++ record_spelling its_record) l.appended.spelled ∙ sym (spelled_more life.appended its_record);
+      records = all_both IsLogRecord life.appended (its_record ∷ []) l.appended.records (may.is_record, tt);
+      changes = filter-append (λ r. not (is_change_record r)) life.appended (its_record ∷ []) ∙ ap (λ (rs : List Record). rs ++ []) l.appended.changes;
       images = all_more (is_image_of life.system) life.appended its_record l.appended.images may.image;
     };
     sound = l.sound;
@@ -206,7 +206,7 @@ module _ (unit : ℕ) (c : SlotChange) (life : LifeOnDisk) (l : IsLife life) (ma
     slots = beside_after;
   }
 
-  module _ (a : Image) (k : IsKept life a) where
+  module _ (a : Image) (k : IsImageKept life a) where
     abbrev so_far : List Record
     so_far = k.log ++ life.appended
 
@@ -234,7 +234,7 @@ module _ (unit : ℕ) (c : SlotChange) (life : LifeOnDisk) (l : IsLife life) (ma
         subst (λ (records : List Record). IsSome (named_by k.snapshot records d s)) joined (named_stays k.snapshot so_far (its_record ∷ []) d s some)
 
     -- A unit changes a slot.
-    pub change_kept : IsKept life_after a
+    pub change_kept : IsImageKept life_after a
     change_kept = record {
       restart = k.restart;
       has_text = k.has_text;
@@ -244,8 +244,8 @@ module _ (unit : ℕ) (c : SlotChange) (life : LifeOnDisk) (l : IsLife life) (ma
       has_log = k.has_log;
       records = k.records;
       bytes =
-          subst IsBytes (sym (spelled_more so_far its_record) ∙ ap (λ (records : List Record). flat_map spelling records) joined)
-          (bytes_both (flat_map spelling so_far) (spelling its_record) k.bytes may.bytes);
+          subst IsBytes (sym (spelled_more so_far its_record) ∙ ap (λ (records : List Record). flat_map record_spelling records) joined)
+          (bytes_both (flat_map record_spelling so_far) (record_spelling its_record) k.bytes may.bytes);
       lasts = k.lasts;
       open_yet =
           list_any-append (is_synced k.log) life.appended (its_record ∷ [])
@@ -269,20 +269,20 @@ module _ (unit : ℕ) (c : SlotChange) (life : LifeOnDisk) (l : IsLife life) (ma
       by_here_named place number dbd found below false here changed = there_named (place + 1) number (k.named place number dbd found below changed)
 
 -- one change after another
-pub changes_life : (unit : ℕ) (changes : List SlotChange) (life : LifeOnDisk) → IsLife life → MayChangeAll unit changes life → IsLife (with_slot_changes unit changes life)
+pub changes_life : (unit : ℕ) (changes : List SlotChange) (life : LifeOnDisk) → IsLifeOnDisk life → MayChangeAll unit changes life → IsLifeOnDisk (with_slot_changes unit changes life)
 changes_life unit [] life l may = l
 changes_life unit (c ∷ changes) life l may = changes_life unit changes (with_slot_change unit c life) (change_life unit c life l may.0) may.1
 
-pub changes_kept : (unit : ℕ) (changes : List SlotChange) (life : LifeOnDisk) → IsLife life → MayChangeAll unit changes life → (a : Image) → IsKept life a → IsKept (with_slot_changes unit changes life) a
+pub changes_kept : (unit : ℕ) (changes : List SlotChange) (life : LifeOnDisk) → IsLifeOnDisk life → MayChangeAll unit changes life → (a : Image) → IsImageKept life a → IsImageKept (with_slot_changes unit changes life) a
 changes_kept unit [] life l may a k = k
 changes_kept unit (c ∷ changes) life l may a k =
     changes_kept unit changes (with_slot_change unit c life) (change_life unit c life l may.0) may.1 a (change_kept unit c life l may.0 a k)
 
 -- ---- the end of a unit without a sync point
 
-module _ (unit : ℕ) (changed : ℕ → ℕ → Bool) (life : LifeOnDisk) (l : IsLife life) (marks : MarksBack unit changed life) where
+module _ (unit : ℕ) (changed : ℕ → ℕ → Bool) (life : LifeOnDisk) (l : IsLifeOnDisk life) (marks : MarksBack unit changed life) where
   abbrev pub life_without : LifeOnDisk
-  life_without = without_unit unit changed life
+  life_without = life_without_unit unit changed life
 
   still : (one d s : ℕ) (t : Touch) (b : Bool) → (if b then None else life.touches one d s) ≡ Some t → life.touches one d s ≡ Some t
   still one d s t true is = cc
@@ -310,7 +310,7 @@ module _ (unit : ℕ) (changed : ℕ → ℕ → Bool) (life : LifeOnDisk) (l : 
   put_is place number dbd found below none (Some t) is = sym (l.slots.firsts unit (place + 1) number t is)
   put_is place number dbd found below none None is = l.slots.untouched place number dbd found below (all_none (place + 1) number none is)
 
-  pub without_life : IsLife life_without
+  pub without_life : IsLifeOnDisk life_without
   without_life = record {
     in_range = l.in_range;
     few = l.few;
@@ -328,7 +328,7 @@ module _ (unit : ℕ) (changed : ℕ → ℕ → Bool) (life : LifeOnDisk) (l : 
     };
   }
 
-  module _ (a : Image) (k : IsKept life a) where
+  module _ (a : Image) (k : IsImageKept life a) where
     changed_named : (place number : ℕ) (dbd : Dbd) → slice_get life.system.databases place ≡ Some dbd → number < dbd.roots → changed (place + 1) number ≡ true → (o : Option Touch) → life.touches unit (place + 1) number ≡ o →
         IsSome (named_by k.snapshot (k.log ++ life.appended) (place + 1) number)
     changed_named place number dbd found below is None none = k.named place number dbd found below (marks.only place number dbd found below is none)
@@ -336,7 +336,7 @@ module _ (unit : ℕ) (changed : ℕ → ℕ → Bool) (life : LifeOnDisk) (l : 
         touched_named k.snapshot (k.log ++ life.appended) life.may_sync life.touches life.committed k.slots unit (place + 1) number t there
 
     -- It ends, with its slots put back.
-    pub without_kept : IsKept life_without a
+    pub without_kept : IsImageKept life_without a
     without_kept = record {
       restart = k.restart;
       has_text = k.has_text;

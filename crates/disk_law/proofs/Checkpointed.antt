@@ -7,46 +7,46 @@ use Rattle.tm_disk.specs.Disk.{Image, sector_at}
 use Rattle.model_data.specs.Record as rows
 use Rattle.model_machine.specs.Machine.{LastingState}
 use Rattle.log_records.specs.declared.record.Record.{Record}
-use Rattle.log_records.specs.Spelling.{spelling, IsRecord}
-use Rattle.log_records.specs.Reading.{◌>>=◌}
+use Rattle.log_records.specs.RecordSpelling.{record_spelling, IsLogRecord}
+use Rattle.log_records.specs.RecordReader.{◌>>=◌}
 use Rattle.log_records.proofs.Takes.{IsBytes}
-use Rattle.log_sectors.specs.Chain.{joined}
-use Rattle.log_writer.specs.Log.{log_of, sectors_of, AddsFront}
-use Rattle.restart_data.specs.Rules.{unless_broken}
+use Rattle.log_sectors.specs.Chain.{joined_payloads}
+use Rattle.log_writer.specs.ForcedLog.{log_of_writer, log_sectors_of, AddsFront}
+use Rattle.restart_data.specs.Rules.{unless_rule_broken}
 use Rattle.seg_store.specs.Slots.{Stored, AreSlots}
-use Rattle.seg_store.specs.Changed.{AllStores}
+use Rattle.seg_store.specs.ChangedSlots.{AllStores}
 use Rattle.seg_store.specs.DataSectors.{data_sector}
-use Rattle.model_image.specs.Ahead.{NoneAhead}
+use Rattle.model_image.specs.SectorsAhead.{NoneAhead}
 use Rattle.model_image.specs.Areas.{snapshot_area, snapshot_first, log_first, data_first}
-use Rattle.model_image.specs.Cut.{Cut, cut_of, where_none_left, records_of}
+use Rattle.model_image.specs.CutRecords.{Cut, cut_of, where_none_left, records_cut}
 use Rattle.model_image.specs.Faults.{Fault, in_sector, unless_any, or_fault}
-use Rattle.model_image.specs.Holding.{HoldsBytes}
+use Rattle.model_image.specs.HeldStores.{HoldsBytes}
 use Rattle.model_image.specs.Slots.{named_by}
 use Rattle.model_image.specs.Snapshot.{snapshot_rules}
-use Rattle.model_image.specs.Recovered.{snapshot_from, Recovers}
+use Rattle.model_image.specs.RecoveredState.{snapshot_from, Recovers}
 use Rattle.model_image.proofs.Ahead.{ahead_more, ahead_empty}
 use Rattle.model_image.proofs.Alike.{IsSlotOf}
 use Rattle.model_image.proofs.Answers.{one_answer_of}
 use Rattle.model_image.proofs.Cutting.{records_whole}
 use Rattle.model_image.proofs.Places.{snapshot_below, log_above, log_below, slot_above, one_slot}
 use Rattle.model_image.proofs.Readings as readings
-use Rattle.disk_law.specs.Committed.{Touches}
-use Rattle.checkpointing.specs.Parts.{CheckpointParts, AreFree, IsOver, sequence_behind, next_restart}
-use Rattle.checkpointing.specs.Written.{DirtySlot, DirtyAt}
+use Rattle.disk_law.specs.CommittedBytes.{Touches}
+use Rattle.checkpointing.specs.CheckpointParts.{CheckpointParts, AreAreasFree, IsOver, sequence_behind, next_restart}
+use Rattle.checkpointing.specs.DirtySlots.{DirtySlot, DirtyAt}
 use Rattle.checkpointing.specs.Checkpoint.{KeepsRecovery, InArea, IsCheckpointed}
 use Rattle.checkpointing.proofs.Keeping.{Stands, next_restart_in, next_ahead}
 use Rattle.checkpointing.proofs.Facts.{later_behind}
 use Rattle.checkpointing.proofs.Slots.{dirty_slot}
-use Rattle.disk_law.specs.Life.{LifeOnDisk, IsLife, EachSlot}
-use Rattle.disk_law.specs.Kept.{IsKept, StandsAt}
+use Rattle.disk_law.specs.Life.{LifeOnDisk, IsLifeOnDisk, EachSlot}
+use Rattle.disk_law.specs.KeptImages.{IsImageKept, StandsAt}
 use Rattle.disk_law.proofs.Naming.{unnamed_changes}
-use Rattle.disk_law.proofs.SlotsRead.{data_holds}
 use Rattle.disk_law.proofs.Recovering.{all_at}
 use Rattle.disk_law.proofs.Forcing.{text_same}
 use Rattle.disk_law.proofs.Front.{all_both, recovers, front_recovers}
-use Rattle.disk_law.specs.Checkpointing.{is_changed, parts_with, MayCheckpoint, after_checkpoint}
+use Rattle.disk_law.specs.LifeCheckpoint.{is_slot_changed, parts_with, MayCheckpoint, after_checkpoint}
 use Rattle.disk_law.proofs.Anew.{begins_anew, none_told}
 use Rattle.disk_law.proofs.Stored.{store_of, bytes_of_store, slot_short, dirty_changed, changed_dirty}
+use Rattle.image_loading.proofs.Held.{data_holds}
 
 cut_is : (cut : Cut) (records : List Record) → where_none_left cut.rest cut.records ≡ Some records → cut.records ≡ records
 cut_is cut records is = by_rest cut.rest is where
@@ -60,37 +60,37 @@ read_as records = Ok records
 one_value : (a b : List Record) → read_as a ≡ read_as b → a ≡ b
 one_value a b e = cc
 
-no_bytes : IsBytes []
+pub no_bytes : IsBytes []
 no_bytes i = nothing i where
   nothing : (i : ℕ) → get_or [] i 0 < 256
   nothing i = omega arith
 
-module _ (bytes : List ℕ) (stores : AllStores) (touches : Touches) (told : List Record) (life : LifeOnDisk) (l : IsLife life) (may : MayCheckpoint bytes stores touches told life) where
+module _ (bytes : List ℕ) (stores : AllStores) (touches : Touches) (told : List Record) (life : LifeOnDisk) (l : IsLifeOnDisk life) (may : MayCheckpoint bytes stores touches told life) where
   abbrev parts : CheckpointParts
   parts = parts_with bytes life
 
-  free : AreFree parts
+  free : AreAreasFree parts
   free = record { snapshot_at = refl; snapshot_sectors = refl; log_at = refl; log_sectors = refl }
 
   over : IsOver parts life.log
   over = record { first = l.writer.first; count = l.writer.count; sequence = l.writer.sequence; epoch = l.writer.epoch }
 
-  module _ (a : Image) (k : IsKept life a) where
+  module _ (a : Image) (k : IsImageKept life a) where
     -- ---- what it asks for
 
-    same_records : (cut_of (log_of life.log a ++ life.log.appended)).records ≡ k.log ++ life.appended
+    same_records : (cut_of (log_of_writer life.log a ++ life.log.appended)).records ≡ k.log ++ life.appended
     same_records =
-        let valid = all_both IsRecord k.log life.appended k.records l.appended.records in
-        let same : log_of life.log a ++ life.log.appended ≡ flat_map spelling (k.log ++ life.appended) =
-        ap (λ (old : List ℕ). old ++ life.log.appended) k.has_log ∙ ap (λ (new : List ℕ). flat_map spelling k.log ++ new) l.appended.spelled ∙ sym (flat_map-append spelling k.log life.appended) in
-        ap (λ (b : List ℕ). (cut_of b).records) same ∙ cut_is (cut_of (flat_map spelling (k.log ++ life.appended))) (k.log ++ life.appended) (records_whole (k.log ++ life.appended) valid)
+        let valid = all_both IsLogRecord k.log life.appended k.records l.appended.records in
+        let same : log_of_writer life.log a ++ life.log.appended ≡ flat_map record_spelling (k.log ++ life.appended) =
+        ap (λ (old : List ℕ). old ++ life.log.appended) k.has_log ∙ ap (λ (new : List ℕ). flat_map record_spelling k.log ++ new) l.appended.spelled ∙ sym (flat_map-append record_spelling k.log life.appended) in
+        ap (λ (b : List ℕ). (cut_of b).records) same ∙ cut_is (cut_of (flat_map record_spelling (k.log ++ life.appended))) (k.log ++ life.appended) (records_whole (k.log ++ life.appended) valid)
 
     -- Each slot that was changed is named.
-    pub changed_named : (snapshot : List Record) → snapshot_from life.system a life.now ≡ Ok snapshot → (place number : ℕ) → DirtySlot stores place number → IsSome (named_by snapshot (cut_of (log_of life.log a ++ life.log.appended)).records (place + 1) number)
+    pub changed_named : (snapshot : List Record) → snapshot_from life.system a life.now ≡ Ok snapshot → (place number : ℕ) → DirtySlot stores place number → IsSome (named_by snapshot (cut_of (log_of_writer life.log a ++ life.log.appended)).records (place + 1) number)
     changed_named snapshot read place number slot =
         let of_ = dirty_slot life.system stores may.slots.are_of place number slot in
         let changed : life.changed (place + 1) number ≡ true = may.slots.changed place number of_.dbd of_.found of_.below ∙ dirty_changed stores place number slot in
-        subst (λ (s : List Record). IsSome (named_by s (cut_of (log_of life.log a ++ life.log.appended)).records (place + 1) number)) (one_value k.snapshot snapshot (sym k.has_snapshot ∙ read))
+        subst (λ (s : List Record). IsSome (named_by s (cut_of (log_of_writer life.log a ++ life.log.appended)).records (place + 1) number)) (one_value k.snapshot snapshot (sym k.has_snapshot ∙ read))
         (subst (λ (rs : List Record). IsSome (named_by k.snapshot rs (place + 1) number)) (sym same_records) (k.named place number of_.dbd of_.found of_.below changed))
 
     pub stands : Stands parts life.log stores a
@@ -114,7 +114,7 @@ module _ (bytes : List ℕ) (stores : AllStores) (touches : Touches) (told : Lis
       kept : readings.IsKept (snapshot_area life.system) life.now
       kept = readings.restart_kept (snapshot_area life.system) (sector_at a 0) life.now k.restart
 
-      log_end : (life.log.first + life.log.place) + sectors_of (length life.log.appended) ≤ log_first life.system 2
+      log_end : (life.log.first + life.log.place) + log_sectors_of (length life.log.appended) ≤ log_first life.system 2
       log_end = omega (arith, l.appended.fits, l.writer.first, l.writer.count, log_below life.system life.now.log kept.log)
 
       text_stays : (i : ℕ) → 1 ≤ i → i < 65 → sector_at e i ≡ sector_at a i
@@ -125,7 +125,7 @@ module _ (bytes : List ℕ) (stores : AllStores) (touches : Touches) (told : Lis
           (λ others.
           ⊎_elim (λ (in_ : InArea parts.snapshot_at parts.snapshot_sectors i). absurd (omega (arith, in_.low, high)))
           (λ more.
-          ⊎_elim (λ (in_ : InArea (life.log.first + life.log.place) (sectors_of (length life.log.appended)) i). absurd (omega (arith, in_.low, high, l.writer.first)))
+          ⊎_elim (λ (in_ : InArea (life.log.first + life.log.place) (log_sectors_of (length life.log.appended)) i). absurd (omega (arith, in_.low, high, l.writer.first)))
           (λ (dirty : DirtyAt life.system stores i). absurd (omega (arith, dirty.sector, high, slot_above life.system dirty.place dirty.number)))
           more)
           others)
@@ -133,7 +133,7 @@ module _ (bytes : List ℕ) (stores : AllStores) (touches : Touches) (told : Lis
           (done.elsewhere i)
 
       -- a slot that wasn't changed stands as it did
-      unchanged_stays : (place number : ℕ) → IsSlotOf life.system place number → is_changed stores.changed place number ≡ false → sector_at e (data_first life.system place + number) ≡ sector_at a (data_first life.system place + number)
+      unchanged_stays : (place number : ℕ) → IsSlotOf life.system place number → is_slot_changed stores.changed place number ≡ false → sector_at e (data_first life.system place + number) ≡ sector_at a (data_first life.system place + number)
       unchanged_stays place number slot unchanged =
           let at : ℕ = data_first life.system place + number in
           let above : log_first life.system 2 ≤ at = slot_above life.system place number in
@@ -143,11 +143,11 @@ module _ (bytes : List ℕ) (stores : AllStores) (touches : Touches) (told : Lis
           (λ others.
           ⊎_elim (λ (in_ : InArea parts.snapshot_at parts.snapshot_sectors at). absurd (omega (arith, in_.high, above, snapshot_below life.system (1 - life.now.snapshot) (omega arith), log_above life.system 2)))
           (λ more.
-          ⊎_elim (λ (in_ : InArea (life.log.first + life.log.place) (sectors_of (length life.log.appended)) at). absurd (omega (arith, in_.high, above, log_end)))
+          ⊎_elim (λ (in_ : InArea (life.log.first + life.log.place) (log_sectors_of (length life.log.appended)) at). absurd (omega (arith, in_.high, above, log_end)))
           (λ (dirty : DirtyAt life.system stores at).
           let one = one_slot life.system dirty.place dirty.number place number (dirty_slot life.system stores may.slots.are_of dirty.place dirty.number dirty.slot) slot (sym dirty.sector) in
-          let is : is_changed stores.changed place number ≡ true =
-          ap (λ p. is_changed stores.changed p number) (sym one.place) ∙ ap (is_changed stores.changed dirty.place) (sym one.number) ∙ dirty_changed stores dirty.place dirty.number dirty.slot in
+          let is : is_slot_changed stores.changed place number ≡ true =
+          ap (λ p. is_slot_changed stores.changed p number) (sym one.place) ∙ ap (is_slot_changed stores.changed dirty.place) (sym one.number) ∙ dirty_changed stores dirty.place dirty.number dirty.slot in
           absurd (let clash : true ≡ false = sym is ∙ unchanged in cc))
           more)
           others)
@@ -156,8 +156,8 @@ module _ (bytes : List ℕ) (stores : AllStores) (touches : Touches) (told : Lis
 
       -- each slot stands in its sector as in the stores
       all_stand : EachSlot life.system (λ place number. StandsAt life.system e place number (life.present (place + 1) number))
-      all_stand place number dbd found below = by_changed (is_changed stores.changed place number) refl where
-        by_changed : (b : Bool) → is_changed stores.changed place number ≡ b → StandsAt life.system e place number (life.present (place + 1) number)
+      all_stand place number dbd found below = by_changed (is_slot_changed stores.changed place number) refl where
+        by_changed : (b : Bool) → is_slot_changed stores.changed place number ≡ b → StandsAt life.system e place number (life.present (place + 1) number)
         by_changed true is =
             let of_ = store_of stores.stores life.system.databases place dbd may.slots.are_of.databases found in
             let dirty = changed_dirty stores place number of_.store of_.found is in
@@ -166,8 +166,8 @@ module _ (bytes : List ℕ) (stores : AllStores) (touches : Touches) (told : Lis
             let image = slice_index_or of_.store.slots number [] in
             let short = slot_short of_.store number (all_at (λ (s : Stored). AreSlots s.dbd s.slots) stores.stores place of_.store may.slots.valid of_.found) (all_at (λ (s : Stored). s.dbd.sectors ≤ 1) stores.stores place of_.store may.slots.are_of.one_sector of_.found) in
             subst (λ (v : List ℕ). StandsAt life.system e place number v) (sym (may.slots.present place number dbd found below ∙ bytes_of_store stores.stores place number of_.store of_.found))
-            (subst (λ (sector : List ℕ). HoldsBytes (rows.spelling image) sector) (sym (done.slots place number dirty ∙ ap (λ (s : Stored). data_sector (rows.spelling (slice_index_or s.slots number []))) store))
-            (data_holds (rows.spelling image) short))
+            (subst (λ (sector : List ℕ). HoldsBytes (rows.rows_spelling image) sector) (sym (done.slots place number dirty ∙ ap (λ (s : Stored). data_sector (rows.rows_spelling (slice_index_or s.slots number []))) store))
+            (data_holds (rows.rows_spelling image) short))
         by_changed false is =
             subst (λ (sector : List ℕ). HoldsBytes (life.present (place + 1) number) sector) (sym (unchanged_stays place number (record { dbd = dbd; found = found; below = below }) is))
             (k.written place number dbd found below (may.slots.changed place number dbd found below ∙ is))
@@ -175,28 +175,28 @@ module _ (bytes : List ℕ) (stores : AllStores) (touches : Touches) (told : Lis
       pub has_snapshot : snapshot_from life.system e now_after ≡ Ok told
       has_snapshot =
           let first : ℕ = snapshot_first life.system now_after.snapshot in
-          ap (λ (read : Result (List ℕ) Fault). read >>= λ b. or_fault (10, first) (records_of b) >>= λ found. unless_any first (snapshot_rules life.system found) found) done.snapshot
+          ap (λ (read : Result (List ℕ) Fault). read >>= λ b. or_fault (10, first) (records_cut b) >>= λ found. unless_any first (snapshot_rules life.system found) found) done.snapshot
           ∙ ap (λ (found : Option (List Record)). or_fault (10, first) found >>= λ found. unless_any first (snapshot_rules life.system found) found) may.is_snapshot.cut
-          ∙ ap (λ (broken : Option ℕ). in_sector first (unless_broken broken told)) may.is_snapshot.unbroken
+          ∙ ap (λ (broken : Option ℕ). in_sector first (unless_rule_broken broken told)) may.is_snapshot.unbroken
 
       pub none_ahead_after : NoneAhead life.system e life.now.epoch (sequence_behind life.log)
       none_ahead_after = next_ahead parts life.log stores a stands e done ahead_behind
 
-      slots_after : Rattle.disk_law.specs.Committed.AreCommitted told [] life.may_sync touches life.committed
+      slots_after : Rattle.disk_law.specs.CommittedBytes.AreCommitted told [] life.may_sync touches life.committed
       slots_after =
           begins_anew told life.may_sync touches life.committed may.is_snapshot.tells
           (λ unit d s t is. k.slots.live unit d s t (may.forgets.kept unit d s t is))
           (λ unit d s t is. may.forgets.slots.firsts unit d s t is)
 
       -- It is an image of the life behind it.
-      pub checkpoint_kept : IsKept (after_checkpoint bytes touches life) e
+      pub checkpoint_kept : IsImageKept (after_checkpoint bytes touches life) e
       checkpoint_kept = record {
         restart = next_restart_in parts life.log stores a stands e done;
         has_text = text_same a e life.now.text text_stays ∙ k.has_text;
         snapshot = told;
         log = [];
         has_snapshot = has_snapshot;
-        has_log = ap joined (ahead_empty life.system e life.now.epoch (sequence_behind life.log) (1 - life.now.log) none_ahead_after (omega arith) (omega (arith, may.next.sequence.1)));
+        has_log = ap joined_payloads (ahead_empty life.system e life.now.epoch (sequence_behind life.log) (1 - life.now.log) none_ahead_after (omega arith) (omega (arith, may.next.sequence.1)));
         records = tt;
         bytes = no_bytes;
         lasts = ap (λ (lasting : LastingState). Some (record { lasting = lasting; waiting = [] })) may.is_snapshot.state_is;
@@ -217,7 +217,7 @@ module _ (bytes : List ℕ) (stores : AllStores) (touches : Touches) (told : Lis
       }
 
   -- The parts of the life behind it agree.
-  pub checkpoint_life : IsLife (after_checkpoint bytes touches life)
+  pub checkpoint_life : IsLifeOnDisk (after_checkpoint bytes touches life)
   checkpoint_life = record {
     in_range = may.next;
     few = l.few;
@@ -229,7 +229,7 @@ module _ (bytes : List ℕ) (stores : AllStores) (touches : Touches) (told : Lis
   }
 
   -- And so, whatever the image before recovers to, the one behind does.
-  pub snapshot_keeps : (a e : Image) → IsKept life a → IsCheckpointed parts life.log stores a e → KeepsRecovery life.system a e
+  pub snapshot_keeps : (a e : Image) → IsImageKept life a → IsCheckpointed parts life.log stores a e → KeepsRecovery life.system a e
   snapshot_keeps a e k done state recovered =
       subst (λ (answer : Result LastingState Fault). Recovers life.system e answer)
       (one_answer_of life.system a (Ok life.lasting) (Ok state) (recovers life l a k) recovered)

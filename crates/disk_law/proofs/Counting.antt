@@ -1,50 +1,50 @@
 -- What images count on while records are forced behind a life's log.
 use Rattle.std.proofs.Common.{◌≡◌, ℕ, zero, suc, ◌+◌, ◌-◌, ◌<◌, ◌≤◌, List, [], ◌∷◌, ◌++◌, length, get_or, take, max, refl, sym, ◌∙◌, ap, subst, inl, inr, arith, append_assoc, append-nil, Some, Ok}
-use Rattle.std.specs.Prelude.{Option, Result}
+use Rattle.std.specs.Prelude.{Result}
 use Rattle.std.specs.List.{flat_map, AllByRecursion}
 use Rattle.std.proofs.lemmas.Grind.{flat_map-append}
 use Rattle.tm_disk.specs.Disk.{Image}
 use Rattle.model_system.specs.System.{System}
 use Rattle.log_records.specs.declared.record.Record.{Record}
-use Rattle.log_records.specs.Spelling.{spelling, IsRecord}
+use Rattle.log_records.specs.RecordSpelling.{record_spelling, IsLogRecord}
 use Rattle.log_records.proofs.Takes.{IsBytes}
 use Rattle.log_writer.specs.Writer.{Writer}
-use Rattle.log_writer.specs.Log.{log_of, sectors_of, AddsFront, AddsAll}
+use Rattle.log_writer.specs.ForcedLog.{log_of_writer, log_sectors_of, AddsFront, AddsAll}
 use Rattle.restart_data.specs.declared.restart.RestartSector.{RestartSector}
 use Rattle.restart_data.specs.Restart.{IsRestart, restart_in}
-use Rattle.model_image.specs.Ahead.{NoneAhead}
+use Rattle.model_image.specs.SectorsAhead.{NoneAhead}
 use Rattle.model_image.specs.Areas.{snapshot_area, log_first}
-use Rattle.model_image.specs.Counters.{unit_of, told_unit, greatest_unit}
-use Rattle.model_image.specs.Cut.{cut_of, where_none_left}
-use Rattle.model_image.specs.Recovered.{snapshot_from, log_in}
+use Rattle.model_image.specs.Counters.{unit_of_record, told_unit, greatest_unit}
+use Rattle.model_image.specs.CutRecords.{cut_of, where_none_left}
+use Rattle.model_image.specs.RecoveredState.{snapshot_from, log_in}
 use Rattle.model_image.proofs.Cutting.{records_whole}
 use Rattle.checkpointing.specs.Counts.{AreUpTo, CountsUpTo}
-use Rattle.checkpointing.specs.Parts.{CheckpointParts, next_restart, next_writer}
+use Rattle.checkpointing.specs.CheckpointParts.{CheckpointParts, next_restart, next_writer}
 use Rattle.checkpointing.specs.Checkpoint.{IsCheckpointed}
-use Rattle.checkpointing.specs.Steps.{Takes}
-use Rattle.checkpointing.proofs.Counted.{alike_up_to, begun_up_to, sequence_most}
+use Rattle.checkpointing.specs.CheckpointSteps.{Takes}
+use Rattle.checkpointing.proofs.Counted.{alike_up_to, begun_up_to, sequence_most, one_restart}
 use Rattle.checkpointing.proofs.Keeping.{all_front, is_checkpointed, next_restart_in, unread_images}
-use Rattle.seg_store.specs.Changed.{AllStores}
-use Rattle.disk_law.specs.Committed.{Touches}
-use Rattle.log_sectors.specs.Chain.{joined}
+use Rattle.seg_store.specs.ChangedSlots.{AllStores}
+use Rattle.disk_law.specs.CommittedBytes.{Touches}
+use Rattle.log_sectors.specs.Chain.{joined_payloads}
 use Rattle.model_image.proofs.Ahead.{ahead_empty}
-use Rattle.disk_law.specs.Checkpointing.{MayCheckpoint, parts_with}
+use Rattle.disk_law.specs.LifeCheckpoint.{MayCheckpoint, parts_with}
 use Rattle.disk_law.proofs.Checkpointed.{has_snapshot, none_ahead_after, stands}
-use Rattle.disk_law.specs.Life.{LifeOnDisk, IsLife, IsWriterOf}
-use Rattle.disk_law.specs.Kept.{IsKept}
-use Rattle.disk_law.specs.Changes.{with_bytes}
-use Rattle.disk_law.specs.Journal.{JournalState}
+use Rattle.disk_law.specs.Life.{LifeOnDisk, IsLifeOnDisk, IsWriterOf}
+use Rattle.disk_law.specs.KeptImages.{IsImageKept}
+use Rattle.disk_law.specs.SlotChanges.{with_bytes_behind}
+use Rattle.disk_law.specs.JournalState.{JournalState}
 use Rattle.disk_law.proofs.Changing.{bytes_both}
 use Rattle.disk_law.proofs.Forcing.{CutsBehind, restart_stays, snapshot_stays}
 use Rattle.disk_law.proofs.Front.{all_both, cut}
-use Rattle.disk_law.specs.Counted.{TellsUnits}
+use Rattle.disk_law.specs.UnitCounts.{TellsUnits}
 
 -- ---- units of records
 
 below_both : (n : ℕ) (xs ys : List Record) → greatest_unit xs < n → greatest_unit ys < n → greatest_unit (xs ++ ys) < n
 below_both n [] ys one other = other
 below_both n (r ∷ xs) ys one other =
-    both (unit_of r) (greatest_unit xs) (greatest_unit (xs ++ ys)) n one (λ less. below_both n xs ys less other)
+    both (unit_of_record r) (greatest_unit xs) (greatest_unit (xs ++ ys)) n one (λ less. below_both n xs ys less other)
   where
     both : (u a b m : ℕ) → max u a < m → (a < m → b < m) → max u b < m
     both u a b m one more = let rest = more (omega (arith, one)) in omega (arith, one, rest)
@@ -52,14 +52,14 @@ below_both n (r ∷ xs) ys one other =
 below_left : (n : ℕ) (xs ys : List Record) → greatest_unit (xs ++ ys) < n → greatest_unit xs < n
 below_left n [] ys all = omega (arith, all)
 below_left n (r ∷ xs) ys all =
-    left (unit_of r) (greatest_unit xs) (greatest_unit (xs ++ ys)) n all (λ less. below_left n xs ys less)
+    left (unit_of_record r) (greatest_unit xs) (greatest_unit (xs ++ ys)) n all (λ less. below_left n xs ys less)
   where
     left : (u a b m : ℕ) → max u b < m → (b < m → a < m) → max u a < m
     left u a b m one more = let rest = more (omega (arith, one)) in omega (arith, one, rest)
 
 below_right : (n : ℕ) (xs ys : List Record) → greatest_unit (xs ++ ys) < n → greatest_unit ys < n
 below_right n [] ys all = all
-below_right n (r ∷ xs) ys all = below_right n xs ys (right (unit_of r) (greatest_unit (xs ++ ys)) n all)
+below_right n (r ∷ xs) ys all = below_right n xs ys (right (unit_of_record r) (greatest_unit (xs ++ ys)) n all)
   where
     right : (u b m : ℕ) → max u b < m → b < m
     right u b m one = omega (arith, one)
@@ -68,7 +68,7 @@ below_take : (n k : ℕ) (xs : List Record) → greatest_unit xs < n → greates
 below_take n zero xs all = omega (arith, all)
 below_take n (suc k) [] all = all
 below_take n (suc k) (r ∷ xs) all =
-    front (unit_of r) (greatest_unit xs) (greatest_unit (take k xs)) n all (λ less. below_take n k xs less)
+    front (unit_of_record r) (greatest_unit xs) (greatest_unit (take k xs)) n all (λ less. below_take n k xs less)
   where
     front : (u a b m : ℕ) → max u a < m → (a < m → b < m) → max u b < m
     front u a b m one more = let rest = more (omega (arith, one)) in omega (arith, one, rest)
@@ -79,9 +79,9 @@ none_left : (rest : List ℕ) (records all : List Record) → where_none_left re
 none_left [] records all is = cc
 none_left (byte ∷ rest) records all is = cc
 
-pub cut_again : (records : List Record) → AllByRecursion IsRecord records → (cut_of (flat_map spelling records)).records ≡ records
+pub cut_again : (records : List Record) → AllByRecursion IsLogRecord records → (cut_of (flat_map record_spelling records)).records ≡ records
 cut_again records valid =
-    none_left (cut_of (flat_map spelling records)).rest (cut_of (flat_map spelling records)).records records (records_whole records valid)
+    none_left (cut_of (flat_map record_spelling records)).rest (cut_of (flat_map record_spelling records)).records records (records_whole records valid)
 
 none_cut : greatest_unit (cut_of []).records ≡ 0
 unfolding cut_of
@@ -90,30 +90,27 @@ none_cut = refl
 one_value : {E : Type 0} (x : Result (List Record) E) (r s : List Record) → x ≡ Ok r → x ≡ Ok s → r ≡ s
 one_value x r s one other = cc
 
-one_restart : {E : Type 0} (x : Result (Option RestartSector) E) (r s : RestartSector) → x ≡ Ok (Some r) → x ≡ Ok (Some s) → r ≡ s
-one_restart x r s one other = cc
-
 -- what a life has of its log
 abbrev pub log_kept : LifeOnDisk → Writer → JournalState
 log_kept life log = record { log = log; restart = life.now }
 
 -- ---- a life, with these records behind what it appended
 
-module _ (life : LifeOnDisk) (l : IsLife life) (a : Image) (k : IsKept life a) (next : ℕ) (tells : TellsUnits life.system (log_kept life life.log) next a) where
+module _ (life : LifeOnDisk) (l : IsLifeOnDisk life) (a : Image) (k : IsImageKept life a) (next : ℕ) (tells : TellsUnits life.system (log_kept life life.log) next a) where
   its_units : greatest_unit (k.log ++ life.appended) < next
   its_units =
       subst (λ (rs : List Record). greatest_unit rs < next)
-      (ap (λ (b : List ℕ). (cut_of b).records) (ap (λ (x : List ℕ). x ++ life.log.appended) k.has_log ∙ ap (λ (y : List ℕ). flat_map spelling k.log ++ y) l.appended.spelled ∙ sym (flat_map-append spelling k.log life.appended))
-      ∙ cut_again (k.log ++ life.appended) (all_both IsRecord k.log life.appended k.records l.appended.records))
+      (ap (λ (b : List ℕ). (cut_of b).records) (ap (λ (x : List ℕ). x ++ life.log.appended) k.has_log ∙ ap (λ (y : List ℕ). flat_map record_spelling k.log ++ y) l.appended.spelled ∙ sym (flat_map-append record_spelling k.log life.appended))
+      ∙ cut_again (k.log ++ life.appended) (all_both IsLogRecord k.log life.appended k.records l.appended.records))
       tells.log
 
   told : told_unit k.snapshot ≤ next
   told = tells.snapshot k.snapshot k.has_snapshot
 
-  module _ (records : List Record) (valid : AllByRecursion IsRecord records) (bytes : IsBytes (flat_map spelling records)) (fits : life.log.place + sectors_of (length (life.log.appended ++ flat_map spelling records)) ≤ life.log.count)
+  module _ (records : List Record) (valid : AllByRecursion IsLogRecord records) (bytes : IsBytes (flat_map record_spelling records)) (fits : life.log.place + log_sectors_of (length (life.log.appended ++ flat_map record_spelling records)) ≤ life.log.count)
       (more : ℕ) (later : next ≤ more) (fresh : greatest_unit records < more) where
     abbrev writer : Writer
-    writer = with_bytes (flat_map spelling records) life.log
+    writer = with_bytes_behind (flat_map record_spelling records) life.log
 
     over : IsWriterOf life.system life.now writer
     over = record { first = l.writer.first; count = l.writer.count; sequence = l.writer.sequence; epoch = l.writer.epoch }
@@ -121,11 +118,11 @@ module _ (life : LifeOnDisk) (l : IsLife life) (a : Image) (k : IsKept life a) (
     abbrev behind : List Record
     behind = life.appended ++ records
 
-    spelled : writer.appended ≡ flat_map spelling behind
-    spelled = ap (λ (b : List ℕ). b ++ flat_map spelling records) l.appended.spelled ∙ sym (flat_map-append spelling life.appended records)
+    spelled : writer.appended ≡ flat_map record_spelling behind
+    spelled = ap (λ (b : List ℕ). b ++ flat_map record_spelling records) l.appended.spelled ∙ sym (flat_map-append record_spelling life.appended records)
 
-    all_valid : AllByRecursion IsRecord behind
-    all_valid = all_both IsRecord life.appended records l.appended.records valid
+    all_valid : AllByRecursion IsLogRecord behind
+    all_valid = all_both IsLogRecord life.appended records l.appended.records valid
 
     all_below : greatest_unit (k.log ++ behind) < more
     all_below =
@@ -133,15 +130,15 @@ module _ (life : LifeOnDisk) (l : IsLife life) (a : Image) (k : IsKept life a) (
         subst (λ (rs : List Record). greatest_unit rs < more) (append_assoc k.log life.appended records)
         (below_both more (k.log ++ life.appended) records old fresh)
 
-    cut_all : (cut_of (log_of writer a ++ writer.appended)).records ≡ k.log ++ behind
+    cut_all : (cut_of (log_of_writer writer a ++ writer.appended)).records ≡ k.log ++ behind
     cut_all =
-        ap (λ (b : List ℕ). (cut_of b).records) (ap (λ (x : List ℕ). x ++ writer.appended) k.has_log ∙ ap (λ (y : List ℕ). flat_map spelling k.log ++ y) spelled ∙ sym (flat_map-append spelling k.log behind))
-        ∙ cut_again (k.log ++ behind) (all_both IsRecord k.log behind k.records all_valid)
+        ap (λ (b : List ℕ). (cut_of b).records) (ap (λ (x : List ℕ). x ++ writer.appended) k.has_log ∙ ap (λ (y : List ℕ). flat_map record_spelling k.log ++ y) spelled ∙ sym (flat_map-append record_spelling k.log behind))
+        ∙ cut_again (k.log ++ behind) (all_both IsLogRecord k.log behind k.records all_valid)
 
-    all_bytes : IsBytes (flat_map spelling (k.log ++ behind))
+    all_bytes : IsBytes (flat_map record_spelling (k.log ++ behind))
     all_bytes =
-        subst IsBytes (sym (flat_map-append spelling (k.log ++ life.appended) records) ∙ ap (λ (rs : List Record). flat_map spelling rs) (append_assoc k.log life.appended records))
-        (bytes_both (flat_map spelling (k.log ++ life.appended)) (flat_map spelling records) k.bytes bytes)
+        subst IsBytes (sym (flat_map-append record_spelling (k.log ++ life.appended) records) ∙ ap (λ (rs : List Record). flat_map record_spelling rs) (append_assoc k.log life.appended records))
+        (bytes_both (flat_map record_spelling (k.log ++ life.appended)) (flat_map record_spelling records) k.bytes bytes)
 
     -- Nothing is written: what was appended tells no unit from the next one on.
     pub appended_tells : TellsUnits life.system (log_kept life writer) more a
@@ -152,10 +149,10 @@ module _ (life : LifeOnDisk) (l : IsLife life) (a : Image) (k : IsKept life a) (
 
     -- All is forced.
     module _ (b : Image) (all : AddsAll writer a b) where
-      log_now : log_of writer b ++ [] ≡ log_of writer a ++ writer.appended
-      log_now = append-nil (log_of writer b) ∙ all.log
+      log_now : log_of_writer writer b ++ [] ≡ log_of_writer writer a ++ writer.appended
+      log_now = append-nil (log_of_writer writer b) ∙ all.log
 
-      pub forced_tells : TellsUnits life.system (log_kept life (record writer { place = writer.place + sectors_of (length writer.appended); appended = [] })) more b
+      pub forced_tells : TellsUnits life.system (log_kept life (record writer { place = writer.place + log_sectors_of (length writer.appended); appended = [] })) more b
       forced_tells = record {
         snapshot = λ snapshot read.
             omega (arith, tells.snapshot snapshot (sym (snapshot_stays life.system life.now writer over l.in_range fits a b all.changes all.each k.restart) ∙ read), later);
@@ -200,12 +197,12 @@ begun_tells system r records unit image found is ahead range some = record {
       omega (arith, is, ap told_unit same);
   log =
       let empty = ahead_empty system image r.epoch r.sequence r.log ahead range.log (omega (arith, range.sequence.1)) in
-      subst (λ (n : ℕ). n < unit) (sym (ap (λ (links : List (List ℕ)). greatest_unit (cut_of (joined links ++ [])).records) empty ∙ none_cut)) some;
+      subst (λ (n : ℕ). n < unit) (sym (ap (λ (links : List (List ℕ)). greatest_unit (cut_of (joined_payloads links ++ [])).records) empty ∙ none_cut)) some;
 }
 
 -- ---- a checkpoint
 
-module _ (bytes : List ℕ) (stores : AllStores) (touches : Touches) (records : List Record) (life : LifeOnDisk) (l : IsLife life) (may : MayCheckpoint bytes stores touches records life) (a : Image) (k : IsKept life a) (next : ℕ) (is : told_unit records ≡ next) where
+module _ (bytes : List ℕ) (stores : AllStores) (touches : Touches) (records : List Record) (life : LifeOnDisk) (l : IsLifeOnDisk life) (may : MayCheckpoint bytes stores touches records life) (a : Image) (k : IsImageKept life a) (next : ℕ) (is : told_unit records ≡ next) where
   abbrev parts : CheckpointParts
   parts = parts_with bytes life
 
@@ -226,8 +223,8 @@ module _ (bytes : List ℕ) (stores : AllStores) (touches : Touches) (records : 
       nothing : (i : ℕ) → get_or [] i 0 < 256
       nothing i = omega arith
 
-    its_fits : life.log.place + sectors_of (length (life.log.appended ++ [])) ≤ life.log.count
-    its_fits = subst (λ (b : List ℕ). life.log.place + sectors_of (length b) ≤ life.log.count) (sym (append-nil life.log.appended)) l.appended.fits
+    its_fits : life.log.place + log_sectors_of (length (life.log.appended ++ [])) ≤ life.log.count
+    its_fits = subst (λ (b : List ℕ). life.log.place + log_sectors_of (length b) ≤ life.log.count) (sym (append-nil life.log.appended)) l.appended.fits
 
     forced_up_to : (b : Image) → AddsFront life.log a b → CountsUpTo life.system high b
     forced_up_to b front =

@@ -5,19 +5,19 @@ use Rattle.std.proofs.lemmas.Bool.{cases_lt}
 use Rattle.std.proofs.lemmas.Grind.{flat_map-append}
 use Rattle.std.proofs.lemmas.List.{length-append, take_at}
 use Rattle.std.proofs.Math.Seq.{take-append-add}
-use Rattle.tm_disk.specs.Disk.{Image, sector_at}
+use Rattle.tm_disk.specs.Disk.{Image, sector_at, ChangesOnly}
 use Rattle.model_system.specs.System.{System}
 use Rattle.log_records.specs.declared.record.Record.{Record}
-use Rattle.log_records.specs.Spelling.{spelling, IsRecord}
+use Rattle.log_records.specs.RecordSpelling.{record_spelling, IsLogRecord}
 use Rattle.log_records.proofs.Takes.{IsBytes}
-use Rattle.log_sectors.specs.Sealed.{opened}
+use Rattle.log_sectors.specs.SealedSector.{opened_payload}
 use Rattle.log_writer.specs.Writer.{Writer}
-use Rattle.log_writer.specs.Log.{log_of, sectors_of, StaysOrLogs, ChangesOnly}
+use Rattle.log_writer.specs.ForcedLog.{log_of_writer, log_sectors_of, StaysOrLogs}
 use Rattle.restart_data.specs.declared.restart.RestartSector.{RestartSector}
 use Rattle.restart_data.specs.Restart.{IsRestart, restart_of, restart_in}
 use Rattle.model_image.specs.Areas.{snapshot_area, log_first, data_first}
-use Rattle.model_image.specs.Cut.{Cut, cut_of, IsCutOff}
-use Rattle.model_image.specs.Recovered.{snapshot_from, log_in, is_later, first_later}
+use Rattle.model_image.specs.CutRecords.{Cut, cut_of, IsRecordCutOff}
+use Rattle.model_image.specs.RecoveredState.{snapshot_from, log_in, is_later, first_later}
 use Rattle.model_image.proofs.Alike.{snapshot_same}
 use Rattle.model_image.proofs.Cutting.{CutsFront, cuts_front}
 use Rattle.model_image.proofs.Later.{none_later, each_not_later}
@@ -32,17 +32,17 @@ use Rattle.model_image.specs.Text.{bytes_from, text_in}
 pub record CutsBehind (log more : List Record) (cut : Cut) : Type 0 where
   pub count : ℕ
   pub are : cut.records ≡ log ++ take count more
-  pub rest : IsCutOff cut.rest
+  pub rest : IsRecordCutOff cut.rest
 
-pub cuts_behind : (log more : List Record) (n : ℕ) → AllByRecursion IsRecord (log ++ more) → IsBytes (flat_map spelling (log ++ more)) → CutsBehind log more (cut_of (flat_map spelling log ++ take n (flat_map spelling more)))
+pub cuts_behind : (log more : List Record) (n : ℕ) → AllByRecursion IsLogRecord (log ++ more) → IsBytes (flat_map record_spelling (log ++ more)) → CutsBehind log more (cut_of (flat_map record_spelling log ++ take n (flat_map record_spelling more)))
 cuts_behind log more n valid bytes =
-    let size : ℕ = length (flat_map spelling log) in
-    let front : take (size + n) (flat_map spelling (log ++ more)) ≡ flat_map spelling log ++ take n (flat_map spelling more) =
-    ap (λ (l : List ℕ). take (size + n) l) (flat_map-append spelling log more) ∙ take-append-add (flat_map spelling log) (flat_map spelling more) n in
-    let c : CutsFront (log ++ more) (size + n) (cut_of (take (size + n) (flat_map spelling (log ++ more)))) = cuts_front (log ++ more) (size + n) valid bytes in
+    let size : ℕ = length (flat_map record_spelling log) in
+    let front : take (size + n) (flat_map record_spelling (log ++ more)) ≡ flat_map record_spelling log ++ take n (flat_map record_spelling more) =
+    ap (λ (l : List ℕ). take (size + n) l) (flat_map-append record_spelling log more) ∙ take-append-add (flat_map record_spelling log) (flat_map record_spelling more) n in
+    let c : CutsFront (log ++ more) (size + n) (cut_of (take (size + n) (flat_map record_spelling (log ++ more)))) = cuts_front (log ++ more) (size + n) valid bytes in
     let first : take (length log) (log ++ more) ≡ log = take_at log more (length log) refl in
     let whole : length log ≤ c.whole =
-    c.most (length log) (omega (arith, length-append log more)) (omega (arith, ap (λ (l : List Record). length (flat_map spelling l)) first)) in
+    c.most (length log) (omega (arith, length-append log more)) (omega (arith, ap (λ (l : List Record). length (flat_map record_spelling l)) first)) in
     let rest : ℕ = c.whole - length log in
     subst (λ (l : List ℕ). CutsBehind log more (cut_of l)) front (record {
       count = rest;
@@ -64,12 +64,12 @@ text_same a b size same = ap (λ (l : List ℕ). take size l) (bytes_same 64 a b
 -- ---- a force
 
 -- the log of a writer is that of the area
-pub log_is : (system : System) (now : RestartSector) (w : Writer) (image : Image) → IsWriterOf system now w → log_in system image now ≡ cut_of (log_of w image)
+pub log_is : (system : System) (now : RestartSector) (w : Writer) (image : Image) → IsWriterOf system now w → log_in system image now ≡ cut_of (log_of_writer w image)
 log_is system now w image over = rw (over.first, over.count, over.sequence, over.epoch) refl
 
 -- An image before, and one in which some of the writer's next sectors are others.
-module _ (system : System) (now : RestartSector) (w : Writer) (over : IsWriterOf system now w) (range : IsRestart now) (room : w.place + sectors_of (length w.appended) ≤ w.count) (a b : Image)
-    (changes : ChangesOnly (w.first + w.place) (sectors_of (length w.appended)) a b) (each : (x : ℕ) → StaysOrLogs w a b x) (has_restart : restart_in (snapshot_area system) a ≡ Ok (Some now)) where
+module _ (system : System) (now : RestartSector) (w : Writer) (over : IsWriterOf system now w) (range : IsRestart now) (room : w.place + log_sectors_of (length w.appended) ≤ w.count) (a b : Image)
+    (changes : ChangesOnly (w.first + w.place) (log_sectors_of (length w.appended)) a b) (each : (x : ℕ) → StaysOrLogs w a b x) (has_restart : restart_in (snapshot_area system) a ≡ Ok (Some now)) where
   kept : readings.IsKept (snapshot_area system) now
   kept = readings.restart_kept (snapshot_area system) (sector_at a 0) now has_restart
 
@@ -101,10 +101,10 @@ module _ (system : System) (now : RestartSector) (w : Writer) (over : IsWriterOf
       let is : w.first + x ≡ k = omega (arith, high) in
       ⊎_elim
       (λ same. subst (λ i. is_later now.epoch (sector_at b i) ≡ false) is (ap (is_later now.epoch) same ∙ subst (λ i. is_later now.epoch (sector_at a i) ≡ false) (sym is) before))
-      (λ (logs : IsSome (opened w.epoch (w.sequence + x) (sector_at b (w.first + x)))).
+      (λ (logs : IsSome (opened_payload w.epoch (w.sequence + x) (sector_at b (w.first + x)))).
       subst (λ i. is_later now.epoch (sector_at b i) ≡ false) is
       (readings.opened_not_later now.epoch (w.sequence + x) (sector_at b (w.first + x)) (omega (arith, range.epoch.1))
-      (subst (λ n. IsSome (opened n (w.sequence + x) (sector_at b (w.first + x)))) over.epoch logs)))
+      (subst (λ n. IsSome (opened_payload n (w.sequence + x) (sector_at b (w.first + x)))) over.epoch logs)))
       (each x))
       (cases_lt k w.first)
 

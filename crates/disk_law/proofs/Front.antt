@@ -7,20 +7,20 @@ use Rattle.tm_disk.specs.Disk.{Image}
 use Rattle.model_machine.specs.Machine.{LastingState}
 use Rattle.log_records.specs.declared.record.Record.{Record}
 use Rattle.log_records.specs.declared.record.Record.TheVariants.{Input, Command, Reply, Discarded, Completed, Acknowledged, SyncPoint, Checkpoint, Terminal, Code, Change}
-use Rattle.log_records.specs.Spelling.{spelling, IsRecord}
+use Rattle.log_records.specs.RecordSpelling.{record_spelling, IsLogRecord}
 use Rattle.log_records.proofs.Takes.{IsBytes}
 use Rattle.log_writer.specs.Writer.{Writer}
-use Rattle.log_writer.specs.Log.{log_of, sectors_of, AddsFront}
-use Rattle.model_image.specs.Cut.{cut_of}
+use Rattle.log_writer.specs.ForcedLog.{log_of_writer, log_sectors_of, AddsFront}
+use Rattle.model_image.specs.CutRecords.{cut_of}
 use Rattle.model_image.specs.Slots.{is_sync_point_of, is_image_of, named_by}
 use Rattle.model_image.specs.Replay.{Replay, replay_all}
-use Rattle.model_image.specs.Recovered.{log_in, Recovers}
-use Rattle.image_law.specs.Records.{is_change, without_changes}
+use Rattle.model_image.specs.RecoveredState.{log_in, Recovers}
+use Rattle.image_law.specs.Records.{is_change_record, without_changes}
 use Rattle.image_law.proofs.Replayed.{all_take, appended}
-use Rattle.disk_law.specs.Committed.{Bytes}
-use Rattle.disk_law.specs.Life.{LifeOnDisk, IsLife, IsWriterOf, SpellRows, but_rows}
-use Rattle.disk_law.specs.Kept.{IsKept, StandsAt, beginning}
-use Rattle.model_image.specs.Holding.{HoldsBytes}
+use Rattle.disk_law.specs.CommittedBytes.{Bytes}
+use Rattle.disk_law.specs.Life.{LifeOnDisk, IsLifeOnDisk, IsWriterOf, SpellRows, but_rows}
+use Rattle.disk_law.specs.KeptImages.{IsImageKept, StandsAt, beginning}
+use Rattle.model_image.specs.HeldStores.{HoldsBytes}
 use Rattle.disk_law.proofs.Naming.{NamedAs, front_empty, unnamed_before, named_front}
 use Rattle.disk_law.proofs.Recovering.{read_recovers}
 use Rattle.disk_law.proofs.Forcing.{CutsBehind, cuts_behind, log_is, restart_stays, snapshot_stays, slots_stay, none_later_after}
@@ -32,7 +32,7 @@ all_both P [] ys one other = other
 all_both P (x ∷ xs) ys one other = (one.0, all_both P xs ys one.1 other)
 
 -- records that are changes alone
-change_sync : (r : Record) → is_change r ≡ true → (unit : ℕ) → is_sync_point_of unit r ≡ false
+change_sync : (r : Record) → is_change_record r ≡ true → (unit : ℕ) → is_sync_point_of unit r ≡ false
 change_sync (Change unit database slot before after) is u = refl
 change_sync (Input unit id origin code number conversation segments) is u = refl
 change_sync (Command text) is u = refl
@@ -45,8 +45,8 @@ change_sync (Checkpoint checkpoint next_id next_unit steps) is u = refl
 change_sync (Terminal name last next stopped conversation) is u = refl
 change_sync (Code name stopped class priority) is u = refl
 
-each_changes : (r : Record) (records : List Record) → without_changes (r ∷ records) ≡ [] → (is_change r ≡ true) × (without_changes records ≡ [])
-each_changes r records none = by_first (is_change r) none where
+each_changes : (r : Record) (records : List Record) → without_changes (r ∷ records) ≡ [] → (is_change_record r ≡ true) × (without_changes records ≡ [])
+each_changes r records none = by_first (is_change_record r) none where
   by_first : (b : Bool) → (if not b then r ∷ without_changes records else without_changes records) ≡ [] → (b ≡ true) × (without_changes records ≡ [])
   by_first true e = (refl, e)
   by_first false e = cc
@@ -60,20 +60,20 @@ changes_sync (r ∷ records) none unit =
 pub changes_take : (n : ℕ) (records : List Record) → without_changes records ≡ [] → without_changes (take n records) ≡ []
 changes_take n records none =
     front_empty (without_changes (take n records)) (without_changes (drop n records))
-    (sym (filter-append (λ r. not (is_change r)) (take n records) (drop n records)) ∙ ap without_changes (take-append-drop n records) ∙ none)
+    (sym (filter-append (λ r. not (is_change_record r)) (take n records) (drop n records)) ∙ ap without_changes (take-append-drop n records) ∙ none)
 
 -- ---- an image with a front of records behind its log
 
-module _ (life : LifeOnDisk) (l : IsLife life) (a : Image) (k : IsKept life a)
-    (w : Writer) (over : IsWriterOf life.system life.now w) (room : w.place + sectors_of (length w.appended) ≤ w.count) (same_log : log_of w a ≡ flat_map spelling k.log)
-    (more : List Record) (spelled : w.appended ≡ flat_map spelling more) (valid : AllByRecursion IsRecord more) (bytes : IsBytes (flat_map spelling (k.log ++ more)))
+module _ (life : LifeOnDisk) (l : IsLifeOnDisk life) (a : Image) (k : IsImageKept life a)
+    (w : Writer) (over : IsWriterOf life.system life.now w) (room : w.place + log_sectors_of (length w.appended) ≤ w.count) (same_log : log_of_writer w a ≡ flat_map record_spelling k.log)
+    (more : List Record) (spelled : w.appended ≡ flat_map record_spelling more) (valid : AllByRecursion IsLogRecord more) (bytes : IsBytes (flat_map record_spelling (k.log ++ more)))
     (b : Image) (front : AddsFront w a b) where
   pub cut : CutsBehind k.log more (log_in life.system b life.now)
   cut =
-      let is : log_in life.system b life.now ≡ cut_of (flat_map spelling k.log ++ take front.front (flat_map spelling more)) =
+      let is : log_in life.system b life.now ≡ cut_of (flat_map record_spelling k.log ++ take front.front (flat_map record_spelling more)) =
       log_is life.system life.now w b over
-      ∙ ap cut_of (front.log ∙ ap (λ (old : List ℕ). old ++ take front.front w.appended) same_log ∙ ap (λ (new : List ℕ). flat_map spelling k.log ++ take front.front new) spelled) in
-      subst (CutsBehind k.log more) (sym is) (cuts_behind k.log more front.front (all_both IsRecord k.log more k.records valid) bytes)
+      ∙ ap cut_of (front.log ∙ ap (λ (old : List ℕ). old ++ take front.front w.appended) same_log ∙ ap (λ (new : List ℕ). flat_map record_spelling k.log ++ take front.front new) spelled) in
+      subst (CutsBehind k.log more) (sym is) (cuts_behind k.log more front.front (all_both IsLogRecord k.log more k.records valid) bytes)
 
   -- the records that are there
   abbrev pub read : List Record
@@ -102,8 +102,8 @@ module _ (life : LifeOnDisk) (l : IsLife life) (a : Image) (k : IsKept life a)
 
 -- ---- the laws
 
-module _ (life : LifeOnDisk) (l : IsLife life) (a : Image) (k : IsKept life a) where
-  pub log_is_kept : log_of life.log a ≡ flat_map spelling k.log
+module _ (life : LifeOnDisk) (l : IsLifeOnDisk life) (a : Image) (k : IsImageKept life a) where
+  pub log_is_kept : log_of_writer life.log a ≡ flat_map record_spelling k.log
   log_is_kept = k.has_log
 
   -- what lasts stays behind a front of the changes that were appended
@@ -129,7 +129,7 @@ module _ (life : LifeOnDisk) (l : IsLife life) (a : Image) (k : IsKept life a) w
     changes = record { size = refl; below = λ k low. refl; above = λ k high. refl };
     each = λ x. inl refl;
     front = 0;
-    log = sym (append-nil (log_of life.log a));
+    log = sym (append-nil (log_of_writer life.log a));
   }
 
   -- The image itself does.

@@ -17,38 +17,38 @@ use Rattle.model_messages.specs.Outputs.{next_of}
 use Rattle.model_data.specs.declared.row.Row.{Row}
 use Rattle.model_system.specs.System.{System}
 use Rattle.model_machine.specs.Machine.{LastingState, empty_state, output_at}
-use Rattle.model_machine.specs.Lasting.{LastingStep, applied, sent}
-use Rattle.model_machine.specs.Lasting.LastingStep.{Accepts, Acknowledges, Completes, Discards, Commands}
+use Rattle.model_machine.specs.LastingSteps.{LastingStep, applied, output_sent}
+use Rattle.model_machine.specs.LastingSteps.LastingStep.{Accepts, Acknowledges, Completes, Discards, Commands}
 use Rattle.log_records.specs.declared.record.Record.{Record}
 use Rattle.log_records.specs.declared.record.Record.TheVariants.{Input, Reply, Discarded, Acknowledged, SyncPoint}
 use Rattle.model_image.specs.Slots.{named_by}
-use Rattle.model_image.specs.Records.{output_record, completion_records}
+use Rattle.model_image.specs.StepRecords.{output_record, completion_records}
 use Rattle.model_image.specs.Replay.{replay_all}
-use Rattle.image_law.specs.Records.{is_change}
-use Rattle.image_law.specs.Sound.{Fits}
-use Rattle.image_law.specs.Steps.{EndsNoneWaiting, IsFree, PadFits}
-use Rattle.image_law.proofs.Bools.{both}
+use Rattle.image_law.specs.Records.{is_change_record}
+use Rattle.image_law.specs.SoundState.{FitsRanges}
+use Rattle.image_law.specs.StepNeeds.{EndsNoneWaiting, IsConversationFree, PadFits}
 use Rattle.image_law.proofs.Replayed.{all_take}
 use Rattle.image_law.proofs.Rows.{with_rows, at_rows, rows_aside}
 use Rattle.image_law.proofs.Laws.{accept_replayed, acknowledge_replayed, command_replayed, abend_replayed, completion_replayed, front_waits}
-use Rattle.disk_law.specs.Committed.{Touch, AreCommitted, without_touches, without_sync, synced}
+use Rattle.disk_law.specs.CommittedBytes.{Touch, AreCommitted, without_touches, without_sync, synced}
 use Rattle.disk_law.proofs.Slots.{ended_keeps, sync_keeps}
-use Rattle.disk_law.specs.Life.{LifeOnDisk, IsLife, AreBeside, SpellRows, but_rows}
-use Rattle.disk_law.specs.Quiet.{is_quiet}
-use Rattle.disk_law.specs.Steps.{done_to, Wait, IsTouched, IsStep}
-use Rattle.disk_law.specs.Lasting.{input_of, input_record, accepting, MayAccept, acknowledging, MayAcknowledge, command_record, commanding, MayCommand, discarding, MayDiscard, completing, MayComplete}
+use Rattle.disk_law.specs.Life.{LifeOnDisk, IsLifeOnDisk, AreBeside, SpellRows, but_rows}
+use Rattle.disk_law.specs.QuietRecords.{is_quiet_record}
+use Rattle.disk_law.specs.LifeSteps.{done_to, Wait, IsTouchedByUnits, IsStep}
+use Rattle.disk_law.specs.LastingSteps.{input_of, life_input_record, accepting, MayAccept, acknowledging, MayAcknowledge, command_record, commanding, MayCommand, discarding, MayDiscard, completing, MayComplete}
 use Rattle.disk_law.proofs.Naming.{all_quiet_keep, named_stays}
 use Rattle.disk_law.proofs.Changing.{touched_named, without_life}
+use Rattle.tm_types.proofs.Truths.{both}
 
 -- ---- rows stand aside
 
-fits_aside : (system : System) (lines : List (List Row)) (lasting : LastingState) → Fits system lasting → Fits system (with_rows lines lasting)
+fits_aside : (system : System) (lines : List (List Row)) (lasting : LastingState) → FitsRanges system lasting → FitsRanges system (with_rows lines lasting)
 fits_aside system lines lasting f = record { id = f.id; counted = f.counted; inputs = f.inputs; numbers = f.numbers; room = f.room }
 
-fits_step : (system : System) (lines : List (List Row)) (step : LastingStep) (lasting : LastingState) → Fits system (applied step lasting) → Fits system (applied (at_rows lines step) (with_rows lines lasting))
-fits_step system lines step lasting f = subst (Fits system) (rows_aside lines step lasting) (fits_aside system lines (applied step lasting) f)
+fits_step : (system : System) (lines : List (List Row)) (step : LastingStep) (lasting : LastingState) → FitsRanges system (applied step lasting) → FitsRanges system (applied (at_rows lines step) (with_rows lines lasting))
+fits_step system lines step lasting f = subst (FitsRanges system) (rows_aside lines step lasting) (fits_aside system lines (applied step lasting) f)
 
-free_aside : (lines : List (List Row)) (terminal : List ℕ) (lasting : LastingState) → IsFree terminal lasting → IsFree terminal (with_rows lines lasting)
+free_aside : (lines : List (List Row)) (terminal : List ℕ) (lasting : LastingState) → IsConversationFree terminal lasting → IsConversationFree terminal (with_rows lines lasting)
 free_aside lines terminal lasting f = record { place = f.place; none = f.none }
 
 pad_aside : (system : System) (lines : List (List Row)) (pad : PadChange) (message : Message) (lasting : LastingState) → PadFits system pad message lasting → PadFits system pad message (with_rows lines lasting)
@@ -65,7 +65,7 @@ ends_aside lines (DequeueFirst terminal) lasting none = tt
 ends_aside lines (DequeueAll terminal) lasting none = tt
 ends_aside lines (Exit terminal) lasting none = none
 
-sent_aside : (lines : List (List Row)) (origin : List ℕ) (output : EndedMessage) (lasting : LastingState) (b : Bool) → is_some (output_at lasting.outputs output.to) ≡ b → sent origin output (with_rows lines lasting) ≡ with_rows lines (sent origin output lasting)
+sent_aside : (lines : List (List Row)) (origin : List ℕ) (output : EndedMessage) (lasting : LastingState) (b : Bool) → is_some (output_at lasting.outputs output.to) ≡ b → output_sent origin output (with_rows lines lasting) ≡ with_rows lines (output_sent origin output lasting)
 sent_aside lines origin output lasting true is = rw is refl
 sent_aside lines origin output lasting false is = rw is refl
 
@@ -73,7 +73,7 @@ completion_aside : (lines : List (List Row)) (unit : ℕ) (origin : List ℕ) (i
 completion_aside lines unit origin id [] lasting = refl
 completion_aside lines unit origin id (output ∷ outputs) lasting =
     ap (λ (l : LastingState). output_record unit origin output lasting ∷ completion_records unit origin id outputs l) (sent_aside lines origin output lasting (is_some (output_at lasting.outputs output.to)) refl)
-    ∙ ap (λ (rs : List Record). output_record unit origin output lasting ∷ rs) (completion_aside lines unit origin id outputs (sent origin output lasting))
+    ∙ ap (λ (rs : List Record). output_record unit origin output lasting ∷ rs) (completion_aside lines unit origin id outputs (output_sent origin output lasting))
 
 -- a step that brings no rows leaves those that were
 same_rows : (step : LastingStep) (lasting : LastingState) → at_rows lasting.rows step ≡ step → (applied step lasting).rows ≡ lasting.rows
@@ -86,7 +86,7 @@ step_aside system step lasting = ap (λ (l : LastingState). Some (record { lasti
 
 -- ---- one record
 
-one_quiet : (r : Record) (n : ℕ) → n < length (r ∷ []) → list_all is_quiet (take n (r ∷ [])) ≡ true
+one_quiet : (r : Record) (n : ℕ) → n < length (r ∷ []) → list_all is_quiet_record (take n (r ∷ [])) ≡ true
 one_quiet r zero short = refl
 one_quiet r (suc n) short = absurd (omega (arith, short))
 
@@ -94,7 +94,7 @@ one_waits : (system : System) (lasting : LastingState) (r : Record) (n : ℕ) �
 one_waits system lasting r zero short = record { waiting = []; is = refl }
 one_waits system lasting r (suc n) short = absurd (omega (arith, short))
 
-module _ (terminal : List ℕ) (number : ℕ) (segments : List (List ℕ)) (life : LifeOnDisk) (l : IsLife life) (may : MayAccept terminal number segments life) where
+module _ (terminal : List ℕ) (number : ℕ) (segments : List (List ℕ)) (life : LifeOnDisk) (l : IsLifeOnDisk life) (may : MayAccept terminal number segments life) where
   abbrev lines_a : List (List Row)
   lines_a = (empty_state life.system).rows
 
@@ -103,13 +103,13 @@ module _ (terminal : List ℕ) (number : ℕ) (segments : List (List ℕ)) (life
   accept_step = record {
     room = may.room;
     steady = refl;
-    quiet = one_quiet (input_record terminal number segments life);
-    wait = one_waits life.system life.lasting (input_record terminal number segments life);
+    quiet = one_quiet (life_input_record terminal number segments life);
+    wait = one_waits life.system life.lasting (life_input_record terminal number segments life);
     leads =
         accept_replayed life.system (but_rows life.system life.lasting) [] l.sound may.pads terminal number segments may.state may.found may.next may.known
         (free_aside lines_a terminal life.lasting may.free) may.to_code (fits_step life.system lines_a (Accepts terminal number (input_of terminal segments life)) life.lasting may.fits)
         ∙ sym (step_aside life.system (Accepts terminal number (input_of terminal segments life)) life.lasting);
-    carries = λ snapshot log c. all_quiet_keep snapshot life.may_sync life.touches life.committed log (input_record terminal number segments life ∷ []) refl c;
+    carries = λ snapshot log c. all_quiet_keep snapshot life.may_sync life.touches life.committed log (life_input_record terminal number segments life ∷ []) refl c;
     others = λ snapshot log c d s none. refl;
     rows = l.rows;
     slots = l.slots;
@@ -117,7 +117,7 @@ module _ (terminal : List ℕ) (number : ℕ) (segments : List (List ℕ)) (life
     only = λ place number dbd found below is. inl is;
   }
 
-module _ (terminal : List ℕ) (number : ℕ) (life : LifeOnDisk) (l : IsLife life) (may : MayAcknowledge terminal number life) where
+module _ (terminal : List ℕ) (number : ℕ) (life : LifeOnDisk) (l : IsLifeOnDisk life) (may : MayAcknowledge terminal number life) where
   abbrev lines_b : List (List Row)
   lines_b = (empty_state life.system).rows
 
@@ -140,7 +140,7 @@ module _ (terminal : List ℕ) (number : ℕ) (life : LifeOnDisk) (l : IsLife li
     only = λ place number dbd found below is. inl is;
   }
 
-module _ (command : LastingCommand) (life : LifeOnDisk) (l : IsLife life) (may : MayCommand command life) where
+module _ (command : LastingCommand) (life : LifeOnDisk) (l : IsLifeOnDisk life) (may : MayCommand command life) where
   abbrev lines_e : List (List Row)
   lines_e = (empty_state life.system).rows
 
@@ -163,7 +163,7 @@ module _ (command : LastingCommand) (life : LifeOnDisk) (l : IsLife life) (may :
     only = λ place number dbd found below is. inl is;
   }
 
-module _ (unit : ℕ) (message : Message) (abend : AbendCode) (changed : ℕ → ℕ → Bool) (life : LifeOnDisk) (l : IsLife life) (may : MayDiscard unit message abend changed life) where
+module _ (unit : ℕ) (message : Message) (abend : AbendCode) (changed : ℕ → ℕ → Bool) (life : LifeOnDisk) (l : IsLifeOnDisk life) (may : MayDiscard unit message abend changed life) where
   abbrev lines_c : List (List Row)
   lines_c = (empty_state life.system).rows
 
@@ -171,7 +171,7 @@ module _ (unit : ℕ) (message : Message) (abend : AbendCode) (changed : ℕ →
   its_discard = Discarded unit message.id abend (next_of message.origin life.lasting.outputs)
 
   changed_or_touched : (place number : ℕ) (dbd : Dbd) → slice_get life.system.databases place ≡ Some dbd → number < dbd.roots → changed (place + 1) number ≡ true → (o : Option Touch) → life.touches unit (place + 1) number ≡ o →
-      (life.changed (place + 1) number ≡ true) ⊎ IsTouched life.touches (place + 1) number
+      (life.changed (place + 1) number ≡ true) ⊎ IsTouchedByUnits life.touches (place + 1) number
   changed_or_touched place number dbd found below is None none = inl (may.marks.only place number dbd found below is none)
   changed_or_touched place number dbd found below is (Some t) there = inr (record { unit = unit; touch = t; is = there })
 
@@ -197,7 +197,7 @@ module _ (unit : ℕ) (message : Message) (abend : AbendCode) (changed : ℕ →
 
 -- ---- a completion
 
-module _ (unit : ℕ) (message : Message) (outputs : List EndedMessage) (pad : PadChange) (lines : List (List Row)) (life : LifeOnDisk) (l : IsLife life) (may : MayComplete unit message outputs pad lines life) where
+module _ (unit : ℕ) (message : Message) (outputs : List EndedMessage) (pad : PadChange) (lines : List (List Row)) (life : LifeOnDisk) (l : IsLifeOnDisk life) (may : MayComplete unit message outputs pad lines life) where
   abbrev lines_d : List (List Row)
   lines_d = (empty_state life.system).rows
 
@@ -208,26 +208,26 @@ module _ (unit : ℕ) (message : Message) (outputs : List EndedMessage) (pad : P
   its_sync = SyncPoint unit pad
 
   output_quiet : (b : Bool) (output : EndedMessage) (lasting : LastingState) →
-      is_quiet (if b then Reply unit output.to (next_of output.to lasting.outputs) output.segments else Input unit lasting.next_id message.origin output.to 0 false output.segments) ≡ true
+      is_quiet_record (if b then Reply unit output.to (next_of output.to lasting.outputs) output.segments else Input unit lasting.next_id message.origin output.to 0 false output.segments) ≡ true
   output_quiet true output lasting = refl
   output_quiet false output lasting = refl
 
-  all_quiet : (outputs : List EndedMessage) (lasting : LastingState) → list_all is_quiet (completion_records unit message.origin message.id outputs lasting) ≡ true
+  all_quiet : (outputs : List EndedMessage) (lasting : LastingState) → list_all is_quiet_record (completion_records unit message.origin message.id outputs lasting) ≡ true
   all_quiet [] lasting = refl
   all_quiet (output ∷ outputs) lasting =
-      both (is_quiet (output_record unit message.origin output lasting)) (list_all is_quiet (completion_records unit message.origin message.id outputs (sent message.origin output lasting)))
-      (output_quiet (is_some (output_at lasting.outputs output.to)) output lasting) (all_quiet outputs (sent message.origin output lasting))
+      both (is_quiet_record (output_record unit message.origin output lasting)) (list_all is_quiet_record (completion_records unit message.origin message.id outputs (output_sent message.origin output lasting)))
+      (output_quiet (is_some (output_at lasting.outputs output.to)) output lasting) (all_quiet outputs (output_sent message.origin output lasting))
 
   output_steady : (b : Bool) (output : EndedMessage) (lasting : LastingState) →
-      not (is_change (if b then Reply unit output.to (next_of output.to lasting.outputs) output.segments else Input unit lasting.next_id message.origin output.to 0 false output.segments)) ≡ true
+      not (is_change_record (if b then Reply unit output.to (next_of output.to lasting.outputs) output.segments else Input unit lasting.next_id message.origin output.to 0 false output.segments)) ≡ true
   output_steady true output lasting = refl
   output_steady false output lasting = refl
 
-  all_steady : (outputs : List EndedMessage) (lasting : LastingState) → list_all (λ r. not (is_change r)) (completion_records unit message.origin message.id outputs lasting ++ its_sync ∷ []) ≡ true
+  all_steady : (outputs : List EndedMessage) (lasting : LastingState) → list_all (λ r. not (is_change_record r)) (completion_records unit message.origin message.id outputs lasting ++ its_sync ∷ []) ≡ true
   all_steady [] lasting = refl
   all_steady (output ∷ outputs) lasting =
-      both (not (is_change (output_record unit message.origin output lasting))) (list_all (λ r. not (is_change r)) (completion_records unit message.origin message.id outputs (sent message.origin output lasting) ++ its_sync ∷ []))
-      (output_steady (is_some (output_at lasting.outputs output.to)) output lasting) (all_steady outputs (sent message.origin output lasting))
+      both (not (is_change_record (output_record unit message.origin output lasting))) (list_all (λ r. not (is_change_record r)) (completion_records unit message.origin message.id outputs (output_sent message.origin output lasting) ++ its_sync ∷ []))
+      (output_steady (is_some (output_at lasting.outputs output.to)) output lasting) (all_steady outputs (output_sent message.origin output lasting))
 
   few : (n : ℕ) → n < length (before_sync ++ its_sync ∷ []) → n ≤ length before_sync
   few n short = omega (arith, short, length-append before_sync (its_sync ∷ []))
@@ -311,7 +311,7 @@ module _ (unit : ℕ) (message : Message) (outputs : List EndedMessage) (pad : P
   complete_step = record {
     room = may.room;
     steady = all_steady outputs life.lasting;
-    quiet = λ n short. ap (λ (rs : List Record). list_all is_quiet rs) (front_is n short) ∙ all_take is_quiet n before_sync (all_quiet outputs life.lasting);
+    quiet = λ n short. ap (λ (rs : List Record). list_all is_quiet_record rs) (front_is n short) ∙ all_take is_quiet_record n before_sync (all_quiet outputs life.lasting);
     wait = waits_so;
     leads = leads_so;
     carries = carries_so;

@@ -12,7 +12,7 @@ pub mod Stored
 pub mod Anew
 pub mod Checkpointed
 pub mod Opened
-pub mod CheckpointLawOnDisk
+pub mod CheckpointOnDisk
 pub mod Counting
 pub mod Told
 pub mod Snapshots

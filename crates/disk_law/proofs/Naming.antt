@@ -9,23 +9,17 @@ use Rattle.std.proofs.lemmas.List.Folds.{list_any-append}
 use Rattle.log_records.specs.declared.record.Record.{Record}
 use Rattle.log_records.specs.declared.record.Record.TheVariants.{Input, Command, Reply, Discarded, Completed, Acknowledged, SyncPoint, Checkpoint, Terminal, Code, Change}
 use Rattle.model_image.specs.Slots.{is_change_of, is_sync_point_of, is_synced, before_image, after_image, named_by}
-use Rattle.disk_law.specs.Committed.{Touches, Bytes, changes_of, AreCommitted}
-use Rattle.disk_law.proofs.Slots.{quiet_keeps}
+use Rattle.disk_law.specs.CommittedBytes.{Touches, Bytes, changes_of_slot, AreCommitted}
+use Rattle.disk_law.proofs.Slots.{quiet_keeps, none_reverse}
 use Rattle.image_law.proofs.Bools.{first_of, second_of, neither_first, neither_second}
 use Rattle.image_law.proofs.Lists.{none_filter}
-use Rattle.disk_law.specs.Quiet.{is_quiet}
+use Rattle.disk_law.specs.QuietRecords.{is_quiet_record}
+use Rattle.model_image.proofs.Readings.{not_both}
+use Rattle.disk_law.proofs.Anew.{named_of, named_is}
 
--- what the changes of a slot say, by which of them count
-abbrev named_of : (Record → Bool) → List Record → Option (List ℕ)
-named_of test changes = option_or (option_map after_image (find test (reverse changes))) (option_map before_image (slice_get changes 0))
-
-named_is : (snapshot log : List Record) (database slot : ℕ) → named_by snapshot log database slot ≡ named_of (is_synced log) (changes_of (snapshot ++ log) database slot)
-unfolding named_by
-named_is snapshot log database slot = refl
-
-pub all_behind : (snapshot log more : List Record) (d s : ℕ) → changes_of (snapshot ++ (log ++ more)) d s ≡ changes_of (snapshot ++ log) d s ++ changes_of more d s
+pub all_behind : (snapshot log more : List Record) (d s : ℕ) → changes_of_slot (snapshot ++ (log ++ more)) d s ≡ changes_of_slot (snapshot ++ log) d s ++ changes_of_slot more d s
 all_behind snapshot log more d s =
-    ap (λ (records : List Record). changes_of records d s) (sym (append_assoc snapshot log more))
+    ap (λ (records : List Record). changes_of_slot records d s) (sym (append_assoc snapshot log more))
     ∙ filter-append (is_change_of d s) (snapshot ++ log) more
 
 -- ---- named or not
@@ -39,10 +33,10 @@ none_of test [] none = refl
 none_of test (x ∷ changes) none = absurd (some_named (option_map after_image (find test (reverse (x ∷ changes)))) (before_image x) none)
 
 -- where a slot has no change it isn't named, and where it isn't named it has none
-pub unnamed_changes : (snapshot log : List Record) (d s : ℕ) → named_by snapshot log d s ≡ None → changes_of (snapshot ++ log) d s ≡ []
-unnamed_changes snapshot log d s none = none_of (is_synced log) (changes_of (snapshot ++ log) d s) (sym (named_is snapshot log d s) ∙ none)
+pub unnamed_changes : (snapshot log : List Record) (d s : ℕ) → named_by snapshot log d s ≡ None → changes_of_slot (snapshot ++ log) d s ≡ []
+unnamed_changes snapshot log d s none = none_of (is_synced log) (changes_of_slot (snapshot ++ log) d s) (sym (named_is snapshot log d s) ∙ none)
 
-pub unchanged_unnamed : (snapshot log : List Record) (d s : ℕ) → changes_of (snapshot ++ log) d s ≡ [] → named_by snapshot log d s ≡ None
+pub unchanged_unnamed : (snapshot log : List Record) (d s : ℕ) → changes_of_slot (snapshot ++ log) d s ≡ [] → named_by snapshot log d s ≡ None
 unchanged_unnamed snapshot log d s none = named_is snapshot log d s ∙ ap (named_of (is_synced log)) none
 
 pub front_empty : (xs ys : List Record) → xs ++ ys ≡ [] → xs ≡ []
@@ -53,11 +47,7 @@ front_empty (x ∷ xs) ys e = cc
 pub unnamed_before : (snapshot log more : List Record) (d s : ℕ) → named_by snapshot (log ++ more) d s ≡ None → named_by snapshot log d s ≡ None
 unnamed_before snapshot log more d s none =
     unchanged_unnamed snapshot log d s
-    (front_empty (changes_of (snapshot ++ log) d s) (changes_of more d s) (sym (all_behind snapshot log more d s) ∙ unnamed_changes snapshot (log ++ more) d s none))
-
-not_both : (o : Option (List ℕ)) → o ≡ None → IsSome o → ⊥
-not_both None e some = cc
-not_both (Some x) e some = cc
+    (front_empty (changes_of_slot (snapshot ++ log) d s) (changes_of_slot more d s) (sym (all_behind snapshot log more d s) ∙ unnamed_changes snapshot (log ++ more) d s none))
 
 -- and one that was named stays so
 pub named_stays : (snapshot log more : List Record) (d s : ℕ) → IsSome (named_by snapshot log d s) → IsSome (named_by snapshot (log ++ more) d s)
@@ -73,14 +63,6 @@ find_past test [] xs none = refl
 find_past test (y ∷ ys) xs none =
     ap (λ b. if b then Some y else find test (ys ++ xs)) (neither_first (test y) (list_any test ys) none)
     ∙ find_past test ys xs (neither_second (test y) (list_any test ys) none)
-
-none_reverse : (p : Record → Bool) (xs : List Record) → list_any p xs ≡ false → list_any p (reverse xs) ≡ false
-none_reverse p [] none = refl
-none_reverse p (x ∷ xs) none =
-    ap (list_any p) (reverse-append (x ∷ []) xs)
-    ∙ list_any-append p (reverse xs) (x ∷ [])
-    ∙ ap (λ b. b || (p x || false)) (none_reverse p xs (neither_second (p x) (list_any p xs) none))
-    ∙ ap (λ b. b || false) (neither_first (p x) (list_any p xs) none)
 
 find_behind : (test : Record → Bool) (xs ys : List Record) → list_any test ys ≡ false → find test (reverse (xs ++ ys)) ≡ find test (reverse xs)
 find_behind test xs ys none = ap (find test) (reverse-append xs ys) ∙ find_past test (reverse ys) (reverse xs) (none_reverse test ys none)
@@ -117,10 +99,10 @@ module _ (snapshot log more : List Record) (no_sync : (unit : ℕ) → list_any 
   all_synced_same = λ i r. synced_same r i
 
   -- What was named stays named so, and of what wasn't the first change tells what stood there.
-  pub named_behind : (d s : ℕ) → named_by snapshot (log ++ more) d s ≡ option_or (named_by snapshot log d s) (option_map before_image (slice_get (changes_of more d s) 0))
+  pub named_behind : (d s : ℕ) → named_by snapshot (log ++ more) d s ≡ option_or (named_by snapshot log d s) (option_map before_image (slice_get (changes_of_slot more d s) 0))
   named_behind d s =
-      let here : List Record = changes_of (snapshot ++ log) d s in
-      let behind : List Record = changes_of more d s in
+      let here : List Record = changes_of_slot (snapshot ++ log) d s in
+      let behind : List Record = changes_of_slot more d s in
       let found : Option (List ℕ) = option_map after_image (find (is_synced log) (reverse here)) in
       named_is snapshot (log ++ more) d s
       ∙ ap (λ (changes : List Record). named_of (is_synced (log ++ more)) changes) (all_behind snapshot log more d s)
@@ -163,12 +145,12 @@ module _ (snapshot log more : List Record) (no_sync : (unit : ℕ) → list_any 
   pub named_front : (d s : ℕ) (v : List ℕ) → NamedAs v (named_by snapshot (log ++ more) d s) → NamedAs v (named_by snapshot (log ++ take n more) d s)
   named_front d s v h =
       subst (NamedAs v) (sym (named_behind snapshot log (take n more) (λ unit. none_take (is_sync_point_of unit) n more (no_sync unit)) (none_take (is_synced log) n more unsynced) d s))
-      (picked v (named_by snapshot log d s) (slice_get (changes_of (take n more) d s) 0) (slice_get (changes_of more d s) 0) (first_front (is_change_of d s) n more)
+      (picked v (named_by snapshot log d s) (slice_get (changes_of_slot (take n more) d s) 0) (slice_get (changes_of_slot more d s) 0) (first_front (is_change_of d s) n more)
       (subst (NamedAs v) (named_behind snapshot log more no_sync unsynced d s) h))
 
 -- ---- records that say nothing of slots
 
-quiet_sync : (r : Record) → is_quiet r ≡ true → (unit : ℕ) → is_sync_point_of unit r ≡ false
+quiet_sync : (r : Record) → is_quiet_record r ≡ true → (unit : ℕ) → is_sync_point_of unit r ≡ false
 quiet_sync (Change unit database slot before after) quiet u = refl
 quiet_sync (Input unit id origin code number conversation segments) quiet u = refl
 quiet_sync (Command text) quiet u = refl
@@ -181,7 +163,7 @@ quiet_sync (Checkpoint checkpoint next_id next_unit steps) quiet u = refl
 quiet_sync (Terminal name last next stopped conversation) quiet u = refl
 quiet_sync (Code name stopped class priority) quiet u = refl
 
-quiet_change : (r : Record) → is_quiet r ≡ true → (d s : ℕ) → is_change_of d s r ≡ false
+quiet_change : (r : Record) → is_quiet_record r ≡ true → (d s : ℕ) → is_change_of d s r ≡ false
 quiet_change (Change unit database slot before after) quiet d s = absurd cc
 quiet_change (Input unit id origin code number conversation segments) quiet d s = refl
 quiet_change (Command text) quiet d s = refl
@@ -196,10 +178,10 @@ quiet_change (Code name stopped class priority) quiet d s = refl
 
 module _ (snapshot : List Record) (may_sync : ℕ → Bool) (touches : Touches) (committed : Bytes) where
   -- Records that say nothing of slots leave all as it was.
-  pub all_quiet_keep : (log more : List Record) → list_all is_quiet more ≡ true → AreCommitted snapshot log may_sync touches committed → AreCommitted snapshot (log ++ more) may_sync touches committed
+  pub all_quiet_keep : (log more : List Record) → list_all is_quiet_record more ≡ true → AreCommitted snapshot log may_sync touches committed → AreCommitted snapshot (log ++ more) may_sync touches committed
   all_quiet_keep log [] quiet c = subst (λ (l : List Record). AreCommitted snapshot l may_sync touches committed) (sym (append-nil log)) c
   all_quiet_keep log (r ∷ more) quiet c =
-      let this : is_quiet r ≡ true = first_of (is_quiet r) (list_all is_quiet more) quiet in
+      let this : is_quiet_record r ≡ true = first_of (is_quiet_record r) (list_all is_quiet_record more) quiet in
       subst (λ (l : List Record). AreCommitted snapshot l may_sync touches committed) (append_assoc log (r ∷ []) more)
-      (all_quiet_keep (log ++ r ∷ []) more (second_of (is_quiet r) (list_all is_quiet more) quiet)
+      (all_quiet_keep (log ++ r ∷ []) more (second_of (is_quiet_record r) (list_all is_quiet_record more) quiet)
       (quiet_keeps snapshot log may_sync touches committed c r (quiet_sync r this) (quiet_change r this)))

@@ -1,5 +1,5 @@
 -- A life begins: what an opening leaves is an image of it.
-use Rattle.std.proofs.Common.{◌≡◌, inl, ℕ, ◌+◌, ◌*◌, ◌<◌, true, List, [], ◌∷◌, map, get_or, refl, sym, ◌∙◌, ap, subst, arith, Some, None, Ok, append-nil}
+use Rattle.std.proofs.Common.{◌≡◌, inl, ℕ, ◌+◌, ◌*◌, ◌<◌, true, List, [], ◌∷◌, map, refl, sym, ◌∙◌, ap, subst, arith, Some, None, Ok, append-nil}
 use Rattle.std.specs.Prelude.{Result}
 use Rattle.tm_types.specs.declared.dbd.Dbd.{Dbd}
 use Rattle.tm_disk.specs.Disk.{Image}
@@ -8,32 +8,33 @@ use Rattle.model_system.specs.System.{System}
 use Rattle.model_machine.specs.Machine.{LastingState, empty_state}
 use Rattle.log_records.specs.declared.record.Record.{Record}
 use Rattle.log_records.specs.declared.record.Record.TheVariants.{Input, Command, Reply, Discarded, Completed, Acknowledged, SyncPoint, Checkpoint, Terminal, Code, Change}
-use Rattle.log_records.proofs.Takes.{IsBytes}
-use Rattle.log_sectors.specs.Chain.{chain, joined}
+use Rattle.log_sectors.specs.Chain.{chain, joined_payloads}
 use Rattle.restart_data.specs.declared.restart.RestartSector.{RestartSector}
 use Rattle.seg_store.specs.Slots.{Stored, rows_of_slots}
-use Rattle.model_image.specs.Ahead.{NoneAhead}
+use Rattle.model_image.specs.SectorsAhead.{NoneAhead}
 use Rattle.model_image.specs.Areas.{log_first}
-use Rattle.model_image.specs.Cut.{Cut, cut_of, IsCutOff}
+use Rattle.model_image.specs.CutRecords.{Cut, cut_of, IsRecordCutOff}
 use Rattle.model_image.specs.Faults.{Fault}
 use Rattle.model_image.specs.Slots.{named_by}
-use Rattle.model_image.specs.Snapshot.{told, told_by, snapshot_state}
-use Rattle.model_image.specs.Recovered.{log_in, first_later}
+use Rattle.model_image.specs.Snapshot.{with_record_told, with_records_told, snapshot_state}
+use Rattle.model_image.specs.RecoveredState.{log_in, first_later}
 use Rattle.model_image.proofs.Ahead.{ahead_empty}
 use Rattle.model_image.proofs.Answers.{one_answer_of, nothing_cut_off}
 use Rattle.model_image.proofs.Later.{not_later}
-use Rattle.disk_law.specs.Committed.{Touch, changes_of, TellsTouches}
-use Rattle.disk_law.specs.Life.{LifeOnDisk, IsLife, EachSlot, SpellRows, bytes_at, but_rows}
-use Rattle.disk_law.specs.Kept.{IsKept, StandsAt}
+use Rattle.disk_law.specs.CommittedBytes.{Touch, changes_of_slot, TellsTouches}
+use Rattle.disk_law.specs.Life.{LifeOnDisk, IsLifeOnDisk, EachSlot, SpellRows, store_bytes_at, but_rows}
+use Rattle.disk_law.specs.KeptImages.{IsImageKept, StandsAt}
 use Rattle.disk_law.proofs.Naming.{NamedAs, unchanged_unnamed}
 use Rattle.disk_law.proofs.Recovering.{IsReadAs, read_recovers}
-use Rattle.disk_law.specs.Opening.{bytes_in_stores, no_touches, opened_life, MayOpen, IsOpened}
+use Rattle.disk_law.specs.OpenedLife.{bytes_in_stores, no_touches, opened_life, MayOpenLife, IsOpened}
 use Rattle.disk_law.proofs.Anew.{begins_anew}
 use Rattle.disk_law.proofs.Stored.{store_of, bytes_of_store}
+use Rattle.checkpointing.proofs.Begun.{nothing_cut}
+use Rattle.disk_law.proofs.Checkpointed.{no_bytes}
 
 -- ---- a snapshot says nothing of rows
 
-one_rows : (r : Record) (lasting : LastingState) → (told r lasting).rows ≡ lasting.rows
+one_rows : (r : Record) (lasting : LastingState) → (with_record_told r lasting).rows ≡ lasting.rows
 one_rows (Change unit database slot before after) lasting = refl
 one_rows (Input unit id origin code number conversation segments) lasting = refl
 one_rows (Command text) lasting = refl
@@ -46,16 +47,12 @@ one_rows (Checkpoint checkpoint next_id next_unit steps) lasting = refl
 one_rows (Terminal name last next stopped conversation) lasting = refl
 one_rows (Code name stopped class priority) lasting = refl
 
-told_rows : (records : List Record) (lasting : LastingState) → (told_by records lasting).rows ≡ lasting.rows
+told_rows : (records : List Record) (lasting : LastingState) → (with_records_told records lasting).rows ≡ lasting.rows
 told_rows [] lasting = refl
-told_rows (r ∷ records) lasting = told_rows records (told r lasting) ∙ one_rows r lasting
+told_rows (r ∷ records) lasting = told_rows records (with_record_told r lasting) ∙ one_rows r lasting
 
 rows_back : (l : LastingState) (lines : List (List Row)) → l.rows ≡ lines → l ≡ record l { rows = lines }
 rows_back l lines is = ap (λ (rs : List (List Row)). record l { rows = rs }) is
-
-nothing_cut : cut_of [] ≡ record { records = []; rest = [] }
-unfolding cut_of
-nothing_cut = refl
 
 abbrev fine : LastingState → Result LastingState Fault
 fine state = Ok state
@@ -63,20 +60,15 @@ fine state = Ok state
 one_state : (a b : LastingState) → fine a ≡ fine b → a ≡ b
 one_state a b e = cc
 
-no_bytes : IsBytes []
-no_bytes i = nothing i where
-  nothing : (i : ℕ) → get_or [] i 0 < 256
-  nothing i = omega arith
-
-module _ (system : System) (text : List ℕ) (now : RestartSector) (stores : List Stored) (state : LastingState) (records : List Record) (may : MayOpen system now stores state records) where
+module _ (system : System) (text : List ℕ) (now : RestartSector) (stores : List Stored) (state : LastingState) (records : List Record) (may : MayOpenLife system now stores state records) where
   abbrev life : LifeOnDisk
   life = opened_life system text now stores state
 
   abbrev lines : List (List Row)
   lines = map (λ s. rows_of_slots s.slots) stores
 
-  bytes_are : (place number : ℕ) → bytes_in_stores stores (place + 1) number ≡ bytes_at stores place number
-  bytes_are place number = ap (λ p. bytes_at stores p number) (omega arith)
+  bytes_are : (place number : ℕ) → bytes_in_stores stores (place + 1) number ≡ store_bytes_at stores place number
+  bytes_are place number = ap (λ p. store_bytes_at stores p number) (omega arith)
 
   spells : SpellRows system (bytes_in_stores stores) lines
   spells = record {
@@ -94,14 +86,14 @@ module _ (system : System) (text : List ℕ) (now : RestartSector) (stores : Lis
     none_some t e = cc
 
   none_named : (d s : ℕ) → named_by records [] d s ≡ None
-  none_named d s = unchanged_unnamed records [] d s (ap (λ (rs : List Record). changes_of rs d s) (append-nil records) ∙ may.plain d s)
+  none_named d s = unchanged_unnamed records [] d s (ap (λ (rs : List Record). changes_of_slot rs d s) (append-nil records) ∙ may.plain d s)
 
   module _ (image : Image) (opened : IsOpened system text now stores state records image) where
     no_chain : chain system.logs image (log_first system now.log) now.sequence now.epoch ≡ []
     no_chain = ahead_empty system image now.epoch now.sequence now.log opened.none_ahead may.in_range.log (omega (arith, may.in_range.sequence.1))
 
     no_log : log_in system image now ≡ record { records = []; rest = [] }
-    no_log = ap (λ (payloads : List (List ℕ)). cut_of (joined payloads)) no_chain ∙ nothing_cut
+    no_log = ap (λ (payloads : List (List ℕ)). cut_of (joined_payloads payloads)) no_chain ∙ nothing_cut
 
     none_later : first_later (2 * system.logs) image (log_first system 0) now.epoch ≡ None
     none_later = not_later system image now state opened.restart opened.recovers
@@ -124,7 +116,7 @@ module _ (system : System) (text : List ℕ) (now : RestartSector) (stores : Lis
       restart = opened.restart;
       has_snapshot = opened.has_snapshot;
       has_records = ap (λ (cut : Cut). cut.records) no_log;
-      cut_off = subst (λ (cut : Cut). IsCutOff cut.rest) (sym no_log) nothing_cut_off;
+      cut_off = subst (λ (cut : Cut). IsRecordCutOff cut.rest) (sym no_log) nothing_cut_off;
       waiting = [];
       lasts = ap (λ (lasting : LastingState). Some (record { lasting = lasting; waiting = [] })) told_is;
       named = λ d s. subst (NamedAs (bytes_in_stores stores d s)) (sym (none_named d s)) tt;
@@ -139,14 +131,14 @@ module _ (system : System) (text : List ℕ) (now : RestartSector) (stores : Lis
         (one_answer_of system image (Ok found_state) (Ok state) (read_recovers system now records [] found_state (bytes_in_stores stores) image is_read) opened.recovers)
 
     -- It is an image of the life that begins.
-    pub opened_kept : IsKept life image
+    pub opened_kept : IsImageKept life image
     opened_kept = record {
       restart = opened.restart;
       has_text = opened.has_text;
       snapshot = records;
       log = [];
       has_snapshot = opened.has_snapshot;
-      has_log = ap joined no_chain;
+      has_log = ap joined_payloads no_chain;
       records = tt;
       bytes = no_bytes;
       lasts = ap (λ (lasting : LastingState). Some (record { lasting = lasting; waiting = [] })) (told_is ∙ ap (but_rows system) same_state);
@@ -162,7 +154,7 @@ module _ (system : System) (text : List ℕ) (now : RestartSector) (stores : Lis
       none_some t e = cc
 
     -- And the life's parts agree.
-    pub opened_is_life : IsLife life
+    pub opened_is_life : IsLifeOnDisk life
     opened_is_life = record {
       in_range = may.in_range;
       few = may.few;

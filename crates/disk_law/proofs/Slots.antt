@@ -11,8 +11,10 @@ use Rattle.log_records.specs.declared.record.Record.{Record}
 use Rattle.log_records.specs.declared.record.Record.TheVariants.{Input, Command, Reply, Discarded, Completed, Acknowledged, SyncPoint, Checkpoint, Terminal, Code, Change}
 use Rattle.model_messages.specs.declared.conversation.PadChange.{PadChange}
 use Rattle.model_image.specs.Slots.{is_change_of, is_sync_point_of, is_synced, before_image, after_image, named_by}
-use Rattle.disk_law.specs.Committed.{Touch, Touches, Bytes, changes_of, last_change, is_by, IsLast, AreCommitted, IsTold, TellsTouches, is_place, touched, with_touch, without_touches, without_sync, synced}
-use Rattle.image_law.proofs.Bools.{both, first_of, second_of, neither_first, neither_second, not_true, not_of_false}
+use Rattle.disk_law.specs.CommittedBytes.{Touch, Touches, Bytes, changes_of_slot, last_change, is_by, IsLast, AreCommitted, IsTouchTold, TellsTouches, is_place, touched, with_slot_touch, without_touches, without_sync, synced}
+use Rattle.image_law.proofs.Bools.{first_of, second_of, neither_first, neither_second, not_true, not_of_false}
+use Rattle.tm_types.proofs.Truths.{both}
+use Rattle.disk_law.proofs.Anew.{named_of, named_is}
 
 -- ---- numbers and places that are compared
 
@@ -33,26 +35,18 @@ left_false false b is on = refl
 
 -- ---- what the changes of a slot say
 
--- by which of them reached their sync points
-abbrev named_of : (Record → Bool) → List Record → Option (List ℕ)
-named_of test changes = option_or (option_map after_image (find test (reverse changes))) (option_map before_image (slice_get changes 0))
-
-named_is : (snapshot log : List Record) (database slot : ℕ) → named_by snapshot log database slot ≡ named_of (is_synced log) (changes_of (snapshot ++ log) database slot)
-unfolding named_by
-named_is snapshot log database slot = refl
-
 -- the changes of a slot with one record more
-more_changes : (snapshot log : List Record) (r : Record) (database slot : ℕ) → changes_of (snapshot ++ (log ++ r ∷ [])) database slot ≡ changes_of (snapshot ++ log) database slot ++ changes_of (r ∷ []) database slot
+more_changes : (snapshot log : List Record) (r : Record) (database slot : ℕ) → changes_of_slot (snapshot ++ (log ++ r ∷ [])) database slot ≡ changes_of_slot (snapshot ++ log) database slot ++ changes_of_slot (r ∷ []) database slot
 more_changes snapshot log r database slot =
-    ap (λ (records : List Record). changes_of records database slot) (sym (append_assoc snapshot log (r ∷ [])))
+    ap (λ (records : List Record). changes_of_slot records database slot) (sym (append_assoc snapshot log (r ∷ [])))
     ∙ filter-append (is_change_of database slot) (snapshot ++ log) (r ∷ [])
 
 -- with one that isn't of the slot
-same_changes : (snapshot log : List Record) (r : Record) (database slot : ℕ) → is_change_of database slot r ≡ false → changes_of (snapshot ++ (log ++ r ∷ [])) database slot ≡ changes_of (snapshot ++ log) database slot
+same_changes : (snapshot log : List Record) (r : Record) (database slot : ℕ) → is_change_of database slot r ≡ false → changes_of_slot (snapshot ++ (log ++ r ∷ [])) database slot ≡ changes_of_slot (snapshot ++ log) database slot
 same_changes snapshot log r database slot other =
     more_changes snapshot log r database slot
-    ∙ ap (λ b. changes_of (snapshot ++ log) database slot ++ (if b then r ∷ [] else [])) other
-    ∙ append-nil (changes_of (snapshot ++ log) database slot)
+    ∙ ap (λ b. changes_of_slot (snapshot ++ log) database slot ++ (if b then r ∷ [] else [])) other
+    ∙ append-nil (changes_of_slot (snapshot ++ log) database slot)
 
 -- sync points with one record more
 more_syncs : (unit : ℕ) (log : List Record) (r : Record) → list_any (is_sync_point_of unit) (log ++ r ∷ []) ≡ list_any (is_sync_point_of unit) log || is_sync_point_of unit r
@@ -92,7 +86,7 @@ module _ (snapshot log : List Record) (may_sync : ℕ → Bool) (touches : Touch
   named_beside r no_sync database slot other =
       named_is snapshot (log ++ r ∷ []) database slot
       ∙ ap (λ (changes : List Record). named_of (is_synced (log ++ r ∷ [])) changes) (same_changes snapshot log r database slot other)
-      ∙ ap (λ (test : Record → Bool). named_of test (changes_of (snapshot ++ log) database slot)) (all_synced_same log r no_sync)
+      ∙ ap (λ (test : Record → Bool). named_of test (changes_of_slot (snapshot ++ log) database slot)) (all_synced_same log r no_sync)
       ∙ sym (named_is snapshot log database slot)
 
   -- Inputs, replies, completions, acknowledgements and discarded messages leave all as it was.
@@ -151,7 +145,7 @@ module _ (snapshot log : List Record) (may_sync : ℕ → Bool) (touches : Touch
   change = Change unit database slot before after
 
   abbrev pub now : Touches
-  now = with_touch unit database slot before after touches
+  now = with_slot_touch unit database slot before after touches
 
   no_sync : (u : ℕ) → is_sync_point_of u change ≡ false
   no_sync u = refl
@@ -184,20 +178,20 @@ module _ (snapshot log : List Record) (may_sync : ℕ → Bool) (touches : Touch
   beside d s other = named_beside snapshot log may_sync touches committed c change no_sync d s (turned d s ∙ other)
 
   -- the slot of the change
-  its_changes : changes_of (snapshot ++ (log ++ change ∷ [])) database slot ≡ changes_of (snapshot ++ log) database slot ++ change ∷ []
+  its_changes : changes_of_slot (snapshot ++ (log ++ change ∷ [])) database slot ≡ changes_of_slot (snapshot ++ log) database slot ++ change ∷ []
   its_changes =
       more_changes snapshot log change database slot
-      ∙ ap (λ b. changes_of (snapshot ++ log) database slot ++ (if b then change ∷ [] else [])) (both (database == database) (slot == slot) (eq-eqb database database refl) (eq-eqb slot slot refl))
+      ∙ ap (λ b. changes_of_slot (snapshot ++ log) database slot ++ (if b then change ∷ [] else [])) (both (database == database) (slot == slot) (eq-eqb database database refl) (eq-eqb slot slot refl))
 
   its_bytes : (o : Option Touch) → touches unit database slot ≡ o → IfSome (named_by snapshot (log ++ change ∷ []) database slot) (λ bytes. bytes ≡ committed database slot)
   its_bytes o is =
       subst (λ (o : Option (List ℕ)). IfSome o (λ bytes. bytes ≡ committed database slot))
       (sym (named_is snapshot (log ++ change ∷ []) database slot
       ∙ ap (λ (changes : List Record). named_of (is_synced (log ++ change ∷ [])) changes) its_changes
-      ∙ named_more (is_synced (log ++ change ∷ [])) (changes_of (snapshot ++ log) database slot) change not_synced
-      ∙ ap (λ (test : Record → Bool). if list_any (λ _. true) (changes_of (snapshot ++ log) database slot) then named_of test (changes_of (snapshot ++ log) database slot) else Some before) (all_synced_same log change no_sync)))
-      (by_changes (changes_of (snapshot ++ log) database slot) refl o is) where
-        by_changes : (changes : List Record) → changes_of (snapshot ++ log) database slot ≡ changes → (o : Option Touch) → touches unit database slot ≡ o →
+      ∙ named_more (is_synced (log ++ change ∷ [])) (changes_of_slot (snapshot ++ log) database slot) change not_synced
+      ∙ ap (λ (test : Record → Bool). if list_any (λ _. true) (changes_of_slot (snapshot ++ log) database slot) then named_of test (changes_of_slot (snapshot ++ log) database slot) else Some before) (all_synced_same log change no_sync)))
+      (by_changes (changes_of_slot (snapshot ++ log) database slot) refl o is) where
+        by_changes : (changes : List Record) → changes_of_slot (snapshot ++ log) database slot ≡ changes → (o : Option Touch) → touches unit database slot ≡ o →
             IfSome (if list_any (λ _. true) changes then named_of (is_synced log) changes else Some before) (λ bytes. bytes ≡ committed database slot)
         by_changes (x ∷ changes) are o is =
             subst (λ (o : Option (List ℕ)). IfSome o (λ bytes. bytes ≡ committed database slot)) (named_is snapshot log database slot ∙ ap (named_of (is_synced log)) are) (c.named database slot)
@@ -242,7 +236,7 @@ module _ (snapshot log : List Record) (may_sync : ℕ → Bool) (touches : Touch
         let place = same_place d s (second_of (u == unit) (is_place database slot d s) same) in
         subst (λ (o : Option Record). IsLast u t.present o)
         (sym (ap (λ k. last_change (snapshot ++ (log ++ change ∷ [])) k s) place.0 ∙ ap (last_change (snapshot ++ (log ++ change ∷ [])) database) place.1
-        ∙ ap (λ (changes : List Record). slice_get (reverse changes) 0) its_changes ∙ last_more (changes_of (snapshot ++ log) database slot) change))
+        ∙ ap (λ (changes : List Record). slice_get (reverse changes) 0) its_changes ∙ last_more (changes_of_slot (snapshot ++ log) database slot) change))
         (sym (eqb-true u unit (first_of (u == unit) (is_place database slot d s) same)), sym (its_present (touches unit database slot)) ∙ ap (λ (x : Touch). x.present) e)
     last_now u d s t false same is true at =
         let other : u == unit ≡ false = left_false (u == unit) (is_place database slot d s) same at in
@@ -252,7 +246,7 @@ module _ (snapshot log : List Record) (may_sync : ℕ → Bool) (touches : Touch
         subst (λ (changes : List Record). IsLast u t.present (slice_get (reverse changes) 0)) (sym (same_changes snapshot log change d s (turned d s ∙ at))) (c.last u d s t is)
 
     others_now : (u d s : ℕ) → may_sync u ≡ true → (b : Bool) → (u == unit) && is_place database slot d s ≡ b → (if b then Some (touched (touches unit database slot) before after) else touches u d s) ≡ None →
-        (p : Bool) → is_place database slot d s ≡ p → list_any (is_by u) (changes_of (snapshot ++ (log ++ change ∷ [])) d s) ≡ false
+        (p : Bool) → is_place database slot d s ≡ p → list_any (is_by u) (changes_of_slot (snapshot ++ (log ++ change ∷ [])) d s) ≡ false
     others_now u d s may_u true same none p at = cc
     others_now u d s may_u false same none false at =
         ap (λ (changes : List Record). list_any (is_by u) changes) (same_changes snapshot log change d s (turned d s ∙ at)) ∙ c.others u d s may_u none
@@ -260,15 +254,15 @@ module _ (snapshot log : List Record) (may_sync : ℕ → Bool) (touches : Touch
         let other : u == unit ≡ false = left_false (u == unit) (is_place database slot d s) same at in
         let place = same_place d s at in
         let records = snapshot ++ (log ++ change ∷ []) in
-        ap (λ k. list_any (is_by u) (changes_of records k s)) place.0 ∙ ap (λ k. list_any (is_by u) (changes_of records database k)) place.1
+        ap (λ k. list_any (is_by u) (changes_of_slot records k s)) place.0 ∙ ap (λ k. list_any (is_by u) (changes_of_slot records database k)) place.1
         ∙ ap (λ (changes : List Record). list_any (is_by u) changes) its_changes
-        ∙ list_any-append (is_by u) (changes_of (snapshot ++ log) database slot) (change ∷ [])
-        ∙ ap (λ b. b || (unit == u || false)) (sym (ap (λ k. list_any (is_by u) (changes_of (snapshot ++ log) k s)) place.0 ∙ ap (λ k. list_any (is_by u) (changes_of (snapshot ++ log) database k)) place.1) ∙ c.others u d s may_u none)
+        ∙ list_any-append (is_by u) (changes_of_slot (snapshot ++ log) database slot) (change ∷ [])
+        ∙ ap (λ b. b || (unit == u || false)) (sym (ap (λ k. list_any (is_by u) (changes_of_slot (snapshot ++ log) k s)) place.0 ∙ ap (λ k. list_any (is_by u) (changes_of_slot (snapshot ++ log) database k)) place.1) ∙ c.others u d s may_u none)
         ∙ ap (λ b. b || false) (swapped u unit other)
 
 -- ---- a sync point
 
-none_reverse : (p : Record → Bool) (xs : List Record) → list_any p xs ≡ false → list_any p (reverse xs) ≡ false
+pub none_reverse : (p : Record → Bool) (xs : List Record) → list_any p xs ≡ false → list_any p (reverse xs) ≡ false
 none_reverse p [] none = refl
 none_reverse p (x ∷ xs) none =
     ap (list_any p) (reverse-append (x ∷ []) xs)
@@ -340,19 +334,19 @@ module _ (log : List Record) (unit : ℕ) (pad : PadChange) where
   last_counts present (Code name stopped class priority ∷ records) is = absurd is
 
   module _ (snapshot : List Record) (may_sync : ℕ → Bool) (touches : Touches) (committed : Bytes) (c : AreCommitted snapshot log may_sync touches committed) (may : may_sync unit ≡ true) where
-    named_then : (d s : ℕ) → named_by snapshot (log ++ sync ∷ []) d s ≡ named_of then_synced (changes_of (snapshot ++ log) d s)
+    named_then : (d s : ℕ) → named_by snapshot (log ++ sync ∷ []) d s ≡ named_of then_synced (changes_of_slot (snapshot ++ log) d s)
     named_then d s = named_is snapshot (log ++ sync ∷ []) d s ∙ ap (named_of then_synced) (same_changes snapshot log sync d s refl)
 
     by_touch : (d s : ℕ) (o : Option Touch) → touches unit d s ≡ o → IfSome (named_by snapshot (log ++ sync ∷ []) d s) (λ bytes. bytes ≡ option_map_or (λ t. t.present) o (committed d s))
     by_touch d s None is =
-        let changes = changes_of (snapshot ++ log) d s in
+        let changes = changes_of_slot (snapshot ++ log) d s in
         subst (λ (o : Option (List ℕ)). IfSome o (λ bytes. bytes ≡ committed d s))
         (sym (named_then d s
         ∙ ap (λ (o : Option Record). option_or (option_map after_image o) (option_map before_image (slice_get changes 0))) (find_same (reverse changes) (none_reverse (is_by unit) changes (c.others unit d s may is)))
         ∙ sym (named_is snapshot log d s)))
         (c.named d s)
     by_touch d s (Some t) is =
-        let changes = changes_of (snapshot ++ log) d s in
+        let changes = changes_of_slot (snapshot ++ log) d s in
         subst (λ (o : Option (List ℕ)). IfSome o (λ bytes. bytes ≡ t.present))
         (sym (named_then d s
         ∙ ap (λ (o : Option (List ℕ)). option_or o (option_map before_image (slice_get changes 0))) (last_counts t.present (reverse changes) (c.last unit d s t is))))
@@ -384,8 +378,8 @@ module _ (log : List Record) (unit : ℕ) (pad : PadChange) where
 
 -- At a checkpoint the log begins anew behind a snapshot that tells of each slot that an open unit touched.
 module _ (snapshot log : List Record) (may_sync : ℕ → Bool) (touches : Touches) (committed : Bytes) (c : AreCommitted snapshot log may_sync touches committed) (later : List Record) (tells : TellsTouches later touches) where
-  alone_is : (d s : ℕ) → changes_of (later ++ []) d s ≡ changes_of later d s
-  alone_is d s = ap (λ (records : List Record). changes_of records d s) (append-nil later)
+  alone_is : (d s : ℕ) → changes_of_slot (later ++ []) d s ≡ changes_of_slot later d s
+  alone_is d s = ap (λ (records : List Record). changes_of_slot records d s) (append-nil later)
 
   pub checkpoint_keeps : AreCommitted later [] may_sync touches committed
   checkpoint_keeps = record {
@@ -398,12 +392,12 @@ module _ (snapshot log : List Record) (may_sync : ℕ → Bool) (touches : Touch
     last = λ u d s t is. subst (λ (changes : List Record). IsLast u t.present (slice_get (reverse changes) 0)) (sym (alone_is d s ∙ tells.all u d s t is)) (refl, refl);
     others = λ u d s may none. ap (λ (changes : List Record). list_any (is_by u) changes) (alone_is d s) ∙ not_by u d s none (tells.each d s);
   } where
-    by_tells : (d s : ℕ) → (changes_of later d s ≡ []) ⊎ ((unit : ℕ) × (t : Touch) × IsTold later touches unit d s t) → IfSome (named_of (is_synced []) (changes_of later d s)) (λ bytes. bytes ≡ committed d s)
+    by_tells : (d s : ℕ) → (changes_of_slot later d s ≡ []) ⊎ ((unit : ℕ) × (t : Touch) × IsTouchTold later touches unit d s t) → IfSome (named_of (is_synced []) (changes_of_slot later d s)) (λ bytes. bytes ≡ committed d s)
     by_tells d s (inl none) = subst (λ (changes : List Record). IfSome (named_of (is_synced []) changes) (λ bytes. bytes ≡ committed d s)) (sym none) tt
     by_tells d s (inr told) =
         subst (λ (changes : List Record). IfSome (named_of (is_synced []) changes) (λ bytes. bytes ≡ committed d s)) (sym told.2.1) (c.first told.0 d s told.1 told.2.0)
 
-    not_by : (u d s : ℕ) → touches u d s ≡ None → (changes_of later d s ≡ []) ⊎ ((unit : ℕ) × (t : Touch) × IsTold later touches unit d s t) → list_any (is_by u) (changes_of later d s) ≡ false
+    not_by : (u d s : ℕ) → touches u d s ≡ None → (changes_of_slot later d s ≡ []) ⊎ ((unit : ℕ) × (t : Touch) × IsTouchTold later touches unit d s t) → list_any (is_by u) (changes_of_slot later d s) ≡ false
     not_by u d s none (inl no_change) = ap (λ (changes : List Record). list_any (is_by u) changes) no_change
     not_by u d s none (inr told) =
         ap (λ (changes : List Record). list_any (is_by u) changes) told.2.1

@@ -1,86 +1,49 @@
 -- Slots whose bytes spell the records of a store: they break no rule, and are read as these records.
-use Rattle.std.proofs.Common.{◌≡◌, ℕ, suc, ◌+◌, ◌-◌, ◌≤◌, Bool, true, false, not, ◌&&◌, ◌||◌, List, [], ◌∷◌, ◌++◌, length, take, drop, map, refl, sym, ◌∙◌, ap, subst, ⊎_elim, arith, Some, None, Ok, nat_lt, IsTrue}
+use Rattle.std.proofs.Common.{◌≡◌, ℕ, suc, ◌+◌, ◌≤◌, Bool, true, false, not, ◌&&◌, ◌||◌, List, [], ◌∷◌, length, map, refl, sym, ◌∙◌, ap, subst, ⊎_elim, arith, Some, None, Ok, IsTrue}
 use Rattle.std.specs.Prelude.{Option, if◌then◌else◌, find, slice_get}
 use Rattle.std.specs.Option.{option_map, option_or, unwrap_or, is_some}
 use Rattle.std.specs.List.{list_any}
 use Rattle.std.specs.Ordering.{is_eq}
-use Rattle.std.proofs.lemmas.Bool.{le-ltb}
 use Rattle.std.proofs.lemmas.Cmp.{tied_itself}
-use Rattle.std.proofs.lemmas.List.{take_at, drop_at, drop-drop}
-use Rattle.std.proofs.lemmas.Nat.{from_be_bytes-to_be_bytes_2}
 use Rattle.tm_types.specs.declared.dbd.Dbd.{Dbd}
 use Rattle.tm_types.specs.SegTypes.{IsHierarchy}
-use Rattle.tm_disk.specs.Sector.{zeros}
 use Rattle.tm_disk.specs.Disk.{Image}
 use Rattle.model_data.specs.declared.row.Row.{Row}
 use Rattle.model_data.specs.Path.{root_of}
-use Rattle.model_data.specs.Record.{spelling, IsRecord}
+use Rattle.model_data.specs.Record.{rows_spelling, IsRecord}
 use Rattle.model_data.proofs.Order.{key_total}
 use Rattle.model_system.specs.System.{System}
 use Rattle.log_records.specs.declared.record.Record.{Record}
-use Rattle.restart_data.specs.Fields.{number2_at, are_zeros}
-use Rattle.restart_data.proofs.Zeros.{are_zeros-zeros}
-use Rattle.seg_store.specs.Slots.{Stored, IsSlot, AtMostOne, is_free, image_root, has_root, place_of, rows_of_slots}
-use Rattle.seg_store.specs.DataSectors.{data_sector}
+use Rattle.seg_store.specs.Slots.{Stored, IsSlot, AtMostOne, is_slot_free, image_root, has_root, place_of, rows_of_slots}
 use Rattle.image_loading.proofs.Spelled.{spells_rows, no_bytes}
 use Rattle.model_image.specs.Areas.{data_first}
 use Rattle.model_image.specs.Faults.{Fault, unless_fault}
-use Rattle.model_image.specs.Slots.{Slot, Source, source_of, slots_by, slot_in, all_slots, slot_fault, rows_of, rows_from, rows_of_bytes, used_in, bytes_in, is_image, is_wrong_length, has_wrong_length, has_no_record, rows_in, have_one_root, first_shared, first_in}
+use Rattle.model_image.specs.Slots.{SlotOnImage, Source, source_of, slots_by, image_slot_in, all_slots, slot_fault, rows_of_databases, image_rows_from, rows_of_bytes, is_image, has_wrong_length, has_no_record, slot_rows, have_one_root, first_shared, first_in}
 use Rattle.model_image.specs.Slots.Source.{Named, Spelled}
-use Rattle.model_image.specs.Holding.{HoldsBytes}
+use Rattle.model_image.specs.HeldStores.{HoldsBytes}
 use Rattle.disk_law.proofs.Naming.{NamedAs}
 
 -- ---- one slot
 
 -- a slot that breaks no rule by itself, and is read as this image
-pub record IsRight (slot : Slot) (image : List Row) : Type 0 where
+pub record IsRight (slot : SlotOnImage) (image : List Row) : Type 0 where
   pub right : has_wrong_length slot ≡ false
   pub spells : has_no_record slot ≡ false
-  pub is : rows_in slot ≡ image
+  pub is : slot_rows slot ≡ image
 
-image_read : (dbd : Dbd) → IsHierarchy dbd.types → (image : List Row) → IsSlot dbd image → rows_of_bytes dbd (spelling image) ≡ Some image
+image_read : (dbd : Dbd) → IsHierarchy dbd.types → (image : List Row) → IsSlot dbd image → rows_of_bytes dbd (rows_spelling image) ≡ Some image
 image_read dbd types image is =
     ⊎_elim
-    (λ (none : image ≡ []). ap (λ (rows : List Row). rows_of_bytes dbd (spelling rows)) none ∙ no_bytes dbd ∙ ap (λ (rows : List Row). Some rows) (sym none))
-    (λ (whole : IsRecord dbd (image_root image) image). spells_rows dbd types (spelling image) image (record { root = image_root image; valid = whole; spelled = refl }))
+    (λ (none : image ≡ []). ap (λ (rows : List Row). rows_of_bytes dbd (rows_spelling rows)) none ∙ no_bytes dbd ∙ ap (λ (rows : List Row). Some rows) (sym none))
+    (λ (whole : IsRecord dbd (image_root image) image). spells_rows dbd types (rows_spelling image) image (record { root = image_root image; valid = whole; spelled = refl }))
     is
 
-pub image_fits : (dbd : Dbd) → dbd.sectors ≤ 1 → (image : List Row) → IsSlot dbd image → length (spelling image) ≤ 4000
+pub image_fits : (dbd : Dbd) → dbd.sectors ≤ 1 → (image : List Row) → IsSlot dbd image → length (rows_spelling image) ≤ 4000
 image_fits dbd one image is =
     ⊎_elim
-    (λ (none : image ≡ []). omega (arith, ap (λ (rows : List Row). length (spelling rows)) none))
+    (λ (none : image ≡ []). omega (arith, ap (λ (rows : List Row). length (rows_spelling rows)) none))
     (λ (whole : IsRecord dbd (image_root image) image). omega (arith, whole.within, one))
     is
-
-used_is : (bytes : List ℕ) → length bytes ≤ 4000 → used_in (data_sector bytes) ≡ length bytes
-unfolding data_sector number2_at
-used_is bytes fits = from_be_bytes-to_be_bytes_2 (length bytes) (omega (arith, fits))
-
-behind_two : (bytes : List ℕ) → drop 2 (data_sector bytes) ≡ bytes ++ zeros (4094 - length bytes)
-unfolding data_sector
-behind_two bytes = refl
-
-bytes_are : (bytes : List ℕ) → length bytes ≤ 4000 → bytes_in (data_sector bytes) ≡ bytes
-bytes_are bytes fits =
-    ap (λ n. take n (drop 2 (data_sector bytes))) (used_is bytes fits)
-    ∙ ap (λ (l : List ℕ). take (length bytes) l) (behind_two bytes)
-    ∙ take_at bytes (zeros (4094 - length bytes)) (length bytes) refl
-
-zeros_behind : (bytes : List ℕ) → length bytes ≤ 4000 → are_zeros (drop (2 + used_in (data_sector bytes)) (data_sector bytes)) ≡ true
-zeros_behind bytes fits =
-    ap (λ n. are_zeros (drop (2 + n) (data_sector bytes))) (used_is bytes fits)
-    ∙ ap are_zeros (sym (drop-drop (length bytes) 2 (data_sector bytes)) ∙ ap (λ (l : List ℕ). drop (length bytes) l) (behind_two bytes) ∙ drop_at bytes (zeros (4094 - length bytes)) (length bytes) refl)
-    ∙ are_zeros-zeros (4094 - length bytes)
-
-right_length : (bytes : List ℕ) → length bytes ≤ 4000 → is_wrong_length (Spelled (data_sector bytes)) ≡ false
-right_length bytes fits =
-    ap (λ n. nat_lt 4000 n || not (are_zeros (drop (2 + used_in (data_sector bytes)) (data_sector bytes)))) (used_is bytes fits)
-    ∙ ap (λ b. b || not (are_zeros (drop (2 + used_in (data_sector bytes)) (data_sector bytes)))) (le-ltb 4000 (length bytes) fits)
-    ∙ ap not (zeros_behind bytes fits)
-
--- a data sector with these bytes holds them
-pub data_holds : (bytes : List ℕ) → length bytes ≤ 4000 → HoldsBytes bytes (data_sector bytes)
-data_holds bytes fits = record { right = right_length bytes fits; spelled = bytes_are bytes fits }
 
 -- what is read of bytes that spell an image
 module _ (dbd : Dbd) (image : List Row) (bytes : List ℕ) (read : rows_of_bytes dbd bytes ≡ Some image) where
@@ -91,8 +54,8 @@ module _ (dbd : Dbd) (image : List Row) (bytes : List ℕ) (read : rows_of_bytes
   spelled_rows = ap (λ (o : Option (List Row)). unwrap_or o []) read
 
 -- by its source: named with the bytes, or spelled by its sector
-module _ (dbd : Dbd) (place : ℕ) (types : IsHierarchy dbd.types) (image : List Row) (is : IsSlot dbd image) (v : List ℕ) (spells : v ≡ spelling image) where
-  abbrev with_source : Source → Slot
+module _ (dbd : Dbd) (place : ℕ) (types : IsHierarchy dbd.types) (image : List Row) (is : IsSlot dbd image) (v : List ℕ) (spells : v ≡ rows_spelling image) where
+  abbrev with_source : Source → SlotOnImage
   with_source source = record { dbd = dbd; place = place; source = source }
 
   read_is : rows_of_bytes dbd v ≡ Some image
@@ -114,35 +77,35 @@ module _ (dbd : Dbd) (place : ℕ) (types : IsHierarchy dbd.types) (image : List
 
 -- ---- the slots of a database
 
-abbrev pub AreRight : List Slot → List (List Row) → Type 0
+abbrev pub AreRight : List SlotOnImage → List (List Row) → Type 0
 AreRight [] [] = Unit {0}
 AreRight (slot ∷ slots) (image ∷ images) = IsRight slot image × AreRight slots images
 AreRight [] (image ∷ images) = ⊥
 AreRight (slot ∷ slots) [] = ⊥
 
-pub right_by : (slot : ℕ → Slot) (images : List (List Row)) (number : ℕ) → ((k : ℕ) (image : List Row) → slice_get images k ≡ Some image → IsRight (slot (number + k)) image) → AreRight (slots_by slot (length images) number) images
+pub right_by : (slot : ℕ → SlotOnImage) (images : List (List Row)) (number : ℕ) → ((k : ℕ) (image : List Row) → slice_get images k ≡ Some image → IsRight (slot (number + k)) image) → AreRight (slots_by slot (length images) number) images
 right_by slot [] number each = tt
 right_by slot (image ∷ images) number each = (
   subst (λ k. IsRight (slot k) image) (omega arith) (each 0 image refl),
   right_by slot images (number + 1) (λ k other found. subst (λ j. IsRight (slot j) other) (omega arith) (each (suc k) other found)),
 )
 
-none_wrong : (slots : List Slot) (images : List (List Row)) → AreRight slots images → find has_wrong_length slots ≡ None
+none_wrong : (slots : List SlotOnImage) (images : List (List Row)) → AreRight slots images → find has_wrong_length slots ≡ None
 none_wrong [] [] right = refl
 none_wrong (s ∷ slots) (image ∷ images) right = ap (λ (b : Bool). if b then Some s else find has_wrong_length slots) right.0.right ∙ none_wrong slots images right.1
 none_wrong [] (image ∷ images) right = absurd right
 none_wrong (s ∷ slots) [] right = absurd right
 
-none_other : (slots : List Slot) (images : List (List Row)) → AreRight slots images → find has_no_record slots ≡ None
+none_other : (slots : List SlotOnImage) (images : List (List Row)) → AreRight slots images → find has_no_record slots ≡ None
 none_other [] [] right = refl
 none_other (s ∷ slots) (image ∷ images) right = ap (λ (b : Bool). if b then Some s else find has_no_record slots) right.0.spells ∙ none_other slots images right.1
 none_other [] (image ∷ images) right = absurd right
 none_other (s ∷ slots) [] right = absurd right
 
-images_are : (slots : List Slot) (images : List (List Row)) → AreRight slots images → map rows_in slots ≡ images
+images_are : (slots : List SlotOnImage) (images : List (List Row)) → AreRight slots images → map slot_rows slots ≡ images
 images_are [] [] right = refl
 images_are (s ∷ slots) (image ∷ images) right =
-    ap (λ (first : List Row). first ∷ map rows_in slots) right.0.is ∙ ap (λ (others : List (List Row)). image ∷ others) (images_are slots images right.1)
+    ap (λ (first : List Row). first ∷ map slot_rows slots) right.0.is ∙ ap (λ (others : List (List Row)). image ∷ others) (images_are slots images right.1)
 images_are [] (image ∷ images) right = absurd right
 images_are (s ∷ slots) [] right = absurd right
 
@@ -155,16 +118,16 @@ none_head test x xs none = by_first (test x) (place_of test xs) none where
   by_first false None e = (refl, refl)
   by_first false (Some n) e = cc
 
-root_alike : (root : List ℕ) (s : Slot) (image : List Row) → image_root image ≡ root → rows_in s ≡ image → (slots : List Slot) (images : List (List Row)) → AreRight slots images → place_of (has_root root) images ≡ None → list_any (have_one_root s) slots ≡ false
+root_alike : (root : List ℕ) (s : SlotOnImage) (image : List Row) → image_root image ≡ root → slot_rows s ≡ image → (slots : List SlotOnImage) (images : List (List Row)) → AreRight slots images → place_of (has_root root) images ≡ None → list_any (have_one_root s) slots ≡ false
 root_alike root s image its is [] [] right none = refl
 root_alike root s image its is (other ∷ slots) (x ∷ images) right none =
     let both = none_head (has_root root) x images none in
     ap (λ b. b || list_any (have_one_root s) slots)
-    (ap (λ (rows : List Row). not (is_free (rows_in s)) && has_root (image_root rows) (rows_in other)) is
-    ∙ ap (λ (key : List ℕ). not (is_free (rows_in s)) && has_root key (rows_in other)) its
-    ∙ ap (λ (rows : List Row). not (is_free (rows_in s)) && has_root root rows) right.0.is
-    ∙ ap (λ b. not (is_free (rows_in s)) && b) both.0
-    ∙ and_false (not (is_free (rows_in s))))
+    (ap (λ (rows : List Row). not (is_slot_free (slot_rows s)) && has_root (image_root rows) (slot_rows other)) is
+    ∙ ap (λ (key : List ℕ). not (is_slot_free (slot_rows s)) && has_root key (slot_rows other)) its
+    ∙ ap (λ (rows : List Row). not (is_slot_free (slot_rows s)) && has_root root rows) right.0.is
+    ∙ ap (λ b. not (is_slot_free (slot_rows s)) && b) both.0
+    ∙ and_false (not (is_slot_free (slot_rows s))))
     ∙ root_alike root s image its is slots images right.1 both.1 where
       and_false : (b : Bool) → b && false ≡ false
       and_false true = refl
@@ -172,19 +135,19 @@ root_alike root s image its is (other ∷ slots) (x ∷ images) right none =
 root_alike root s image its is [] (x ∷ images) right none = absurd right
 root_alike root s image its is (other ∷ slots) [] right none = absurd right
 
-free_alike : (s : Slot) → rows_in s ≡ [] → (slots : List Slot) → list_any (have_one_root s) slots ≡ false
+free_alike : (s : SlotOnImage) → slot_rows s ≡ [] → (slots : List SlotOnImage) → list_any (have_one_root s) slots ≡ false
 free_alike s is [] = refl
 free_alike s is (other ∷ slots) =
-    ap (λ (rows : List Row). not (is_free rows) && has_root (image_root rows) (rows_in other) || list_any (have_one_root s) slots) is
+    ap (λ (rows : List Row). not (is_slot_free rows) && has_root (image_root rows) (slot_rows other) || list_any (have_one_root s) slots) is
     ∙ free_alike s is slots
 
-none_alike : (s : Slot) (image : List Row) → rows_in s ≡ image → (slots : List Slot) (images : List (List Row)) → AreRight slots images → ((root : List ℕ) → IsTrue (has_root root image) → place_of (has_root root) images ≡ None) → list_any (have_one_root s) slots ≡ false
+none_alike : (s : SlotOnImage) (image : List Row) → slot_rows s ≡ image → (slots : List SlotOnImage) (images : List (List Row)) → AreRight slots images → ((root : List ℕ) → IsTrue (has_root root image) → place_of (has_root root) images ≡ None) → list_any (have_one_root s) slots ≡ false
 none_alike s [] is slots images right apart = free_alike s is slots
 none_alike s (row ∷ image) is slots images right apart =
     let root = root_of row.path in
     root_alike root s (row ∷ image) refl is slots images right (apart root (ap is_eq (tied_itself key_total root)))
 
-none_shared : (slots : List Slot) (images : List (List Row)) → AreRight slots images → ((root : List ℕ) → AtMostOne (has_root root) images) → first_shared slots ≡ None
+none_shared : (slots : List SlotOnImage) (images : List (List Row)) → AreRight slots images → ((root : List ℕ) → AtMostOne (has_root root) images) → first_shared slots ≡ None
 none_shared [] [] right apart = refl
 none_shared (s ∷ slots) (image ∷ images) right apart =
     ap (λ (b : Bool). if b then Some s else first_shared slots) (none_alike s image right.0.is slots images right.1 (λ root. (apart root).0))
@@ -195,45 +158,45 @@ none_shared (s ∷ slots) [] right apart = absurd right
 -- ---- all databases
 
 -- the slots of each are read as those of its store, of which no two have one root
-abbrev pub AllRight : List (List Slot) → List Stored → Type 0
+abbrev pub AllRight : List (List SlotOnImage) → List Stored → Type 0
 AllRight [] [] = Unit {0}
 AllRight (slots ∷ databases) (s ∷ stores) = (AreRight slots s.slots × ((root : List ℕ) → AtMostOne (has_root root) s.slots)) × AllRight databases stores
 AllRight [] (s ∷ stores) = ⊥
 AllRight (slots ∷ databases) [] = ⊥
 
-wrong_none : (databases : List (List Slot)) (stores : List Stored) → AllRight databases stores → first_in (find has_wrong_length) databases ≡ None
+wrong_none : (databases : List (List SlotOnImage)) (stores : List Stored) → AllRight databases stores → first_in (find has_wrong_length) databases ≡ None
 wrong_none [] [] right = refl
-wrong_none (slots ∷ databases) (s ∷ stores) right = ap (λ (o : Option Slot). option_or o (first_in (find has_wrong_length) databases)) (none_wrong slots s.slots right.0.0) ∙ wrong_none databases stores right.1
+wrong_none (slots ∷ databases) (s ∷ stores) right = ap (λ (o : Option SlotOnImage). option_or o (first_in (find has_wrong_length) databases)) (none_wrong slots s.slots right.0.0) ∙ wrong_none databases stores right.1
 wrong_none [] (s ∷ stores) right = absurd right
 wrong_none (slots ∷ databases) [] right = absurd right
 
-other_none : (databases : List (List Slot)) (stores : List Stored) → AllRight databases stores → first_in (find has_no_record) databases ≡ None
+other_none : (databases : List (List SlotOnImage)) (stores : List Stored) → AllRight databases stores → first_in (find has_no_record) databases ≡ None
 other_none [] [] right = refl
-other_none (slots ∷ databases) (s ∷ stores) right = ap (λ (o : Option Slot). option_or o (first_in (find has_no_record) databases)) (none_other slots s.slots right.0.0) ∙ other_none databases stores right.1
+other_none (slots ∷ databases) (s ∷ stores) right = ap (λ (o : Option SlotOnImage). option_or o (first_in (find has_no_record) databases)) (none_other slots s.slots right.0.0) ∙ other_none databases stores right.1
 other_none [] (s ∷ stores) right = absurd right
 other_none (slots ∷ databases) [] right = absurd right
 
-shared_none : (databases : List (List Slot)) (stores : List Stored) → AllRight databases stores → first_in first_shared databases ≡ None
+shared_none : (databases : List (List SlotOnImage)) (stores : List Stored) → AllRight databases stores → first_in first_shared databases ≡ None
 shared_none [] [] right = refl
-shared_none (slots ∷ databases) (s ∷ stores) right = ap (λ (o : Option Slot). option_or o (first_in first_shared databases)) (none_shared slots s.slots right.0.0 right.0.1) ∙ shared_none databases stores right.1
+shared_none (slots ∷ databases) (s ∷ stores) right = ap (λ (o : Option SlotOnImage). option_or o (first_in first_shared databases)) (none_shared slots s.slots right.0.0 right.0.1) ∙ shared_none databases stores right.1
 shared_none [] (s ∷ stores) right = absurd right
 shared_none (slots ∷ databases) [] right = absurd right
 
-no_fault : (databases : List (List Slot)) (stores : List Stored) → AllRight databases stores → slot_fault databases ≡ None
+no_fault : (databases : List (List SlotOnImage)) (stores : List Stored) → AllRight databases stores → slot_fault databases ≡ None
 no_fault databases stores right =
     rw (wrong_none databases stores right, other_none databases stores right, shared_none databases stores right) refl
 
-rows_are : (databases : List (List Slot)) (stores : List Stored) → AllRight databases stores → rows_of databases ≡ map (λ s. rows_of_slots s.slots) stores
+rows_are : (databases : List (List SlotOnImage)) (stores : List Stored) → AllRight databases stores → rows_of_databases databases ≡ map (λ s. rows_of_slots s.slots) stores
 rows_are [] [] right = refl
 rows_are (slots ∷ databases) (s ∷ stores) right =
-    ap (λ (images : List (List Row)). rows_of_slots images ∷ rows_of databases) (images_are slots s.slots right.0.0)
+    ap (λ (images : List (List Row)). rows_of_slots images ∷ rows_of_databases databases) (images_are slots s.slots right.0.0)
     ∙ ap (λ (others : List (List Row)). rows_of_slots s.slots ∷ others) (rows_are databases stores right.1)
 rows_are [] (s ∷ stores) right = absurd right
 rows_are (slots ∷ databases) [] right = absurd right
 
 module _ (system : System) (image : Image) (snapshot log : List Record) where
-  abbrev pub of_store : ℕ → Stored → List Slot
-  of_store place s = slots_by (slot_in image snapshot log s.dbd (data_first system place) (place + 1)) s.dbd.roots 0
+  abbrev pub of_store : ℕ → Stored → List SlotOnImage
+  of_store place s = slots_by (image_slot_in image snapshot log s.dbd (data_first system place) (place + 1)) s.dbd.roots 0
 
   abbrev pub IsGood : ℕ → Stored → Type 0
   IsGood place s = AreRight (of_store place s) s.slots × ((root : List ℕ) → AtMostOne (has_root root) s.slots)
@@ -247,10 +210,10 @@ module _ (system : System) (image : Image) (snapshot log : List Record) where
   )
 
   -- what the slots of an image are read as
-  pub rows_read : (stores : List Stored) → map (λ s. s.dbd) stores ≡ system.databases → ((j : ℕ) (s : Stored) → slice_get stores j ≡ Some s → IsGood (0 + j) s) → rows_from system image snapshot log ≡ Ok (map (λ s. rows_of_slots s.slots) stores)
+  pub rows_read : (stores : List Stored) → map (λ s. s.dbd) stores ≡ system.databases → ((j : ℕ) (s : Stored) → slice_get stores j ≡ Some s → IsGood (0 + j) s) → image_rows_from system image snapshot log ≡ Ok (map (λ s. rows_of_slots s.slots) stores)
   rows_read stores are each =
-      let databases : List (List Slot) = all_slots system image snapshot log 0 (map (λ s. s.dbd) stores) in
+      let databases : List (List SlotOnImage) = all_slots system image snapshot log 0 (map (λ s. s.dbd) stores) in
       let right = all_right 0 stores each in
-      ap (λ (dbds : List Dbd). unless_fault (slot_fault (all_slots system image snapshot log 0 dbds)) (rows_of (all_slots system image snapshot log 0 dbds))) (sym are)
-      ∙ ap (λ (fault : Option Fault). unless_fault fault (rows_of databases)) (no_fault databases stores right)
+      ap (λ (dbds : List Dbd). unless_fault (slot_fault (all_slots system image snapshot log 0 dbds)) (rows_of_databases (all_slots system image snapshot log 0 dbds))) (sym are)
+      ∙ ap (λ (fault : Option Fault). unless_fault fault (rows_of_databases databases)) (no_fault databases stores right)
       ∙ ap (λ (rows : List (List Row)). Ok rows) (rows_are databases stores right)

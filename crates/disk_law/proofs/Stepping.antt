@@ -13,35 +13,36 @@ use Rattle.model_system.specs.System.{System}
 use Rattle.model_machine.specs.Machine.{LastingState}
 use Rattle.log_records.specs.declared.record.Record.{Record}
 use Rattle.log_records.specs.declared.record.Record.TheVariants.{Input, Command, Reply, Discarded, Completed, Acknowledged, SyncPoint, Checkpoint, Terminal, Code, Change}
-use Rattle.log_records.specs.Spelling.{spelling, IsRecord}
+use Rattle.log_records.specs.RecordSpelling.{record_spelling, IsLogRecord}
 use Rattle.log_records.proofs.Takes.{IsBytes}
-use Rattle.log_sectors.specs.Sealed.{opened}
+use Rattle.log_sectors.specs.SealedSector.{opened_payload}
 use Rattle.log_writer.specs.Writer.{Writer}
-use Rattle.log_writer.specs.Log.{log_of, sectors_of, AddsFront, AddsAll}
-use Rattle.model_image.specs.Ahead.{NoneAhead}
+use Rattle.log_writer.specs.ForcedLog.{log_of_writer, log_sectors_of, AddsFront, AddsAll}
+use Rattle.model_image.specs.SectorsAhead.{NoneAhead}
 use Rattle.model_image.specs.Areas.{log_first}
-use Rattle.model_image.specs.Holding.{HoldsBytes}
+use Rattle.model_image.specs.HeldStores.{HoldsBytes}
 use Rattle.model_image.specs.Slots.{is_image_of, named_by}
 use Rattle.model_image.specs.States.{breaks_a_rule}
 use Rattle.model_image.specs.Replay.{Replay, replay_one, replay_all}
-use Rattle.model_image.specs.Recovered.{Recovers}
+use Rattle.model_image.specs.RecoveredState.{Recovers}
 use Rattle.model_image.proofs.Ahead.{opened_one}
-use Rattle.image_law.specs.Records.{is_change, without_changes}
-use Rattle.image_law.proofs.Bools.{both, first_of, second_of}
+use Rattle.image_law.specs.Records.{is_change_record, without_changes}
+use Rattle.image_law.proofs.Bools.{first_of, second_of}
 use Rattle.image_law.proofs.Lists.{all_imply}
 use Rattle.image_law.proofs.Replayed.{all_take, keeps_all, leaves_sound, appended}
-use Rattle.disk_law.specs.Committed.{Bytes, AreCommitted}
-use Rattle.disk_law.specs.Life.{LifeOnDisk, IsLife, IsWriterOf, EachSlot, SpellRows, but_rows}
-use Rattle.disk_law.specs.Kept.{IsKept, StandsAt, beginning}
-use Rattle.disk_law.specs.Steps.{StepOnDisk, with_records, forced, after_step, done_to, IsTouched, IsStep}
+use Rattle.disk_law.specs.CommittedBytes.{Bytes, AreCommitted}
+use Rattle.disk_law.specs.Life.{LifeOnDisk, IsLifeOnDisk, IsWriterOf, EachSlot, SpellRows, but_rows}
+use Rattle.disk_law.specs.KeptImages.{IsImageKept, StandsAt, beginning}
+use Rattle.disk_law.specs.LifeSteps.{StepOnDisk, with_step_records, forced_by_step, after_step, done_to, IsTouchedByUnits, IsStep}
 use Rattle.disk_law.proofs.Naming.{NamedAs, unnamed_before, named_stays, all_quiet_keep}
 use Rattle.disk_law.proofs.Forcing.{restart_stays, snapshot_stays, text_stays, slots_stay, none_later_after}
 use Rattle.disk_law.proofs.Front.{all_both, cut, front_read, changes_last, changes_named}
 use Rattle.disk_law.proofs.Changing.{bytes_both, touched_named}
+use Rattle.tm_types.proofs.Truths.{both}
 
 -- ---- records that are no changes
 
-image_of_none : (system : System) (r : Record) → not (is_change r) ≡ true → is_image_of system r ≡ true
+image_of_none : (system : System) (r : Record) → not (is_change_record r) ≡ true → is_image_of system r ≡ true
 image_of_none system (Change unit database slot before after) is = absurd cc
 image_of_none system (Input unit id origin code number conversation segments) is = refl
 image_of_none system (Command text) is = refl
@@ -67,9 +68,9 @@ replay_sound system (r ∷ records) before after sound is = from (replay_one sys
   from None one rest later = cc
   from (Some next) one rest later = later next (leaves_sound system r before next one) rest
 
-module _ (life : LifeOnDisk) (l : IsLife life) (step : StepOnDisk) (s : IsStep life step) (a : Image) (k : IsKept life a) where
+module _ (life : LifeOnDisk) (l : IsLifeOnDisk life) (step : StepOnDisk) (s : IsStep life step) (a : Image) (k : IsImageKept life a) where
   abbrev w : Writer
-  w = with_records life step.records
+  w = with_step_records life step.records
 
   abbrev more : List Record
   more = life.appended ++ step.records
@@ -77,28 +78,28 @@ module _ (life : LifeOnDisk) (l : IsLife life) (step : StepOnDisk) (s : IsStep l
   over : IsWriterOf life.system life.now w
   over = record { first = l.writer.first; count = l.writer.count; sequence = l.writer.sequence; epoch = l.writer.epoch }
 
-  spelled : w.appended ≡ flat_map spelling more
-  spelled = ap (λ (b : List ℕ). b ++ flat_map spelling step.records) l.appended.spelled ∙ sym (flat_map-append spelling life.appended step.records)
+  spelled : w.appended ≡ flat_map record_spelling more
+  spelled = ap (λ (b : List ℕ). b ++ flat_map record_spelling step.records) l.appended.spelled ∙ sym (flat_map-append record_spelling life.appended step.records)
 
-  valid : AllByRecursion IsRecord more
-  valid = all_both IsRecord life.appended step.records l.appended.records s.room.valid
+  valid : AllByRecursion IsLogRecord more
+  valid = all_both IsLogRecord life.appended step.records l.appended.records s.room.valid
 
   regroup : (k.log ++ life.appended) ++ step.records ≡ k.log ++ more
   regroup = append_assoc k.log life.appended step.records
 
-  all_bytes : IsBytes (flat_map spelling (k.log ++ more))
+  all_bytes : IsBytes (flat_map record_spelling (k.log ++ more))
   all_bytes =
-      subst IsBytes (sym (flat_map-append spelling (k.log ++ life.appended) step.records) ∙ ap (λ (rs : List Record). flat_map spelling rs) regroup)
-      (bytes_both (flat_map spelling (k.log ++ life.appended)) (flat_map spelling step.records) k.bytes s.room.bytes)
+      subst IsBytes (sym (flat_map-append record_spelling (k.log ++ life.appended) step.records) ∙ ap (λ (rs : List Record). flat_map record_spelling rs) regroup)
+      (bytes_both (flat_map record_spelling (k.log ++ life.appended)) (flat_map record_spelling step.records) k.bytes s.room.bytes)
 
   -- the changes that were appended, and then records of the step, lead where these lead
-  leads_to : (records : List Record) (after : Replay) → list_all (λ r. not (is_change r)) records ≡ true → replay_all life.system records (done_to life.system life.lasting) ≡ Some after →
+  leads_to : (records : List Record) (after : Replay) → list_all (λ r. not (is_change_record r)) records ≡ true → replay_all life.system records (done_to life.system life.lasting) ≡ Some after →
       replay_all life.system (k.log ++ (life.appended ++ records)) (beginning life.system k.snapshot) ≡ Some after
   leads_to records after steady is =
       appended life.system k.log (life.appended ++ records) records (beginning life.system k.snapshot) (done_to life.system life.lasting) after k.lasts l.sound
       (all_append (is_image_of life.system) life.appended records l.appended.images
-      (all_imply (λ r. not (is_change r)) (is_image_of life.system) records (image_of_none life.system) steady))
-      (filter-append (λ r. not (is_change r)) life.appended records ∙ ap (λ (rs : List Record). rs ++ without_changes records) l.appended.changes ∙ keeps_all (λ r. not (is_change r)) records steady)
+      (all_imply (λ r. not (is_change_record r)) (is_image_of life.system) records (image_of_none life.system) steady))
+      (filter-append (λ r. not (is_change_record r)) life.appended records ∙ ap (λ (rs : List Record). rs ++ without_changes records) l.appended.changes ∙ keeps_all (λ r. not (is_change_record r)) records steady)
       is
 
   -- what all records say of the slots
@@ -138,7 +139,7 @@ module _ (life : LifeOnDisk) (l : IsLife life) (step : StepOnDisk) (s : IsStep l
         let some = take m step.records in
         let waits = s.wait m short in
         read_as (life.appended ++ some) (ap (λ i. take i more) is ∙ take-append-add life.appended step.records m) life.lasting life.committed waits.waiting
-        (leads_to some (record { lasting = but_rows life.system life.lasting; waiting = waits.waiting }) (all_take (λ r. not (is_change r)) m step.records s.steady) waits.is)
+        (leads_to some (record { lasting = but_rows life.system life.lasting; waiting = waits.waiting }) (all_take (λ r. not (is_change_record r)) m step.records s.steady) waits.is)
         (λ d slot. subst (λ (rs : List Record). NamedAs (life.committed d slot) (named_by k.snapshot rs d slot)) (append_assoc k.log life.appended some)
         ((all_quiet_keep k.snapshot life.may_sync life.touches life.committed (k.log ++ life.appended) some (s.quiet m short) k.slots).named d slot))
         (λ d slot none. refl) l.rows
@@ -172,34 +173,34 @@ module _ (life : LifeOnDisk) (l : IsLife life) (step : StepOnDisk) (s : IsStep l
         subst (λ (x : List ℕ). HoldsBytes x (sector_at b (Rattle.model_image.specs.Areas.data_first life.system place + number))) (sym is)
         (subst (λ (sector : List ℕ). HoldsBytes v sector) (sym (same_sector place number dbd found below)) stands)
 
-    log_after : log_of w b ≡ flat_map spelling (k.log ++ more)
-    log_after = all.log ∙ ap (λ (old : List ℕ). old ++ w.appended) k.has_log ∙ ap (λ (new : List ℕ). flat_map spelling k.log ++ new) spelled ∙ sym (flat_map-append spelling k.log more)
+    log_after : log_of_writer w b ≡ flat_map record_spelling (k.log ++ more)
+    log_after = all.log ∙ ap (λ (old : List ℕ). old ++ w.appended) k.has_log ∙ ap (λ (new : List ℕ). flat_map record_spelling k.log ++ new) spelled ∙ sym (flat_map-append record_spelling k.log more)
 
     -- a sector that was written is of a sequence before the writer's next one
-    ahead_after : NoneAhead life.system b life.now.epoch (w.sequence + (w.place + sectors_of (length w.appended)))
+    ahead_after : NoneAhead life.system b life.now.epoch (w.sequence + (w.place + log_sectors_of (length w.appended)))
     ahead_after = record { none = λ x i below from small. one x i below from small } where
-      one : (x i : ℕ) → x < 2 * life.system.logs → w.sequence + (w.place + sectors_of (length w.appended)) ≤ i → i < 2 ^ 64 → opened life.now.epoch i (sector_at b (log_first life.system 0 + x)) ≡ None
+      one : (x i : ℕ) → x < 2 * life.system.logs → w.sequence + (w.place + log_sectors_of (length w.appended)) ≤ i → i < 2 ^ 64 → opened_payload life.now.epoch i (sector_at b (log_first life.system 0 + x)) ≡ None
       one x i below from small =
           let at : ℕ = log_first life.system 0 + x in
-          let before : opened life.now.epoch i (sector_at a at) ≡ None = k.none_ahead.none x i below (omega (arith, from)) small in
+          let before : opened_payload life.now.epoch i (sector_at a at) ≡ None = k.none_ahead.none x i below (omega (arith, from)) small in
           ⊎_elim
-          (λ (low : at < w.first + w.place). ap (λ (v : List ℕ). opened life.now.epoch i v) (all.changes.below at low) ∙ before)
+          (λ (low : at < w.first + w.place). ap (λ (v : List ℕ). opened_payload life.now.epoch i v) (all.changes.below at low) ∙ before)
           (λ (high : w.first + w.place ≤ at).
           ⊎_elim
-          (λ (inside : at < (w.first + w.place) + sectors_of (length w.appended)).
+          (λ (inside : at < (w.first + w.place) + log_sectors_of (length w.appended)).
           let y : ℕ = at - w.first in
           let is : w.first + y ≡ at = omega (arith, high) in
-          subst (λ j. opened life.now.epoch i (sector_at b j) ≡ None) is
+          subst (λ j. opened_payload life.now.epoch i (sector_at b j) ≡ None) is
           (⊎_elim
-          (λ stays. ap (λ (v : List ℕ). opened life.now.epoch i v) stays ∙ subst (λ j. opened life.now.epoch i (sector_at a j) ≡ None) (sym is) before)
-          (λ (logs : IsSome (opened w.epoch (w.sequence + y) (sector_at b (w.first + y)))).
+          (λ stays. ap (λ (v : List ℕ). opened_payload life.now.epoch i v) stays ∙ subst (λ j. opened_payload life.now.epoch i (sector_at a j) ≡ None) (sym is) before)
+          (λ (logs : IsSome (opened_payload w.epoch (w.sequence + y) (sector_at b (w.first + y)))).
           opened_one life.now.epoch (w.sequence + y) i (sector_at b (w.first + y))
           (omega (arith, is, inside, s.room.fits, over.count, over.sequence, l.few, l.in_range.sequence.1)) small
-          (subst (λ e. IsSome (opened e (w.sequence + y) (sector_at b (w.first + y)))) over.epoch logs)
+          (subst (λ e. IsSome (opened_payload e (w.sequence + y) (sector_at b (w.first + y)))) over.epoch logs)
           (λ same. omega (arith, same, is, inside, from)))
           (all.each y)))
-          (λ (past : (w.first + w.place) + sectors_of (length w.appended) ≤ at). ap (λ (v : List ℕ). opened life.now.epoch i v) (all.changes.above at past) ∙ before)
-          (cases_lt at ((w.first + w.place) + sectors_of (length w.appended))))
+          (λ (past : (w.first + w.place) + log_sectors_of (length w.appended) ≤ at). ap (λ (v : List ℕ). opened_payload life.now.epoch i v) (all.changes.above at past) ∙ before)
+          (cases_lt at ((w.first + w.place) + log_sectors_of (length w.appended))))
           (cases_lt at (w.first + w.place))
 
     named_after : EachSlot life.system (λ place number. step.changed (place + 1) number ≡ true → IsSome (named_by k.snapshot (k.log ++ more) (place + 1) number))
@@ -208,7 +209,7 @@ module _ (life : LifeOnDisk) (l : IsLife life) (step : StepOnDisk) (s : IsStep l
         (named_stays k.snapshot (k.log ++ life.appended) step.records (place + 1) number
         (⊎_elim
         (λ (was : life.changed (place + 1) number ≡ true). k.named place number dbd found below was)
-        (λ (touched : IsTouched life.touches (place + 1) number).
+        (λ (touched : IsTouchedByUnits life.touches (place + 1) number).
         touched_named k.snapshot (k.log ++ life.appended) life.may_sync life.touches life.committed k.slots touched.unit (place + 1) number touched.touch touched.is)
         (s.only place number dbd found below is)))
 
@@ -216,7 +217,7 @@ module _ (life : LifeOnDisk) (l : IsLife life) (step : StepOnDisk) (s : IsStep l
     nothing_behind = append-nil (k.log ++ more)
 
     -- It is an image of the life behind the step.
-    pub step_kept : IsKept (after_step step life) b
+    pub step_kept : IsImageKept (after_step step life) b
     step_kept = record {
       restart = restart_stays life.system life.now w over l.in_range s.room.fits a b all.changes all.each k.restart;
       has_text = text_stays life.system life.now w over l.in_range s.room.fits a b all.changes all.each k.restart ∙ k.has_text;
@@ -224,8 +225,8 @@ module _ (life : LifeOnDisk) (l : IsLife life) (step : StepOnDisk) (s : IsStep l
       log = k.log ++ more;
       has_snapshot = snapshot_stays life.system life.now w over l.in_range s.room.fits a b all.changes all.each k.restart ∙ k.has_snapshot;
       has_log = log_after;
-      records = all_both IsRecord k.log more k.records valid;
-      bytes = subst (λ (rs : List Record). IsBytes (flat_map spelling rs)) (sym nothing_behind) all_bytes;
+      records = all_both IsLogRecord k.log more k.records valid;
+      bytes = subst (λ (rs : List Record). IsBytes (flat_map record_spelling rs)) (sym nothing_behind) all_bytes;
       lasts = leads_to step.records (done_to life.system step.lasting) s.steady s.leads;
       open_yet = refl;
       slots = subst (λ (rs : List Record). AreCommitted k.snapshot rs step.may_sync step.touches step.committed) (sym nothing_behind) whole_slots;
@@ -240,7 +241,7 @@ module _ (life : LifeOnDisk) (l : IsLife life) (step : StepOnDisk) (s : IsStep l
       none_ahead = ahead_after;
     }
 
-  pub step_life : IsLife (after_step step life)
+  pub step_life : IsLifeOnDisk (after_step step life)
   step_life = record {
     in_range = l.in_range;
     few = l.few;
@@ -250,5 +251,5 @@ module _ (life : LifeOnDisk) (l : IsLife life) (step : StepOnDisk) (s : IsStep l
     rows = s.rows;
     slots = s.slots;
   } where
-    over_after : IsWriterOf life.system life.now (forced w)
+    over_after : IsWriterOf life.system life.now (forced_by_step w)
     over_after = record { first = l.writer.first; count = l.writer.count; sequence = l.writer.sequence; epoch = l.writer.epoch }

@@ -7,14 +7,14 @@ use Rattle.std.proofs.lemmas.Bool.{eq-eqb, eqb-true}
 use Rattle.std.proofs.lemmas.Option.{slice_get-map}
 use Rattle.tm_types.specs.declared.dbd.Dbd.{Dbd}
 use Rattle.model_data.specs.declared.row.Row.{Row}
-use Rattle.model_data.specs.Record.{spelling}
+use Rattle.model_data.specs.Record.{rows_spelling}
 use Rattle.seg_store.specs.Slots.{Stored, AreSlots, IsSlot}
-use Rattle.seg_store.specs.Changed.{AllStores}
-use Rattle.checkpointing.specs.Written.{DirtySlot}
-use Rattle.disk_law.specs.Life.{bytes_at}
+use Rattle.seg_store.specs.ChangedSlots.{AllStores}
+use Rattle.checkpointing.specs.DirtySlots.{DirtySlot}
+use Rattle.disk_law.specs.Life.{store_bytes_at}
 use Rattle.disk_law.proofs.Recovering.{index_found, all_at}
 use Rattle.disk_law.proofs.SlotsRead.{image_fits}
-use Rattle.disk_law.specs.Checkpointing.{is_changed}
+use Rattle.disk_law.specs.LifeCheckpoint.{is_slot_changed}
 
 -- the store of a database
 pub record StoreOf (stores : List Stored) (place : ℕ) (dbd : Dbd) : Type 0 where
@@ -33,8 +33,8 @@ store_of stores dbds place dbd are found =
           record { store = s; found = there; is = cc }
 
 -- what a slot spells is that of its store
-pub bytes_of_store : (stores : List Stored) (place number : ℕ) (s : Stored) → slice_get stores place ≡ Some s → bytes_at stores place number ≡ spelling (slice_index_or s.slots number [])
-bytes_of_store stores place number s found = ap (λ (o : Option Stored). spelling (slice_index_or (option_map_or (λ (s : Stored). s.slots) o []) number [])) found
+pub bytes_of_store : (stores : List Stored) (place number : ℕ) (s : Stored) → slice_get stores place ≡ Some s → store_bytes_at stores place number ≡ rows_spelling (slice_index_or s.slots number [])
+bytes_of_store stores place number s found = ap (λ (o : Option Stored). rows_spelling (slice_index_or (option_map_or (λ (s : Stored). s.slots) o []) number [])) found
 
 nothing_there : (slots : List (List Row)) (number : ℕ) → slice_get slots number ≡ None → slice_index_or slots number [] ≡ []
 nothing_there [] number none = refl
@@ -42,9 +42,9 @@ nothing_there (x ∷ slots) zero none = cc
 nothing_there (x ∷ slots) (suc number) none = nothing_there slots number none
 
 -- it has no more bytes than a sector
-pub slot_short : (s : Stored) (number : ℕ) → AreSlots s.dbd s.slots → s.dbd.sectors ≤ 1 → length (spelling (slice_index_or s.slots number [])) ≤ 4000
+pub slot_short : (s : Stored) (number : ℕ) → AreSlots s.dbd s.slots → s.dbd.sectors ≤ 1 → length (rows_spelling (slice_index_or s.slots number [])) ≤ 4000
 slot_short s number valid one = by_image (slice_get s.slots number) refl where
-  by_image : (o : Option (List Row)) → slice_get s.slots number ≡ o → length (spelling (slice_index_or s.slots number [])) ≤ 4000
+  by_image : (o : Option (List Row)) → slice_get s.slots number ≡ o → length (rows_spelling (slice_index_or s.slots number [])) ≤ 4000
   by_image None none = image_fits s.dbd one (slice_index_or s.slots number []) (inl (nothing_there s.slots number none))
   by_image (Some image) there =
       image_fits s.dbd one (slice_index_or s.slots number [])
@@ -75,12 +75,12 @@ any_listed n (m ∷ numbers) (suc index) is = or_true (m == n) (list_any (λ m. 
 
 module _ (stores : AllStores) where
   -- a changed slot is marked so
-  pub dirty_changed : (place number : ℕ) → DirtySlot stores place number → is_changed stores.changed place number ≡ true
+  pub dirty_changed : (place number : ℕ) → DirtySlot stores place number → is_slot_changed stores.changed place number ≡ true
   dirty_changed place number slot =
       ap (λ (numbers : List ℕ). list_any (λ n. n == number) numbers) (index_found stores.changed place slot.numbers [] slot.changed)
       ∙ any_listed number slot.numbers slot.index slot.listed
 
-  numbers_of : (place number : ℕ) (o : Option (List ℕ)) → slice_get stores.changed place ≡ o → is_changed stores.changed place number ≡ true → (s : Stored) → slice_get stores.stores place ≡ Some s → DirtySlot stores place number
+  numbers_of : (place number : ℕ) (o : Option (List ℕ)) → slice_get stores.changed place ≡ o → is_slot_changed stores.changed place number ≡ true → (s : Stored) → slice_get stores.stores place ≡ Some s → DirtySlot stores place number
   numbers_of place number None none is s found = absurd (no_list stores.changed place none is) where
     no_list : (changed : List (List ℕ)) (k : ℕ) → slice_get changed k ≡ None → list_any (λ n. n == number) (slice_index_or changed k []) ≡ true → ⊥
     no_list [] k none is = cc
@@ -91,5 +91,5 @@ module _ (stores : AllStores) where
       record { store = s; found = found; numbers = numbers; changed = there; index = l.index; listed = l.is }
 
   -- and one that is marked is changed
-  pub changed_dirty : (place number : ℕ) (s : Stored) → slice_get stores.stores place ≡ Some s → is_changed stores.changed place number ≡ true → DirtySlot stores place number
+  pub changed_dirty : (place number : ℕ) (s : Stored) → slice_get stores.stores place ≡ Some s → is_slot_changed stores.changed place number ≡ true → DirtySlot stores place number
   changed_dirty place number s found is = numbers_of place number (slice_get stores.changed place) refl is s found

@@ -12,12 +12,12 @@ use Rattle.log_records.specs.declared.record.Record.TheVariants as record_of
 use Rattle.model_image.specs.Slots.{is_change_of}
 use Rattle.unit_work.specs.declared.change.Change.{Change}
 use Rattle.unit_work.specs.Changes.{is_slot}
-use Rattle.disk_law.specs.Committed.{Bytes, Touch, Touches, changes_of, IsTold, TellsTouches}
+use Rattle.disk_law.specs.CommittedBytes.{Bytes, Touch, Touches, changes_of_slot, IsTouchTold, TellsTouches}
 use Rattle.image_law.proofs.Bools.{first_of, second_of}
-use Rattle.disk_law.specs.Life.{LifeOnDisk, IsLife}
+use Rattle.disk_law.specs.Life.{LifeOnDisk, IsLifeOnDisk}
 use Rattle.disk_law.proofs.Recovering.{all_at}
-use Rattle.disk_law.specs.Checkpointing.{Forgets}
-use Rattle.disk_law.specs.Units.{KeptUnit, touch_of, kept_touches, slot_record, slot_records, AreOnce, HaveNumbers, KeepTouches}
+use Rattle.disk_law.specs.LifeCheckpoint.{Forgets}
+use Rattle.disk_law.specs.KeptUnits.{KeptUnit, touch_of, kept_touches, slot_record, slot_records, AreSlotsOnce, HaveNumbers, KeepTouches}
 
 -- ---- the slots of one unit
 
@@ -50,7 +50,7 @@ module _ (unit : ℕ) (present : Bytes) (d s : ℕ) where
     by_first true e later = cc
     by_first false e later = later e
 
-  one_at : (slots : List Change) (c : Change) → AreOnce slots → find (is_slot d s) slots ≡ Some c → records_at slots ≡ slot_record unit present c ∷ []
+  one_at : (slots : List Change) (c : Change) → AreSlotsOnce slots → find (is_slot d s) slots ≡ Some c → records_at slots ≡ slot_record unit present c ∷ []
   one_at [] c once found = cc
   one_at (x ∷ slots) c once found = by_first (is_slot d s x) refl found (one_at slots c once.1) where
     by_first : (b : Bool) → is_slot d s x ≡ b → (if b then Some x else find (is_slot d s) slots) ≡ Some c → (find (is_slot d s) slots ≡ Some c → records_at slots ≡ slot_record unit present c ∷ []) →
@@ -94,7 +94,7 @@ kept_is life (u ∷ units) each unit d s t is = by_first (u.number == unit) refl
   by_first true same e later = by_found (eqb-true u.number unit same) (find (is_slot d s) u.slots) refl e
   by_first false same e later = later e
 
-module _ (life : LifeOnDisk) (l : IsLife life) where
+module _ (life : LifeOnDisk) (l : IsLifeOnDisk life) where
   abbrev Keep : List KeptUnit → Type 0
   Keep units = AllByRecursion (λ u. AllByRecursion (λ c. life.touches u.number c.db c.slot ≡ Some (touch_of life.present c)) u.slots) units
 
@@ -132,7 +132,7 @@ module _ (life : LifeOnDisk) (l : IsLife life) where
         by_found (Some c) found = absurd (no_two u unit d s t c keep.0 found is other)
 
   -- each slot that is kept has its record, and no other
-  told_all : (units : List KeptUnit) → HaveNumbers units → AllByRecursion (λ u. AreOnce u.slots) units → Keep units → (unit d s : ℕ) (t : Touch) → kept_touches life.present units unit d s ≡ Some t →
+  told_all : (units : List KeptUnit) → HaveNumbers units → AllByRecursion (λ u. AreSlotsOnce u.slots) units → Keep units → (unit d s : ℕ) (t : Touch) → kept_touches life.present units unit d s ≡ Some t →
       all_at_slot units d s ≡ record_of.Change unit d s t.first t.present ∷ []
   told_all [] numbers once keep unit d s t is = cc
   told_all (u ∷ units) numbers once keep unit d s t is = by_first (u.number == unit) refl is (told_all units numbers.1 once.1 keep.1 unit d s t) where
@@ -141,7 +141,7 @@ module _ (life : LifeOnDisk) (l : IsLife life) where
 
     its_record : (c : Change) → u.number ≡ unit → c.db ≡ d → c.slot ≡ s → touch_of life.present c ≡ t → slot_record u.number life.present c ≡ record_of.Change unit d s t.first t.present
     its_record c number db slot same =
-        ap (λ k. record_of.Change k c.db c.slot (rows.spelling c.before) (life.present c.db c.slot)) number
+        ap (λ k. record_of.Change k c.db c.slot (rows.rows_spelling c.before) (life.present c.db c.slot)) number
         ∙ ap (λ (x : Touch). record_of.Change unit c.db c.slot x.first x.present) same
         ∙ ap (λ k. record_of.Change unit k c.slot t.first t.present) db
         ∙ ap (λ k. record_of.Change unit d k t.first t.present) slot
@@ -198,12 +198,12 @@ module _ (life : LifeOnDisk) (l : IsLife life) where
     kept = kept_touches life.present units
 
     -- Records whose changes are those of the kept slots tell of what the units keep.
-    pub tells_touches : (told : List Record) → ((d s : ℕ) → changes_of told d s ≡ changes_of (slot_records life.present units) d s) → TellsTouches told kept
+    pub tells_touches : (told : List Record) → ((d s : ℕ) → changes_of_slot told d s ≡ changes_of_slot (slot_records life.present units) d s) → TellsTouches told kept
     tells_touches told same = record {
       each = λ d s. by_kept d s (some_or_none units k.numbers d s);
       all = λ unit d s t is. same d s ∙ told_all units k.numbers k.once k.each unit d s t is;
     } where
-      by_kept : (d s : ℕ) → (all_at_slot units d s ≡ []) ⊎ IsKeptBy units d s → (changes_of told d s ≡ []) ⊎ ((unit : ℕ) × (t : Touch) × IsTold told kept unit d s t)
+      by_kept : (d s : ℕ) → (all_at_slot units d s ≡ []) ⊎ IsKeptBy units d s → (changes_of_slot told d s ≡ []) ⊎ ((unit : ℕ) × (t : Touch) × IsTouchTold told kept unit d s t)
       by_kept d s (inl none) = inl (same d s ∙ none)
       by_kept d s (inr by) = inr (by.unit, by.touch, (by.is, same d s ∙ told_all units k.numbers k.once k.each by.unit d s by.touch by.is))
 

@@ -8,9 +8,9 @@ use Rattle.model_data.specs.Record as rows
 use Rattle.model_system.specs.System.{System}
 use Rattle.model_machine.specs.Machine.{LastingState, empty_state}
 use Rattle.log_records.specs.declared.record.Record.{Record}
-use Rattle.log_records.specs.Spelling.{spelling, IsRecord}
+use Rattle.log_records.specs.RecordSpelling.{record_spelling, IsLogRecord}
 use Rattle.log_writer.specs.Writer.{Writer}
-use Rattle.log_writer.specs.Log.{sectors_of}
+use Rattle.log_writer.specs.ForcedLog.{log_sectors_of}
 use Rattle.restart_data.specs.declared.restart.RestartSector.{RestartSector}
 use Rattle.restart_data.specs.Restart.{IsRestart}
 use Rattle.seg_store.specs.Slots.{Stored, AreSlots, rows_of_slots}
@@ -18,7 +18,7 @@ use Rattle.model_image.specs.Areas.{log_first}
 use Rattle.model_image.specs.Slots.{is_image_of}
 use Rattle.model_image.specs.States.{breaks_a_rule}
 use Rattle.image_law.specs.Records.{without_changes}
-use Rattle.disk_law.specs.Committed.{Bytes, Touches, Touch}
+use Rattle.disk_law.specs.CommittedBytes.{Bytes, Touches, Touch}
 
 pub record LifeOnDisk : Type 0 where
   pub system : System
@@ -45,11 +45,11 @@ EachSlot system holds =
     (place number : ℕ) (dbd : Dbd) → slice_get system.databases place ≡ Some dbd → number < dbd.roots → holds place number
 
 -- the bytes of a slot of these stores
-abbrev pub slots_at : List Stored → ℕ → List (List Row)
-slots_at stores place = option_map_or (λ s. s.slots) (slice_get stores place) []
+abbrev pub stored_slots_at : List Stored → ℕ → List (List Row)
+stored_slots_at stores place = option_map_or (λ s. s.slots) (slice_get stores place) []
 
-abbrev pub bytes_at : List Stored → ℕ → ℕ → List ℕ
-bytes_at stores place number = rows.spelling (slice_index_or (slots_at stores place) number [])
+abbrev pub store_bytes_at : List Stored → ℕ → ℕ → List ℕ
+store_bytes_at stores place number = rows.rows_spelling (slice_index_or (stored_slots_at stores place) number [])
 
 -- The committed bytes spell these rows: they are those of slots of the databases, and the rows are those of the slots.
 pub record SpellRows (system : System) (committed : Bytes) (lines : List (List Row)) : Type 0 where
@@ -57,7 +57,7 @@ pub record SpellRows (system : System) (committed : Bytes) (lines : List (List R
   pub databases : map (λ s. s.dbd) stores ≡ system.databases
   pub valid : AllByRecursion (λ s. AreSlots s.dbd s.slots) stores
   pub one_sector : AllByRecursion (λ s. s.dbd.sectors ≤ 1) stores
-  pub bytes : EachSlot system (λ place number. committed (place + 1) number ≡ bytes_at stores place number)
+  pub bytes : EachSlot system (λ place number. committed (place + 1) number ≡ store_bytes_at stores place number)
   pub are : map (λ s. rows_of_slots s.slots) stores ≡ lines
 
 -- The writer is over the log area that the restart sector names, with its epoch and its first sequence.
@@ -69,9 +69,9 @@ pub record IsWriterOf (system : System) (now : RestartSector) (log : Writer) : T
 
 -- Records that wait for a force between two steps: changes of slots, spelled one after another. There is room for them.
 pub record AreAppended (system : System) (log : Writer) (appended : List Record) : Type 0 where
-  pub fits : log.place + sectors_of (length log.appended) ≤ log.count
-  pub spelled : log.appended ≡ flat_map spelling appended
-  pub records : AllByRecursion IsRecord appended
+  pub fits : log.place + log_sectors_of (length log.appended) ≤ log.count
+  pub spelled : log.appended ≡ flat_map record_spelling appended
+  pub records : AllByRecursion IsLogRecord appended
   pub changes : without_changes appended ≡ []
   pub images : list_all (is_image_of system) appended ≡ true
 
@@ -84,7 +84,7 @@ pub record AreBeside (system : System) (touches : Touches) (committed present : 
   pub untouched : EachSlot system (λ place number. ((unit : ℕ) → touches unit (place + 1) number ≡ None) → committed (place + 1) number ≡ present (place + 1) number)
 
 -- What holds of a life beside its images: what lasts breaks no rule, and its parts agree.
-pub record IsLife (life : LifeOnDisk) : Type 0 where
+pub record IsLifeOnDisk (life : LifeOnDisk) : Type 0 where
   pub in_range : IsRestart life.now
   pub few : life.system.logs < 2 ^ 32
   pub writer : IsWriterOf life.system life.now life.log

@@ -13,10 +13,10 @@ use Rattle.model_data.specs.Path.{pair_cmp, path_cmp, root_of, end_type, end_key
 use Rattle.model_data.specs.Rows.{record_of}
 use Rattle.model_data.proofs.Order.{pair_total, exact_pair}
 use Rattle.model_data.proofs.Records.{is_eq-true}
-use Rattle.model_data.specs.Search.{number_named, pair_eq, is_there}
-use Rattle.model_data.specs.Change.{asked_pair, insert_path}
+use Rattle.model_data.specs.Search.{number_named, pair_eq, is_row_there}
+use Rattle.model_data.specs.ChangeCalls.{asked_pair, insert_path}
 use Rattle.model_data.specs.Conditions.{AreInsertSsas}
-use Rattle.dli_calls.specs.Edited.{AreNamed}
+use Rattle.dli_calls.specs.ChangeEdit.{AreTypesNamed}
 use Rattle.row_search.proofs.Within.{pair_same, pair_itself}
 use Rattle.row_search.proofs.Places.{there_in_record}
 
@@ -37,7 +37,7 @@ some_is P None h = absurd h
 some_is P (Some x) h = refl
 
 module _ (types : List SegType) where
-  pub insert_named : (above : ℕ) (ssas : List Ssa) → AreInsertSsas types above ssas → AreNamed types ssas
+  pub insert_named : (above : ℕ) (ssas : List Ssa) → AreInsertSsas types above ssas → AreTypesNamed types ssas
   insert_named above [] h = absurd h
   insert_named above (x ∷ []) h = (some_is (λ s. s.parent ≡ above) (type_at types (number_named types x.segment)) h.0, tt)
   insert_named above (x ∷ y ∷ ssas) h = (
@@ -49,7 +49,7 @@ module _ (types : List SegType) where
   insert_some above [] h = absurd h
   insert_some above (x ∷ ssas) h = omega arith
 
-  pub named_front : (n : ℕ) (ssas : List Ssa) → AreNamed types ssas → AreNamed types (take n ssas)
+  pub named_front : (n : ℕ) (ssas : List Ssa) → AreTypesNamed types ssas → AreTypesNamed types (take n ssas)
   named_front zero ssas h = tt
   named_front (suc n) [] h = tt
   named_front (suc n) (x ∷ ssas) h = (h.0, named_front n ssas h.1)
@@ -72,9 +72,9 @@ module _ (types : List SegType) where
     insert_first (x ∷ ssas) d h = refl
 
     pub asked_in_record : (ssas : List Ssa) (root : List ℕ) (rows : List Row) → root ≡ root_of (insert_path types ssas area)
-        → is_there (insert_path types ssas area) (record_of root rows) ≡ is_there (insert_path types ssas area) rows
+        → is_row_there (insert_path types ssas area) (record_of root rows) ≡ is_row_there (insert_path types ssas area) rows
     asked_in_record ssas root rows e =
-        ap (λ k. is_there (insert_path types ssas area) (record_of k rows)) e ∙ there_in_record (insert_path types ssas area) rows
+        ap (λ k. is_row_there (insert_path types ssas area) (record_of k rows)) e ∙ there_in_record (insert_path types ssas area) rows
 
 pub end_key_at : (path : List (ℕ × List ℕ)) (i : ℕ) (d : ℕ × List ℕ) → i + 1 ≡ length path → end_key path ≡ (get_or path i d).1
 end_key_at [] i d e = absurd (omega arith)

@@ -26,10 +26,10 @@ use Rattle.model_data.specs.declared.call.Position.{Position}
 use Rattle.model_data.specs.declared.call.Reach.{Reach}
 use Rattle.model_data.specs.declared.call.Reach.TheVariants.{Start, Next, Parent}
 use Rattle.model_data.specs.declared.call.RowsLimit.{RowsLimit}
-use Rattle.model_data.specs.Search.{fitted, data_length, is_within, pair_eq}
-use Rattle.model_data.specs.Get.{reached, missed_status, reached_status, position_at, position_missed}
-use Rattle.model_data.specs.Change.{insert_path, insert_row, insert_fault, keeps_key, replace_fault, delete_fault, with_row, with_data, without, passed_limit}
-use Rattle.model_data.specs.Dli.{DliResult, answered, changed_to, unheld, get, insert, replace, delete, is_allowed, denied, allowed, dli}
+use Rattle.model_data.specs.Search.{fitted_key, data_length, is_within, pair_eq}
+use Rattle.model_data.specs.GetCalls.{row_reached, missed_status, reached_status, position_at, position_missed}
+use Rattle.model_data.specs.ChangeCalls.{insert_path, insert_row, insert_fault, keeps_key, replace_fault, delete_fault, with_row, with_data, without_path, passed_limit}
+use Rattle.model_data.specs.DatabaseCalls.{DliResult, answered_unchanged, changed_to, unheld, get, insert, replace, delete, is_call_allowed, denied, allowed, dli}
 use Rattle.model_data.specs.Conditions.{AreInsertSsas, AreSsasOf, IsDbCall, IsPosition}
 use Rattle.model_data.specs.Footprint.{record_need, sequence_need, insert_needs, replace_needs, delete_needs, allowed_needs, footprint, IsNeeded}
 use Rattle.row_search.proofs.Rising.{rows_rising, split_at_root, record_under}
@@ -50,11 +50,11 @@ module _ (dbd : Dbd) (rows : List Row) where
       by (Some limit) = refl
 
   get_names_none : (reach : Reach) (hold : Bool) (call : DbCall) (at : Position) → (get reach hold dbd call at rows).changed ≡ None
-  get_names_none reach hold call at = by (reached reach dbd.types call.ssas at rows)
+  get_names_none reach hold call at = by (row_reached reach dbd.types call.ssas at rows)
     where
       by : (o : Option Row)
-          → (option_map_or (λ row. answered (reached_status reach call.ssas at row.path) (Some row.bytes) rows (position_at reach hold at row.path)) o
-          (answered (missed_status reach dbd.types call.ssas at rows) None rows (position_missed reach (missed_status reach dbd.types call.ssas at rows) at))).changed ≡ None
+          → (option_map_or (λ row. answered_unchanged (reached_status reach call.ssas at row.path) (Some row.bytes) rows (position_at reach hold at row.path)) o
+          (answered_unchanged (missed_status reach dbd.types call.ssas at rows) None rows (position_missed reach (missed_status reach dbd.types call.ssas at rows) at))).changed ≡ None
       by None = refl
       by (Some row) = refl
 
@@ -76,7 +76,7 @@ module _ (dbd : Dbd) (rows : List Row) where
           ]
 
       by : (o : Option Status)
-          → (option_map_or (λ status. answered status None rows (unheld at)) o
+          → (option_map_or (λ status. answered_unchanged status None rows (unheld at)) o
           (changed_to dbd (root_of path) rows at (with_row (insert_row dbd.types call.ssas call.area) rows) (record { position = Some path; parentage = at.parentage; hold = None }))).changed ≡ Some root
           → IsNeeded (record_need Exclusive root) (insert_needs path)
       by (Some status) f = none_named None root refl f
@@ -88,13 +88,13 @@ module _ (dbd : Dbd) (rows : List Row) where
     where
       by_fault : List (ℕ × List ℕ) → Option Status → DliResult
       by_fault held o =
-          option_map_or (λ status. answered status None rows (unheld at)) o
-          (changed_to dbd (root_of held) rows at (with_data held (fitted (data_length dbd.types (end_type held)) call.area) rows) (unheld at))
+          option_map_or (λ status. answered_unchanged status None rows (unheld at)) o
+          (changed_to dbd (root_of held) rows at (with_data held (fitted_key (data_length dbd.types (end_type held)) call.area) rows) (unheld at))
 
       same : (held : List (ℕ × List ℕ)) (o : Option Status) → (by_fault held o).changed ≡ Some root → root_of held ≡ root
       same held (Some status) f = none_named None root refl f
       same held None f =
-          same_Some (root_of held) root (sym (names_root (root_of held) (with_data held (fitted (data_length dbd.types (end_type held)) call.area) rows) at (unheld at)) ∙ f)
+          same_Some (root_of held) root (sym (names_root (root_of held) (with_data held (fitted_key (data_length dbd.types (end_type held)) call.area) rows) at (unheld at)) ∙ f)
 
       keeps : (held : List (ℕ × List ℕ)) → (by_fault held (replace_fault dbd.types held call.area rows)).changed ≡ Some root → (c : Bool) → keeps_key dbd.types held call.area ≡ c
           → IsNeeded (record_need Exclusive root) (cond c (record_need Exclusive (root_of held) ∷ []) [])
@@ -102,7 +102,7 @@ module _ (dbd : Dbd) (rows : List Row) where
       keeps held f false g =
           none_named None root refl (subst (λ c. (by_fault held (cond (not c) (Some DA) (delete_fault held rows))).changed ≡ Some root) g f)
 
-      by : (o : Option (List (ℕ × List ℕ))) → (option_map_or (λ held. by_fault held (replace_fault dbd.types held call.area rows)) o (answered DJ None rows (unheld at))).changed ≡ Some root
+      by : (o : Option (List (ℕ × List ℕ))) → (option_map_or (λ held. by_fault held (replace_fault dbd.types held call.area rows)) o (answered_unchanged DJ None rows (unheld at))).changed ≡ Some root
           → IsNeeded (record_need Exclusive root) (option_map_or (replace_needs dbd.types call.area) o [])
       by None f = none_named None root refl f
       by (Some held) f =
@@ -113,20 +113,20 @@ module _ (dbd : Dbd) (rows : List Row) where
     where
       by_fault : List (ℕ × List ℕ) → Option Status → DliResult
       by_fault held o =
-          option_map_or (λ status. answered status None rows (unheld at)) o (changed_to dbd (root_of held) rows at (without held rows) (unheld at))
+          option_map_or (λ status. answered_unchanged status None rows (unheld at)) o (changed_to dbd (root_of held) rows at (without_path held rows) (unheld at))
 
       same : (held : List (ℕ × List ℕ)) (o : Option Status) → (by_fault held o).changed ≡ Some root → root_of held ≡ root
       same held (Some status) f = none_named None root refl f
-      same held None f = same_Some (root_of held) root (sym (names_root (root_of held) (without held rows) at (unheld at)) ∙ f)
+      same held None f = same_Some (root_of held) root (sym (names_root (root_of held) (without_path held rows) at (unheld at)) ∙ f)
 
-      by : (o : Option (List (ℕ × List ℕ))) → (option_map_or (λ held. by_fault held (delete_fault held rows)) o (answered DJ None rows (unheld at))).changed ≡ Some root
+      by : (o : Option (List (ℕ × List ℕ))) → (option_map_or (λ held. by_fault held (delete_fault held rows)) o (answered_unchanged DJ None rows (unheld at))).changed ≡ Some root
           → IsNeeded (record_need Exclusive root) (option_map_or delete_needs o [])
       by None f = none_named None root refl f
       by (Some held) f = inl (ap (record_need Exclusive) (same held (delete_fault held rows) f))
 
   -- the record that a call changes, or is refused to change, it needs alone
   pub changed_needed : (call : DbCall) (at : Position) (root : List ℕ) → (dli dbd call at rows).changed ≡ Some root → IsNeeded (record_need Exclusive root) (footprint dbd call at rows)
-  changed_needed call at root e = by (is_allowed call.function call.options) e
+  changed_needed call at root e = by (is_call_allowed call.function call.options) e
     where
       of : (function : Function) → (allowed function dbd call at rows).changed ≡ Some root → IsNeeded (record_need Exclusive root) (allowed_needs function dbd call at rows)
       of GU f = none_named (get Start false dbd call at rows).changed root (get_names_none Start false call at) f
@@ -181,11 +181,11 @@ module _ (dbd : Dbd) (all : IsHierarchy dbd.types) (rows : List Row) (valid : Ar
       by (Some limit) = refl
 
   get_keeps : (reach : Reach) (hold : Bool) (call : DbCall) (at : Position) → roots (get reach hold dbd call at rows).rows ≡ roots rows
-  get_keeps reach hold call at = by (reached reach dbd.types call.ssas at rows)
+  get_keeps reach hold call at = by (row_reached reach dbd.types call.ssas at rows)
     where
       by : (o : Option Row)
-          → roots (option_map_or (λ row. answered (reached_status reach call.ssas at row.path) (Some row.bytes) rows (position_at reach hold at row.path)) o
-          (answered (missed_status reach dbd.types call.ssas at rows) None rows (position_missed reach (missed_status reach dbd.types call.ssas at rows) at))).rows ≡ roots rows
+          → roots (option_map_or (λ row. answered_unchanged (reached_status reach call.ssas at row.path) (Some row.bytes) rows (position_at reach hold at row.path)) o
+          (answered_unchanged (missed_status reach dbd.types call.ssas at rows) None rows (position_missed reach (missed_status reach dbd.types call.ssas at rows) at))).rows ≡ roots rows
       by None = refl
       by (Some row) = refl
 
@@ -201,7 +201,7 @@ module _ (dbd : Dbd) (all : IsHierarchy dbd.types) (rows : List Row) (valid : Ar
       row = insert_row dbd.types call.ssas call.area
 
       by : (o : Option Status) → insert_fault path rows ≡ o
-          → roots (option_map_or (λ status. answered status None rows (unheld at)) o
+          → roots (option_map_or (λ status. answered_unchanged status None rows (unheld at)) o
           (changed_to dbd (root_of path) rows at (with_row row rows) (record { position = Some path; parentage = at.parentage; hold = None }))).rows ≡ roots rows
       by (Some status) e = refl
       by None e =
@@ -221,30 +221,30 @@ module _ (dbd : Dbd) (all : IsHierarchy dbd.types) (rows : List Row) (valid : Ar
       changed_some held bytes (x ∷ old) h = λ e. absurd (cc)
 
       by_fault : (held : List (ℕ × List ℕ)) (o : Option Status) → replace_fault dbd.types held call.area rows ≡ o
-          → roots (option_map_or (λ status. answered status None rows (unheld at)) o
-          (changed_to dbd (root_of held) rows at (with_data held (fitted (data_length dbd.types (end_type held)) call.area) rows) (unheld at))).rows ≡ roots rows
+          → roots (option_map_or (λ status. answered_unchanged status None rows (unheld at)) o
+          (changed_to dbd (root_of held) rows at (with_data held (fitted_key (data_length dbd.types (end_type held)) call.area) rows) (unheld at))).rows ≡ roots rows
       by_fault held (Some status) e = refl
       by_fault held None e =
-          let bytes : List ℕ = fitted (data_length dbd.types (end_type held)) call.area in
+          let bytes : List ℕ = fitted_key (data_length dbd.types (end_type held)) call.area in
           let there : record_of (root_of held) rows ≢ [] = held_there held rows (root_of held) refl (kept_there dbd.types held call.area rows e) in
-          let fresh : IsRow dbd.types rows (record { path = held; bytes = fitted (data_length dbd.types (end_type held)) call.area }) = replace_is_row dbd.types all held call.area rows valid.each printable e in
-          refused_or (root_of held) (with_data held (fitted (data_length dbd.types (end_type held)) call.area) rows) at (unheld at)
-          (ap roots (sym (data_changed dbd all rows valid (root_of held) held (fitted (data_length dbd.types (end_type held)) call.area) refl fresh))
-          ∙ roots_stay (root_of held) (with_data held (fitted (data_length dbd.types (end_type held)) call.area) (record_of (root_of held) rows)) there
-          (changed_some held (fitted (data_length dbd.types (end_type held)) call.area) (record_of (root_of held) rows) there)
-          (under_changed dbd all rows valid (root_of held) held (fitted (data_length dbd.types (end_type held)) call.area) refl fresh))
+          let fresh : IsRow dbd.types rows (record { path = held; bytes = fitted_key (data_length dbd.types (end_type held)) call.area }) = replace_is_row dbd.types all held call.area rows valid.each printable e in
+          refused_or (root_of held) (with_data held (fitted_key (data_length dbd.types (end_type held)) call.area) rows) at (unheld at)
+          (ap roots (sym (data_changed dbd all rows valid (root_of held) held (fitted_key (data_length dbd.types (end_type held)) call.area) refl fresh))
+          ∙ roots_stay (root_of held) (with_data held (fitted_key (data_length dbd.types (end_type held)) call.area) (record_of (root_of held) rows)) there
+          (changed_some held (fitted_key (data_length dbd.types (end_type held)) call.area) (record_of (root_of held) rows) there)
+          (under_changed dbd all rows valid (root_of held) held (fitted_key (data_length dbd.types (end_type held)) call.area) refl fresh))
 
       by : (o : Option (List (ℕ × List ℕ)))
-          → roots (option_map_or (λ held. option_map_or (λ status. answered status None rows (unheld at)) (replace_fault dbd.types held call.area rows)
-          (changed_to dbd (root_of held) rows at (with_data held (fitted (data_length dbd.types (end_type held)) call.area) rows) (unheld at))) o (answered DJ None rows (unheld at))).rows ≡ roots rows
+          → roots (option_map_or (λ held. option_map_or (λ status. answered_unchanged status None rows (unheld at)) (replace_fault dbd.types held call.area rows)
+          (changed_to dbd (root_of held) rows at (with_data held (fitted_key (data_length dbd.types (end_type held)) call.area) rows) (unheld at))) o (answered_unchanged DJ None rows (unheld at))).rows ≡ roots rows
       by None = refl
       by (Some held) = by_fault held (replace_fault dbd.types held call.area rows) refl
 
   -- a DLET of a dependent: the root isn't within it
-  root_stays : (held : List (ℕ × List ℕ)) → IsPath dbd.types held → eqb (length held) 1 ≡ false → (old : List Row) → IsUnder dbd.types (root_of held) old → old ≢ [] → without held old ≢ []
+  root_stays : (held : List (ℕ × List ℕ)) → IsPath dbd.types held → eqb (length held) 1 ≡ false → (old : List Row) → IsUnder dbd.types (root_of held) old → old ≢ [] → without_path held old ≢ []
   root_stays held path dependent [] under some = absurd (some refl)
   root_stays held path dependent (r ∷ old) under some =
-      subst (λ c. cond c (r ∷ without held old) (without held old) ≢ []) (sym (apart held path dependent)) (λ e. absurd (cc))
+      subst (λ c. cond c (r ∷ without_path held old) (without_path held old) ≢ []) (sym (apart held path dependent)) (λ e. absurd (cc))
     where
       apart : (above : List (ℕ × List ℕ)) → IsPath dbd.types above → eqb (length above) 1 ≡ false → not (is_within above r.path) ≡ true
       apart [] p e = absurd p
@@ -257,20 +257,20 @@ module _ (dbd : Dbd) (all : IsHierarchy dbd.types) (rows : List Row) (valid : Ar
           ]
 
   delete_roots_stay : (at : Position) (held : List (ℕ × List ℕ)) → IsPath dbd.types held → eqb (length held) 1 ≡ false → (o : Option Status) → delete_fault held rows ≡ o
-      → roots (option_map_or (λ status. answered status None rows (unheld at)) o (changed_to dbd (root_of held) rows at (without held rows) (unheld at))).rows ≡ roots rows
+      → roots (option_map_or (λ status. answered_unchanged status None rows (unheld at)) o (changed_to dbd (root_of held) rows at (without_path held rows) (unheld at))).rows ≡ roots rows
   delete_roots_stay at held path dependent (Some status) e = refl
   delete_roots_stay at held path dependent None e =
       let there : record_of (root_of held) rows ≢ [] = held_there held rows (root_of held) refl e in
-      refused_or (root_of held) (without held rows) at (unheld at)
+      refused_or (root_of held) (without_path held rows) at (unheld at)
       (ap roots (sym (rows_removed dbd all rows valid (root_of held) held refl (path_some dbd.types held path)))
-      ∙ roots_stay (root_of held) (without held (record_of (root_of held) rows)) there
+      ∙ roots_stay (root_of held) (without_path held (record_of (root_of held) rows)) there
       (root_stays held path dependent (record_of (root_of held) rows) (record_under dbd rows (root_of held) valid) there)
       (under_removed dbd all rows valid (root_of held) held refl (path_some dbd.types held path)))
 
   -- a call by which a root comes or goes needs the sequence alone
   pub roots_needed : (call : DbCall) (at : Position) → IsPosition dbd.types at → IsDbCall dbd.types call
       → (roots (dli dbd call at rows).rows ≡ roots rows) ⊎ IsNeeded (sequence_need Exclusive) (footprint dbd call at rows)
-  roots_needed call at position ok = by (is_allowed call.function call.options)
+  roots_needed call at position ok = by (is_call_allowed call.function call.options)
     where
       insert_needed : AreInsertSsas dbd.types 0 call.ssas → (c : Bool) → eqb (length (insert_path dbd.types call.ssas call.area)) 1 ≡ c
           → (roots (insert dbd call at rows).rows ≡ roots rows)
@@ -280,14 +280,14 @@ module _ (dbd : Dbd) (all : IsHierarchy dbd.types) (rows : List Row) (valid : Ar
       insert_needed ssas false e = inl (insert_roots_stay call at ssas ok.area e)
 
       held_needed : (held : List (ℕ × List ℕ)) → IsPath dbd.types held → (c : Bool) → eqb (length held) 1 ≡ c
-          → (roots (option_map_or (λ status. answered status None rows (unheld at)) (delete_fault held rows) (changed_to dbd (root_of held) rows at (without held rows) (unheld at))).rows ≡ roots rows)
+          → (roots (option_map_or (λ status. answered_unchanged status None rows (unheld at)) (delete_fault held rows) (changed_to dbd (root_of held) rows at (without_path held rows) (unheld at))).rows ≡ roots rows)
           ⊎ IsNeeded (sequence_need Exclusive) (record_need Exclusive (root_of held) ∷ cond c (sequence_need Exclusive ∷ []) [])
       held_needed held path true e = inr (inr (inl refl))
       held_needed held path false e = inl (delete_roots_stay at held path e (delete_fault held rows) refl)
 
       delete_needed : (o : Option (List (ℕ × List ℕ))) → IfSome o (IsPath dbd.types)
-          → (roots (option_map_or (λ held. option_map_or (λ status. answered status None rows (unheld at)) (delete_fault held rows)
-          (changed_to dbd (root_of held) rows at (without held rows) (unheld at))) o (answered DJ None rows (unheld at))).rows ≡ roots rows)
+          → (roots (option_map_or (λ held. option_map_or (λ status. answered_unchanged status None rows (unheld at)) (delete_fault held rows)
+          (changed_to dbd (root_of held) rows at (without_path held rows) (unheld at))) o (answered_unchanged DJ None rows (unheld at))).rows ≡ roots rows)
           ⊎ IsNeeded (sequence_need Exclusive) (option_map_or delete_needs o [])
       delete_needed None path = inl refl
       delete_needed (Some held) path = held_needed held path (eqb (length held) 1) refl

@@ -19,14 +19,15 @@ use Rattle.model_data.specs.Rows.{record_of, rows_before, rows_after, with_recor
 use Rattle.model_data.proofs.Order.{key_total, path_total, exact_path, turned_less, turned_greater}
 use Rattle.model_data.proofs.Lists.{all_then, all_both, all_append, all_filter, sorted_append, sorted_filter}
 use Rattle.model_data.proofs.Filters.{filter_all, filter_none, filter_passes}
-use Rattle.model_data.proofs.Records.{is_eq-true, is_gt-true, is_lt-true}
+use Rattle.model_data.proofs.Records.{is_eq-true, is_gt-true}
 use Rattle.model_data.proofs.Paths.{path_parts}
 use Rattle.model_data.proofs.Under.{row_among, has_front, has_back}
 use Rattle.model_data.proofs.Whole.{has_filter, root_less}
 use Rattle.model_data.specs.Search.{is_within}
-use Rattle.model_data.specs.Change.{with_row, row_with, with_data, without}
+use Rattle.model_data.specs.ChangeCalls.{with_row, row_with, with_data, without_path}
 use Rattle.row_search.proofs.Rising.{rows_rising, split_at_root, record_under}
 use Rattle.row_search.proofs.Within.{within_parts, within_append, within_root}
+use Rattle.model_data.proofs.Reading.{is_lt-true}
 
 regroup : (b g l a : List Row) (new : Row) → ((b ++ g) ++ []) ++ (new ∷ (([] ++ l) ++ a)) ≡ (b ++ (g ++ (new ∷ l))) ++ a
 regroup b g l a new = simp (append-nil, append_assoc)
@@ -279,18 +280,18 @@ module _ (dbd : Dbd) (all : IsHierarchy dbd.types) (rows : List Row) (valid : Ar
         by false e = ap not e
 
     -- to remove rows from their record is to remove them from the rows
-    pub rows_removed : with_record root (without held (record_of root rows)) rows ≡ without held rows
+    pub rows_removed : with_record root (without_path held (record_of root rows)) rows ≡ without_path held rows
     rows_removed =
         sym (filter_split (λ row. not (is_within held row.path))
-        ∙ (λ i. (kept_before i ++ without held (record_of root rows)) ++ kept_after i))
+        ∙ (λ i. (kept_before i ++ without_path held (record_of root rows)) ++ kept_after i))
       where
-        kept_before : without held (rows_before root rows) ≡ rows_before root rows
+        kept_before : without_path held (rows_before root rows) ≡ rows_before root rows
         kept_before =
             filter_all (λ row. not (is_within held row.path)) (rows_before root rows)
             (all_then (λ x. IsPath dbd.types x.path × (key_cmp root (root_of x.path) ≡ Greater)) (λ row. not (is_within held row.path) ≡ true) (rows_before root rows)
             (λ x h. not_within x (apart_before held rooted x h.1)) lower)
 
-        kept_after : without held (rows_after root rows) ≡ rows_after root rows
+        kept_after : without_path held (rows_after root rows) ≡ rows_after root rows
         kept_after =
             filter_all (λ row. not (is_within held row.path)) (rows_after root rows)
             (all_then (λ x. IsPath dbd.types x.path × (key_cmp root (root_of x.path) ≡ Less)) (λ row. not (is_within held row.path) ≡ true) (rows_after root rows)
@@ -310,7 +311,7 @@ module _ (dbd : Dbd) (all : IsHierarchy dbd.types) (rows : List Row) (valid : Ar
             let within : is_within held (p ∷ path) ≡ true = ap (is_within held) whole ∙ within_append held (parts.0 ++ (end_type (p ∷ path), end_key (p ∷ path)) ∷ []) in
             absurd (false≢true (sym (ap not within) ∙ e))
 
-    row_kept : (old : List Row) (x : Row) → not (is_within held x.path) ≡ true → IsRow dbd.types old x → IsRow dbd.types (without held old) x
+    row_kept : (old : List Row) (x : Row) → not (is_within held x.path) ≡ true → IsRow dbd.types old x → IsRow dbd.types (without_path held old) x
     row_kept old x e h =
         record {
           path = h.path;
@@ -321,16 +322,16 @@ module _ (dbd : Dbd) (all : IsHierarchy dbd.types) (rows : List Row) (valid : Ar
           key = h.key;
         }
 
-    pub under_removed : IsUnder dbd.types root (without held (record_of root rows))
+    pub under_removed : IsUnder dbd.types root (without_path held (record_of root rows))
     under_removed =
         let under = record_under dbd rows root valid in
         record {
           ascending = sorted_filter row_cmp (λ row. not (is_within held row.path)) (record_of root rows) under.ascending;
-          each = all_both (λ x. not (is_within held x.path) ≡ true) (IsRow dbd.types (record_of root rows)) (IsRow dbd.types (without held (record_of root rows))) (without held (record_of root rows))
+          each = all_both (λ x. not (is_within held x.path) ≡ true) (IsRow dbd.types (record_of root rows)) (IsRow dbd.types (without_path held (record_of root rows))) (without_path held (record_of root rows))
               (λ x e h. row_kept (record_of root rows) x e h) (filter_passes (λ row. not (is_within held row.path)) (record_of root rows))
               (all_filter (IsRow dbd.types (record_of root rows)) (λ row. not (is_within held row.path)) (record_of root rows) under.each);
           one_root = all_filter (λ row. root_of row.path ≡ root) (λ row. not (is_within held row.path)) (record_of root rows) under.one_root;
         }
 
-    pub image_removed : IsImage dbd root (without held (record_of root rows))
-    image_removed = image_is dbd root (without held (record_of root rows)) under_removed
+    pub image_removed : IsImage dbd root (without_path held (record_of root rows))
+    image_removed = image_is dbd root (without_path held (record_of root rows)) under_removed

@@ -19,10 +19,10 @@ use Rattle.model_data.specs.declared.call.DbCall.{DbCall}
 use Rattle.model_data.specs.declared.call.Position.{Position}
 use Rattle.model_data.specs.declared.need.Need.{Need}
 use Rattle.model_data.specs.Search.{first_after}
-use Rattle.model_data.specs.Get.{asked_root}
-use Rattle.model_data.specs.Dli.{is_allowed}
+use Rattle.model_data.specs.GetCalls.{asked_root}
+use Rattle.model_data.specs.DatabaseCalls.{is_call_allowed}
 use Rattle.model_data.specs.Conditions.{IsPosition}
-use Rattle.model_data.specs.Footprint.{record_need, sequence_need, behind, onward, search_needs, allowed_needs, footprint, AgreeAt, AgreeOn, AgreeUnblocked, up_to_blocked}
+use Rattle.model_data.specs.Footprint.{record_need, sequence_need, roots_behind, onward, search_needs, allowed_needs, footprint, AgreeAt, AgreeOn, AgreeUnblocked, up_to_blocked}
 use Rattle.dli_calls.proofs.Keys.{roots_ascending}
 use Rattle.dli_calls.proofs.Walk.{walk, walk_front, next_fits, along_is, onward_is}
 
@@ -102,9 +102,9 @@ module _ (dbd : Dbd) (all : IsHierarchy dbd.types) (a b : List Row) (valid_a : A
   onward_front mode call (Some place) path h =
       ap (up_to_blocked blocked) (onward_is dbd all a valid_a call.ssas place path mode)
       ∙ (record_front (next_fits dbd call.ssas (Some place)) mode (root_of place)
-      (sequence_need Shared ∷ walk (next_fits dbd call.ssas (Some place)) mode a (behind (root_of place) (roots a)))
-      (sequence_need Shared ∷ walk (next_fits dbd call.ssas (Some place)) mode b (behind (root_of place) (roots b)))
-      (sequence_front (next_fits dbd call.ssas (Some place)) mode (behind (root_of place))
+      (sequence_need Shared ∷ walk (next_fits dbd call.ssas (Some place)) mode a (roots_behind (root_of place) (roots a)))
+      (sequence_need Shared ∷ walk (next_fits dbd call.ssas (Some place)) mode b (roots_behind (root_of place) (roots b)))
+      (sequence_front (next_fits dbd call.ssas (Some place)) mode (roots_behind (root_of place))
       (sorted_filter key_cmp (λ key. is_lt (key_cmp (root_of place) key)) (roots a) (roots_ascending dbd all a valid_a)))
       (subst (λ needs. AgreeUnblocked blocked needs a b) (onward_is dbd all a valid_a call.ssas place path mode) h)
       ∙ sym (ap (up_to_blocked blocked) (onward_is dbd all b valid_b call.ssas place path mode)))
@@ -124,7 +124,7 @@ module _ (dbd : Dbd) (all : IsHierarchy dbd.types) (a b : List Row) (valid_a : A
   -- what is needed up to the first that is blocked is the same
   pub same_front : (call : DbCall) (at : Position) → IsPosition dbd.types at → AgreeUnblocked blocked (footprint dbd call at a) a b
       → up_to_blocked blocked (footprint dbd call at a) ≡ up_to_blocked blocked (footprint dbd call at b)
-  same_front call at position h = by (is_allowed call.function call.options) h
+  same_front call at position h = by (is_call_allowed call.function call.options) h
     where
       of : (function : Function) → AgreeUnblocked blocked (allowed_needs function dbd call at a) a b
           → up_to_blocked blocked (allowed_needs function dbd call at a) ≡ up_to_blocked blocked (allowed_needs function dbd call at b)

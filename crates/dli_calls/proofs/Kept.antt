@@ -5,7 +5,7 @@ use Rattle.std.proofs.lemmas.Bool.{ltb-false, leb-false, eq-eqb, ne_eqb}
 use Rattle.tm_types.specs.declared.dbd.Dbd.{Dbd}
 use Rattle.tm_types.specs.SegTypes.{IsHierarchy}
 use Rattle.model_data.specs.declared.row.Row.{Row}
-use Rattle.model_data.specs.Record.{IsUnder, spelling, record_limit}
+use Rattle.model_data.specs.Record.{IsUnder, rows_spelling, record_limit}
 use Rattle.model_data.specs.Rows.{record_of, rows_before, rows_after, with_record, roots, passes_roots, passes_length, AreRows}
 use Rattle.model_data.proofs.Records.{with_record_itself}
 use Rattle.model_data.proofs.Roots.{record_roots, roots_append}
@@ -13,12 +13,12 @@ use Rattle.model_data.proofs.Whole.{record_is, with_record_are_rows}
 use Rattle.model_data.specs.declared.call.DbCall.{DbCall}
 use Rattle.model_data.specs.declared.call.Position.{Position}
 use Rattle.model_data.specs.declared.call.RowsLimit.TheVariants.{Roots, RecordLength}
-use Rattle.model_data.specs.Change.{passed_limit}
-use Rattle.model_data.specs.Dli.{dli}
+use Rattle.model_data.specs.ChangeCalls.{passed_limit}
+use Rattle.model_data.specs.DatabaseCalls.{dli}
 use Rattle.model_data.specs.Conditions.{IsDbCall, IsPosition}
 use Rattle.model_data.specs.Footprint.{footprint}
 use Rattle.row_search.proofs.Rising.{rows_rising, split_at_root}
-use Rattle.dli_calls.specs.Alike.{rows_changed, AreAlike}
+use Rattle.dli_calls.specs.AlikeCalls.{rows_changed, AreAlike}
 use Rattle.dli_calls.proofs.Front.{agree_itself}
 use Rattle.dli_calls.proofs.Same.{same_call}
 
@@ -74,7 +74,7 @@ module _ (dbd : Dbd) (all : IsHierarchy dbd.types) (rows : List Row) (valid : Ar
       let free = no_limit (passes_roots dbd root (record_of root new) rows) (passes_length dbd (record_of root new)) none in
       subst (AreRows dbd) (sym is)
       (with_record_are_rows dbd all root image rows valid under
-      (ltb-false (record_limit dbd) (length (spelling image)) (ap (passes_length dbd) (sym own) ∙ free.1))
+      (ltb-false (record_limit dbd) (length (rows_spelling image)) (ap (passes_length dbd) (sym own) ∙ free.1))
       (few_roots root image under (ap (λ im. passes_roots dbd root im rows) (sym own) ∙ free.0)))
 
   -- a call leaves rows of the database

@@ -19,27 +19,27 @@ use Rattle.model_data.specs.Rows.{record_of, roots, next_root, AreRows}
 use Rattle.model_data.proofs.Order.{key_total}
 use Rattle.model_data.proofs.Lists.{all_then, sorted_filter}
 use Rattle.model_data.proofs.Filters.{filter_all, filter_within, filter_passes, find_first}
-use Rattle.model_data.proofs.Records.{is_lt-true}
 use Rattle.model_data.specs.declared.need.Need.{Need}
 use Rattle.model_data.specs.Search.{first_after}
-use Rattle.model_data.specs.Footprint.{record_need, behind, along, onward}
+use Rattle.model_data.specs.Footprint.{record_need, roots_behind, along, onward}
 use Rattle.row_search.proofs.Finding.{find_front, find_back}
 use Rattle.row_search.proofs.Keys.{roots_ascending, by_records}
 use Rattle.row_search.proofs.Needing.{walk, next_fits, walk_head, onward_is, found_here, found_behind}
-use Rattle.dli_calls.specs.Along.{keys_behind, keys_from, records_of}
+use Rattle.dli_calls.specs.NamedRecords.{keys_behind, keys_from, rows_of_roots}
+use Rattle.model_data.proofs.Reading.{is_lt-true}
 
 -- a key and those behind it are in order
-from_ascending : (key : List ℕ) (keys : List (List ℕ)) → IsStrictlySortedBy key_cmp keys → IsStrictlySortedBy key_cmp (key ∷ behind key keys)
+from_ascending : (key : List ℕ) (keys : List (List ℕ)) → IsStrictlySortedBy key_cmp keys → IsStrictlySortedBy key_cmp (key ∷ roots_behind key keys)
 unfolding IsStrictlySortedBy
 from_ascending key keys s = (
-  all_then (λ k. is_lt (key_cmp key k) ≡ true) (λ k. key_cmp key k ≡ Less) (behind key keys) (λ k e. is_lt-true _ e) (filter_passes (λ k. is_lt (key_cmp key k)) keys),
+  all_then (λ k. is_lt (key_cmp key k) ≡ true) (λ k. key_cmp key k ≡ Less) (roots_behind key keys) (λ k e. is_lt-true _ e) (filter_passes (λ k. is_lt (key_cmp key k)) keys),
   sorted_filter key_cmp (λ k. is_lt (key_cmp key k)) keys s,
 )
 
 -- behind the first key are the others
-behind_first : (key : List ℕ) (keys : List (List ℕ)) → IsStrictlySortedBy key_cmp (key ∷ keys) → behind key (key ∷ keys) ≡ keys
+behind_first : (key : List ℕ) (keys : List (List ℕ)) → IsStrictlySortedBy key_cmp (key ∷ keys) → roots_behind key (key ∷ keys) ≡ keys
 behind_first key keys s =
-    ap (λ o. cond (is_lt o) (key ∷ behind key keys) (behind key keys)) (tied_itself key_total key)
+    ap (λ o. cond (is_lt o) (key ∷ roots_behind key keys) (roots_behind key keys)) (tied_itself key_total key)
     ∙ filter_all (λ k. is_lt (key_cmp key k)) keys (all_then (λ k. key_cmp key k ≡ Less) (λ k. is_lt (key_cmp key k) ≡ true) keys (λ k e. ap is_lt e) (sorted_head key_cmp key keys s))
 
 module _ (dbd : Dbd) (all : IsHierarchy dbd.types) (rows : List Row) (valid : AreRows dbd rows) where
@@ -52,24 +52,24 @@ module _ (dbd : Dbd) (all : IsHierarchy dbd.types) (rows : List Row) (valid : Ar
       by (key ∷ keys) s = ap (λ ks. key ∷ ks) (behind_first key keys s)
   next_keys (Some root) =
       ap (λ o. keys_from o (roots rows)) (find_first (λ key. is_lt (key_cmp root key)) (roots rows))
-      ∙ by (behind root (roots rows)) refl
+      ∙ by (roots_behind root (roots rows)) refl
     where
-      by : (keys : List (List ℕ)) → behind root (roots rows) ≡ keys → keys_from (slice_get (behind root (roots rows)) 0) (roots rows) ≡ behind root (roots rows)
+      by : (keys : List (List ℕ)) → roots_behind root (roots rows) ≡ keys → keys_from (slice_get (roots_behind root (roots rows)) 0) (roots rows) ≡ roots_behind root (roots rows)
       by [] e = ap (λ ks. keys_from (slice_get ks 0) (roots rows)) e ∙ sym e
       by (key ∷ keys) e =
           let s : IsStrictlySortedBy key_cmp (key ∷ keys) = subst (IsStrictlySortedBy key_cmp) e (sorted_filter key_cmp (λ k. is_lt (key_cmp root k)) (roots rows) (roots_ascending dbd all rows valid)) in
           let passes : AllByRecursion (λ k. is_lt (key_cmp root k) ≡ true) (key ∷ keys) =
           subst (AllByRecursion (λ k. is_lt (key_cmp root k) ≡ true)) e (filter_passes (λ k. is_lt (key_cmp root k)) (roots rows)) in
-          let later : behind key (roots rows) ≡ behind key (behind root (roots rows)) =
+          let later : roots_behind key (roots rows) ≡ roots_behind key (roots_behind root (roots rows)) =
           sym (filter_within (λ k. is_lt (key_cmp key k)) (λ k. is_lt (key_cmp root k)) (λ k f. ap is_lt (key_total.trans root key k (is_lt-true _ passes.0) (is_lt-true _ f))) (roots rows)) in
           ap (λ ks. keys_from (slice_get ks 0) (roots rows)) e
-          ∙ (ap (λ ks. key ∷ ks) (later ∙ (ap (behind key) e ∙ behind_first key keys s)) ∙ sym e)
+          ∙ (ap (λ ks. key ∷ ks) (later ∙ (ap (roots_behind key) e ∙ behind_first key keys s)) ∙ sym e)
 
   module _ (ssas : List Ssa) (place : Option (List (ℕ × List ℕ))) (mode : Mode) (key : List ℕ) where
     -- the record, and where it doesn't have the row those behind it
     head : walk (next_fits dbd ssas place) mode rows (keys_from (Some key) (roots rows))
-        ≡ record_need mode key ∷ option_map_or (λ r. []) (first_after dbd.types ssas place (record_of key rows)) (walk (next_fits dbd ssas place) mode rows (behind key (roots rows)))
-    head = walk_head (next_fits dbd ssas place) mode rows key (behind key (roots rows)) (from_ascending key (roots rows) (roots_ascending dbd all rows valid))
+        ≡ record_need mode key ∷ option_map_or (λ r. []) (first_after dbd.types ssas place (record_of key rows)) (walk (next_fits dbd ssas place) mode rows (roots_behind key (roots rows)))
+    head = walk_head (next_fits dbd ssas place) mode rows key (roots_behind key (roots rows)) (from_ascending key (roots rows) (roots_ascending dbd all rows valid))
 
     -- where the record has the row, it is the last that is needed
     pub walk_ends : is_some (first_after dbd.types ssas place (record_of key rows)) ≡ true
@@ -77,22 +77,22 @@ module _ (dbd : Dbd) (all : IsHierarchy dbd.types) (rows : List Row) (valid : Ar
     walk_ends e = head ∙ by (first_after dbd.types ssas place (record_of key rows)) e
       where
         by : (o : Option Row) → is_some o ≡ true
-            → record_need mode key ∷ option_map_or (λ r. []) o (walk (next_fits dbd ssas place) mode rows (behind key (roots rows))) ≡ record_need mode key ∷ []
+            → record_need mode key ∷ option_map_or (λ r. []) o (walk (next_fits dbd ssas place) mode rows (roots_behind key (roots rows))) ≡ record_need mode key ∷ []
         by None f = absurd (false≢true f)
         by (Some row) f = refl
 
     -- and the row is found in it
     pub records_end : (row : Row) → first_after dbd.types ssas place (record_of key rows) ≡ Some row
-        → first_after dbd.types ssas place (records_of (keys_from (Some key) (roots rows)) rows) ≡ Some row
-    records_end row e = find_front (next_fits dbd ssas place) (record_of key rows) (records_of (behind key (roots rows)) rows) row e
+        → first_after dbd.types ssas place (rows_of_roots (keys_from (Some key) (roots rows)) rows) ≡ Some row
+    records_end row e = find_front (next_fits dbd ssas place) (record_of key rows) (rows_of_roots (roots_behind key (roots rows)) rows) row e
 
     -- else it is found among those from the next root on
     pub records_go : first_after dbd.types ssas place (record_of key rows) ≡ None
-        → first_after dbd.types ssas place (records_of (keys_from (next_root rows (Some key)) (roots rows)) rows)
-        ≡ first_after dbd.types ssas place (records_of (keys_from (Some key) (roots rows)) rows)
+        → first_after dbd.types ssas place (rows_of_roots (keys_from (next_root rows (Some key)) (roots rows)) rows)
+        ≡ first_after dbd.types ssas place (rows_of_roots (keys_from (Some key) (roots rows)) rows)
     records_go e =
-        ap (λ keys. first_after dbd.types ssas place (records_of keys rows)) (next_keys (Some key))
-        ∙ sym (find_back (next_fits dbd ssas place) (record_of key rows) (records_of (behind key (roots rows)) rows) e)
+        ap (λ keys. first_after dbd.types ssas place (rows_of_roots keys rows)) (next_keys (Some key))
+        ∙ sym (find_back (next_fits dbd ssas place) (record_of key rows) (rows_of_roots (roots_behind key (roots rows)) rows) e)
 
     -- else those from the next root on are needed too
     pub walk_goes : is_some (first_after dbd.types ssas place (record_of key rows)) ≡ false
@@ -101,7 +101,7 @@ module _ (dbd : Dbd) (all : IsHierarchy dbd.types) (rows : List Row) (valid : Ar
     walk_goes e = head ∙ by (first_after dbd.types ssas place (record_of key rows)) e
       where
         by : (o : Option Row) → is_some o ≡ false
-            → record_need mode key ∷ option_map_or (λ r. []) o (walk (next_fits dbd ssas place) mode rows (behind key (roots rows)))
+            → record_need mode key ∷ option_map_or (λ r. []) o (walk (next_fits dbd ssas place) mode rows (roots_behind key (roots rows)))
             ≡ record_need mode key ∷ walk (next_fits dbd ssas place) mode rows (keys_from (next_root rows (Some key)) (roots rows))
         by None f = ap (λ keys. record_need mode key ∷ walk (next_fits dbd ssas place) mode rows keys) (sym (next_keys (Some key)))
         by (Some row) f = absurd (false≢true (sym f))
@@ -109,16 +109,16 @@ module _ (dbd : Dbd) (all : IsHierarchy dbd.types) (rows : List Row) (valid : Ar
 module _ (dbd : Dbd) (all : IsHierarchy dbd.types) (rows : List Row) (valid : AreRows dbd rows) (ssas : List Ssa) (mode : Mode) where
   -- without a place a search goes along all records
   pub onward_none : (place : Option (List (ℕ × List ℕ))) (named made : List Need) → place ≡ None → made ≡ []
-      → named ≡ made ++ along mode (first_after dbd.types ssas place (records_of (roots rows) rows)) (roots rows)
+      → named ≡ made ++ along mode (first_after dbd.types ssas place (rows_of_roots (roots rows) rows)) (roots rows)
       → named ≡ onward mode place (first_after dbd.types ssas place rows) (roots rows)
   onward_none place named made none empty is =
       is
-      ∙ (ap (λ needs. needs ++ along mode (first_after dbd.types ssas place (records_of (roots rows) rows)) (roots rows)) empty
+      ∙ (ap (λ needs. needs ++ along mode (first_after dbd.types ssas place (rows_of_roots (roots rows) rows)) (roots rows)) empty
       ∙ (ap (λ rs. along mode (first_after dbd.types ssas place rs) (roots rows)) (sym (by_records dbd all rows valid))
       ∙ ap (λ o. onward mode o (first_after dbd.types ssas place rows) (roots rows)) (sym none)))
 
   -- and finds the row there
-  pub found_all : (place : Option (List (ℕ × List ℕ))) → first_after dbd.types ssas place (records_of (roots rows) rows) ≡ first_after dbd.types ssas place rows
+  pub found_all : (place : Option (List (ℕ × List ℕ))) → first_after dbd.types ssas place (rows_of_roots (roots rows) rows) ≡ first_after dbd.types ssas place rows
   found_all place = ap (first_after dbd.types ssas place) (sym (by_records dbd all rows valid))
 
   module _ (place : Option (List (ℕ × List ℕ))) (path : List (ℕ × List ℕ)) (root : List ℕ) (at : place ≡ Some path) (whole : IsPath dbd.types path) (same : root ≡ root_of path) where
@@ -130,21 +130,21 @@ module _ (dbd : Dbd) (all : IsHierarchy dbd.types) (rows : List Row) (valid : Ar
 
     -- or else of those behind it
     pub found_later : first_after dbd.types ssas place (record_of root rows) ≡ None
-        → first_after dbd.types ssas place (records_of (behind root (roots rows)) rows) ≡ first_after dbd.types ssas place rows
+        → first_after dbd.types ssas place (rows_of_roots (roots_behind root (roots rows)) rows) ≡ first_after dbd.types ssas place rows
     found_later e =
-        (λ i. first_after dbd.types ssas (at i) (records_of (behind (same i) (roots rows)) rows))
+        (λ i. first_after dbd.types ssas (at i) (rows_of_roots (roots_behind (same i) (roots rows)) rows))
         ∙ (sym (found_behind dbd all rows valid ssas path whole ((λ i. first_after dbd.types ssas (sym at i) (record_of (sym same i) rows)) ∙ e))
         ∙ ap (λ o. first_after dbd.types ssas o rows) (sym at))
 
     from : onward mode place (first_after dbd.types ssas place rows) (roots rows)
         ≡ record_need mode root
-        ∷ option_map_or (λ row. []) (first_after dbd.types ssas place (record_of root rows)) (along mode (first_after dbd.types ssas place (records_of (behind root (roots rows)) rows)) (behind root (roots rows)))
+        ∷ option_map_or (λ row. []) (first_after dbd.types ssas place (record_of root rows)) (along mode (first_after dbd.types ssas place (rows_of_roots (roots_behind root (roots rows)) rows)) (roots_behind root (roots rows)))
     from =
         ap (λ o. onward mode o (first_after dbd.types ssas o rows) (roots rows)) at
         ∙ (onward_is dbd all rows valid ssas path whole mode
         ∙ sym (λ i. record_need mode (same i)
         ∷ option_map_or (λ row. []) (first_after dbd.types ssas (at i) (record_of (same i) rows))
-        (along mode (first_after dbd.types ssas (at i) (records_of (behind (same i) (roots rows)) rows)) (behind (same i) (roots rows)))))
+        (along mode (first_after dbd.types ssas (at i) (rows_of_roots (roots_behind (same i) (roots rows)) rows)) (roots_behind (same i) (roots rows)))))
 
     -- from a place, its record alone where that has the row
     pub onward_here : (pushed made : List Need) → made ≡ [] → pushed ≡ made ++ record_need mode root ∷ [] → is_some (first_after dbd.types ssas place (record_of root rows)) ≡ true
@@ -154,25 +154,25 @@ module _ (dbd : Dbd) (all : IsHierarchy dbd.types) (rows : List Row) (valid : Ar
       where
         by : (o : Option Row) → is_some o ≡ true
             → record_need mode root
-            ∷ option_map_or (λ row. []) o (along mode (first_after dbd.types ssas place (records_of (behind root (roots rows)) rows)) (behind root (roots rows))) ≡ record_need mode root ∷ []
+            ∷ option_map_or (λ row. []) o (along mode (first_after dbd.types ssas place (rows_of_roots (roots_behind root (roots rows)) rows)) (roots_behind root (roots rows))) ≡ record_need mode root ∷ []
         by None f = absurd (false≢true f)
         by (Some row) f = refl
 
     -- else also those behind it
     pub onward_goes : (named pushed made : List Need) → made ≡ [] → pushed ≡ made ++ record_need mode root ∷ []
         → is_some (first_after dbd.types ssas place (record_of root rows)) ≡ false
-        → named ≡ pushed ++ along mode (first_after dbd.types ssas place (records_of (behind root (roots rows)) rows)) (behind root (roots rows))
+        → named ≡ pushed ++ along mode (first_after dbd.types ssas place (rows_of_roots (roots_behind root (roots rows)) rows)) (roots_behind root (roots rows))
         → named ≡ onward mode place (first_after dbd.types ssas place rows) (roots rows)
     onward_goes named pushed made empty is e all_of =
         all_of
-        ∙ (ap (λ needs. needs ++ along mode (first_after dbd.types ssas place (records_of (behind root (roots rows)) rows)) (behind root (roots rows)))
+        ∙ (ap (λ needs. needs ++ along mode (first_after dbd.types ssas place (rows_of_roots (roots_behind root (roots rows)) rows)) (roots_behind root (roots rows)))
         (is ∙ ap (λ needs. needs ++ record_need mode root ∷ []) empty)
         ∙ sym (from ∙ by (first_after dbd.types ssas place (record_of root rows)) e))
       where
         by : (o : Option Row) → is_some o ≡ false
             → record_need mode root
-            ∷ option_map_or (λ row. []) o (along mode (first_after dbd.types ssas place (records_of (behind root (roots rows)) rows)) (behind root (roots rows)))
-            ≡ record_need mode root ∷ along mode (first_after dbd.types ssas place (records_of (behind root (roots rows)) rows)) (behind root (roots rows))
+            ∷ option_map_or (λ row. []) o (along mode (first_after dbd.types ssas place (rows_of_roots (roots_behind root (roots rows)) rows)) (roots_behind root (roots rows)))
+            ≡ record_need mode root ∷ along mode (first_after dbd.types ssas place (rows_of_roots (roots_behind root (roots rows)) rows)) (roots_behind root (roots rows))
         by None f = refl
         by (Some row) f = absurd (false≢true (sym f))
 

@@ -19,8 +19,8 @@ use Rattle.model_data.proofs.Records.{is_eq-true}
 use Rattle.model_data.proofs.Under.{has_with}
 use Rattle.model_data.proofs.Paths.{some_and, some_and_at, type_known}
 use Rattle.std.proofs.lemmas.Map.Lookups.{exact_bytes}
-use Rattle.model_data.specs.Search.{fitted, number_named, key_length, data_length, asked_number, is_there}
-use Rattle.model_data.specs.Change.{key_bytes, asked_pair, insert_path, insert_row, insert_fault, replace_fault, delete_fault}
+use Rattle.model_data.specs.Search.{fitted_key, number_named, key_length, data_length, asked_number, is_row_there}
+use Rattle.model_data.specs.ChangeCalls.{key_bytes, asked_pair, insert_path, insert_row, insert_fault, replace_fault, delete_fault}
 use Rattle.model_data.specs.Conditions.{NamesChild, AreInsertSsas}
 use Rattle.row_search.proofs.Fitting.{take_blanks}
 use Rattle.row_search.proofs.Within.{both_true}
@@ -37,10 +37,10 @@ take_twice (suc k) zero xs h = absurd (omega arith)
 take_twice (suc k) (suc n) [] h = refl
 take_twice (suc k) (suc n) (x ∷ xs) h = λ i. x ∷ take_twice k n xs (omega arith) i
 
-pub fitted_front : (bytes : List ℕ) (k n : ℕ) → k ≤ n → take k (fitted n bytes) ≡ fitted k bytes
+pub fitted_front : (bytes : List ℕ) (k n : ℕ) → k ≤ n → take k (fitted_key n bytes) ≡ fitted_key k bytes
 fitted_front bytes k n h = take_twice k n (bytes ++ replicate n 32) h ∙ blanks_alike bytes k n k h (omega arith)
 
-pub fitted_length : (n : ℕ) (bytes : List ℕ) → length (fitted n bytes) ≡ n
+pub fitted_length : (n : ℕ) (bytes : List ℕ) → length (fitted_key n bytes) ≡ n
 fitted_length n bytes =
     length-take-le n (bytes ++ replicate n 32) (omega (arith, length-append bytes (replicate n 32), length-replicate {A = ℕ} n 32))
 
@@ -58,16 +58,16 @@ front_printable (suc n) (x ∷ xs) ys h g =
     let parts = both_true (is_printable x) (list_all is_printable xs) h in
     ap (λ b. b && list_all is_printable (take n (xs ++ ys))) parts.0 ∙ front_printable n xs ys parts.1 g
 
-pub fitted_printable : (n : ℕ) (bytes : List ℕ) → list_all is_printable bytes ≡ true → list_all is_printable (fitted n bytes) ≡ true
+pub fitted_printable : (n : ℕ) (bytes : List ℕ) → list_all is_printable bytes ≡ true → list_all is_printable (fitted_key n bytes) ≡ true
 fitted_printable n bytes h = front_printable n bytes (replicate n 32) h (blanks_printable n)
 
 -- a path that is there is that of a row
-pub there_has : (path : List (ℕ × List ℕ)) (rows : List Row) → is_there path rows ≡ true → HasPath rows path
+pub there_has : (path : List (ℕ × List ℕ)) (rows : List Row) → is_row_there path rows ≡ true → HasPath rows path
 there_has path [] e = absurd (false≢true e)
 there_has path (x ∷ rows) e = by (is_eq (path_cmp path x.path)) refl e (there_has path rows)
   where
     by : (b : Bool) → is_eq (path_cmp path x.path) ≡ b → is_some (cond b (Some x) (find (λ row. is_eq (path_cmp path row.path)) rows)) ≡ true
-        → (is_there path rows ≡ true → HasPath rows path) → (x.path ≡ path) ⊎ HasPath rows path
+        → (is_row_there path rows ≡ true → HasPath rows path) → (x.path ≡ path) ⊎ HasPath rows path
     by true f g rec = inl (sym (exact_path path x.path (is_eq-true _ f)))
     by false f g rec = inr (rec g)
 
@@ -95,9 +95,9 @@ module _ (types : List SegType) (all : IsHierarchy types) where
   insert_end (x ∷ y ∷ ssas) area = insert_end (y ∷ ssas) area
 
   insert_key : (above : ℕ) (ssas : List Ssa) (area : List ℕ) → AreInsertSsas types above ssas
-      → end_key (insert_path types ssas area) ≡ fitted (key_length types (asked_number types ssas)) area
+      → end_key (insert_path types ssas area) ≡ fitted_key (key_length types (asked_number types ssas)) area
   insert_key above [] area h = absurd h
-  insert_key above (x ∷ []) area h = ap (λ t. fitted (key_length types (number_named types x.segment)) (key_bytes t area)) h.1
+  insert_key above (x ∷ []) area h = ap (λ t. fitted_key (key_length types (number_named types x.segment)) (key_bytes t area)) h.1
   insert_key above (x ∷ y ∷ ssas) area h = insert_key (number_named types x.segment) (y ∷ ssas) area h.2
 
   insert_type : (above : ℕ) (ssas : List Ssa) → AreInsertSsas types above ssas → (s : SegType) × (type_at types (asked_number types ssas) ≡ Some s)
@@ -109,47 +109,47 @@ module _ (types : List SegType) (all : IsHierarchy types) where
   no_fault_parent : (path : List (ℕ × List ℕ)) (rows : List Row) → IsPath types path → insert_fault path rows ≡ None → (parent_path path ≡ []) ⊎ HasPath rows (parent_path path)
   no_fault_parent [] rows h e = absurd h
   no_fault_parent (p ∷ []) rows h e = inl refl
-  no_fault_parent (p ∷ q ∷ path) rows h e = by (is_there (parent_path (p ∷ q ∷ path)) rows) refl
+  no_fault_parent (p ∷ q ∷ path) rows h e = by (is_row_there (parent_path (p ∷ q ∷ path)) rows) refl
     where
-      by : (b : Bool) → is_there (parent_path (p ∷ q ∷ path)) rows ≡ b → (parent_path (p ∷ q ∷ path) ≡ []) ⊎ HasPath rows (parent_path (p ∷ q ∷ path))
+      by : (b : Bool) → is_row_there (parent_path (p ∷ q ∷ path)) rows ≡ b → (parent_path (p ∷ q ∷ path) ≡ []) ⊎ HasPath rows (parent_path (p ∷ q ∷ path))
       by true f = inr (there_has (parent_path (p ∷ q ∷ path)) rows f)
       by false f =
           let other : eqb (length (p ∷ q ∷ path)) 1 ≡ false = ne_eqb (length (p ∷ q ∷ path)) 1 (λ g. absurd (omega arith)) in
-          let clash : Some GE ≡ None = sym ((λ i. cond (not (other i) && not (f i)) (Some GE) (cond (is_there (p ∷ q ∷ path) rows) (Some II) None))) ∙ e in absurd (cc)
+          let clash : Some GE ≡ None = sym ((λ i. cond (not (other i) && not (f i)) (Some GE) (cond (is_row_there (p ∷ q ∷ path) rows) (Some II) None))) ∙ e in absurd (cc)
 
   -- data that is fitted to a type begins with the fitted key
   front_is_key : (n : ℕ) (s : SegType) (area : List ℕ) → type_at types n ≡ Some s
-      → take (length (fitted (key_length types n) area)) (fitted (data_length types n) area) ≡ fitted (key_length types n) area
+      → take (length (fitted_key (key_length types n) area)) (fitted_key (data_length types n) area) ≡ fitted_key (key_length types n) area
   front_is_key n s area e =
       let key : key_length types n ≡ s.key = ap (λ o. option_map_or (λ t. t.key) o 0) e in
       let whole : data_length types n ≡ s.bytes = ap (λ o. option_map_or (λ t. t.bytes) o 0) e in
       let within : s.key ≤ s.bytes = (type_known types all n s e).key_within in
-      ap (λ k. take k (fitted (data_length types n) area)) (fitted_length (key_length types n) area)
+      ap (λ k. take k (fitted_key (data_length types n) area)) (fitted_length (key_length types n) area)
       ∙ fitted_front area (key_length types n) (data_length types n) (omega arith)
 
   pub insert_is_row : (ssas : List Ssa) (area : List ℕ) (rows : List Row) → AreInsertSsas types 0 ssas → list_all is_printable area ≡ true
       → insert_fault (insert_path types ssas area) rows ≡ None → IsRow types rows (insert_row types ssas area)
   insert_is_row ssas area rows h printable e =
       let found = insert_type 0 ssas h in
-      let key : end_key (insert_path types ssas area) ≡ fitted (key_length types (asked_number types ssas)) area = insert_key 0 ssas area h in
+      let key : end_key (insert_path types ssas area) ≡ fitted_key (key_length types (asked_number types ssas)) area = insert_key 0 ssas area h in
       record {
         path = insert_is_path ssas area h;
         parent = no_fault_parent (insert_path types ssas area) rows (insert_is_path ssas area h) e;
-        whole = some_and_at (λ s. length (fitted (data_length types (asked_number types ssas)) area) ≡ s.bytes) (type_at types (end_type (insert_path types ssas area))) found.0
+        whole = some_and_at (λ s. length (fitted_key (data_length types (asked_number types ssas)) area) ≡ s.bytes) (type_at types (end_type (insert_path types ssas area))) found.0
             (ap (type_at types) (insert_end ssas area) ∙ found.1)
             (fitted_length (data_length types (asked_number types ssas)) area ∙ ap (λ o. option_map_or (λ s. s.bytes) o 0) found.1);
         printable = fitted_printable (data_length types (asked_number types ssas)) area printable;
-        key = ap (λ k. take (length k) (fitted (data_length types (asked_number types ssas)) area)) key
+        key = ap (λ k. take (length k) (fitted_key (data_length types (asked_number types ssas)) area)) key
             ∙ (front_is_key (asked_number types ssas) found.0 area found.1 ∙ sym key);
       }
 
   -- where a replacement has no fault, the row of the path with the data is one of the database
   pub replace_is_row : (held : List (ℕ × List ℕ)) (area : List ℕ) (rows : List Row) → AllByRecursion (IsRow types rows) rows → list_all is_printable area ≡ true
-      → replace_fault types held area rows ≡ None → IsRow types rows (record { path = held; bytes = fitted (data_length types (end_type held)) area })
-  replace_is_row held area rows each printable e = by (is_eq (key_cmp (end_key held) (fitted (key_length types (end_type held)) area))) refl (is_there held rows) refl
+      → replace_fault types held area rows ≡ None → IsRow types rows (record { path = held; bytes = fitted_key (data_length types (end_type held)) area })
+  replace_is_row held area rows each printable e = by (is_eq (key_cmp (end_key held) (fitted_key (key_length types (end_type held)) area))) refl (is_row_there held rows) refl
     where
-      by : (b : Bool) → is_eq (key_cmp (end_key held) (fitted (key_length types (end_type held)) area)) ≡ b → (c : Bool) → is_there held rows ≡ c
-          → IsRow types rows (record { path = held; bytes = fitted (data_length types (end_type held)) area })
+      by : (b : Bool) → is_eq (key_cmp (end_key held) (fitted_key (key_length types (end_type held)) area)) ≡ b → (c : Bool) → is_row_there held rows ≡ c
+          → IsRow types rows (record { path = held; bytes = fitted_key (data_length types (end_type held)) area })
       by false f c g =
           let clash : Some DA ≡ None = sym (ap (λ b. cond (not b) (Some DA) (delete_fault held rows)) f) ∙ e in absurd (cc)
       by true f false g =
@@ -159,13 +159,13 @@ module _ (types : List SegType) (all : IsHierarchy types) where
           let valid : IsRow types rows found.0 = found.2 in
           let typed = some_and (λ s. length found.0.bytes ≡ s.bytes) (type_at types (end_type found.0.path)) valid.whole in
           let at : type_at types (end_type held) ≡ Some typed.0 = ap (λ p. type_at types (end_type p)) (sym found.1) ∙ typed.1 in
-          let key : end_key held ≡ fitted (key_length types (end_type held)) area = exact_bytes (end_key held) (fitted (key_length types (end_type held)) area) (is_eq-true _ f) in
+          let key : end_key held ≡ fitted_key (key_length types (end_type held)) area = exact_bytes (end_key held) (fitted_key (key_length types (end_type held)) area) (is_eq-true _ f) in
           record {
             path = subst (IsPath types) found.1 valid.path;
             parent = subst (λ p. (parent_path p ≡ []) ⊎ HasPath rows (parent_path p)) found.1 valid.parent;
-            whole = some_and_at (λ s. length (fitted (data_length types (end_type held)) area) ≡ s.bytes) (type_at types (end_type held)) typed.0 at
+            whole = some_and_at (λ s. length (fitted_key (data_length types (end_type held)) area) ≡ s.bytes) (type_at types (end_type held)) typed.0 at
                 (fitted_length (data_length types (end_type held)) area ∙ ap (λ o. option_map_or (λ s. s.bytes) o 0) at);
             printable = fitted_printable (data_length types (end_type held)) area printable;
-            key = ap (λ k. take (length k) (fitted (data_length types (end_type held)) area)) key
+            key = ap (λ k. take (length k) (fitted_key (data_length types (end_type held)) area)) key
                 ∙ (front_is_key (end_type held) typed.0 area at ∙ sym key);
           }

@@ -8,11 +8,11 @@ use Rattle.model_data.specs.declared.row.Row.{Row}
 use Rattle.model_data.specs.Path.{key_cmp, end_key, end_type, root_of}
 use Rattle.model_data.specs.Row.{row_cmp}
 use Rattle.model_data.specs.Rows.{record_of}
-use Rattle.model_data.specs.Search.{fitted, is_there, key_length}
-use Rattle.model_data.specs.Change.{delete_fault, replace_fault, with_row}
+use Rattle.model_data.specs.Search.{fitted_key, is_row_there, key_length}
+use Rattle.model_data.specs.ChangeCalls.{delete_fault, replace_fault, with_row}
 use Rattle.dli_calls.specs.declared.planned.Edit.{Edit}
 use Rattle.dli_calls.specs.declared.planned.Planned.{Planned}
-use Rattle.dli_calls.specs.Plans.{IsThere}
+use Rattle.dli_calls.specs.CallPlan.{IsThere}
 use Rattle.row_search.proofs.Places.{there_in_record}
 
 some_in : {A : Type 0} (front : List A) (x : A) (back : List A) → front ++ x ∷ back ≢ []
@@ -27,18 +27,18 @@ some_with (Err error) row rows e = tt
 
 -- a segment that is deleted is in its record
 pub held_there : (held : List (ℕ × List ℕ)) (rows : List Row) (root : List ℕ) → root_of held ≡ root → delete_fault held rows ≡ None → record_of root rows ≢ []
-held_there held rows root same none = λ empty. by (is_there held rows) refl empty none
+held_there held rows root same none = λ empty. by (is_row_there held rows) refl empty none
   where
-    by : (b : Bool) → is_there held rows ≡ b → record_of root rows ≡ [] → cond b None (Some DJ) ≡ None → ⊥
+    by : (b : Bool) → is_row_there held rows ≡ b → record_of root rows ≡ [] → cond b None (Some DJ) ≡ None → ⊥
     by true there empty e =
-        let found : is_there held [] ≡ true =
-        ap (is_there held) (sym empty ∙ ap (λ k. record_of k rows) (sym same)) ∙ (there_in_record held rows ∙ there) in
+        let found : is_row_there held [] ≡ true =
+        ap (is_row_there held) (sym empty ∙ ap (λ k. record_of k rows) (sym same)) ∙ (there_in_record held rows ∙ there) in
         absurd (cc)
     by false there empty e = absurd (cc)
 
 -- and so is one that is replaced
 pub kept_there : (types : List SegType) (held : List (ℕ × List ℕ)) (area : List ℕ) (rows : List Row) → replace_fault types held area rows ≡ None → delete_fault held rows ≡ None
-kept_there types held area rows e = by (is_eq (key_cmp (end_key held) (fitted (key_length types (end_type held)) area))) e
+kept_there types held area rows e = by (is_eq (key_cmp (end_key held) (fitted_key (key_length types (end_type held)) area))) e
   where
     by : (b : Bool) → cond (not b) (Some DA) (delete_fault held rows) ≡ None → delete_fault held rows ≡ None
     by true f = f

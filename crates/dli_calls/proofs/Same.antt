@@ -28,23 +28,23 @@ use Rattle.model_data.specs.declared.call.Reach.{Reach}
 use Rattle.model_data.specs.declared.call.Reach.TheVariants.{Start, Next, Parent}
 use Rattle.model_data.specs.declared.call.RowsLimit.{RowsLimit}
 use Rattle.model_data.specs.declared.call.RowsLimit.TheVariants.{Roots, RecordLength}
-use Rattle.model_data.specs.Search.{fitted, data_length, is_there, first_after, first_below}
-use Rattle.model_data.specs.Get.{asked_root, reached, missed_status, reached_status, position_at, position_missed}
-use Rattle.model_data.specs.Change.{insert_path, insert_row, insert_fault, keeps_key, replace_fault, delete_fault, with_row, with_data, without, passed_limit}
-use Rattle.model_data.specs.Dli.{DliResult, answered, changed_to, unheld, get, insert, replace, delete, is_allowed, position_denied, denied, allowed, dli}
+use Rattle.model_data.specs.Search.{fitted_key, data_length, is_row_there, first_after, first_below}
+use Rattle.model_data.specs.GetCalls.{asked_root, row_reached, missed_status, reached_status, position_at, position_missed}
+use Rattle.model_data.specs.ChangeCalls.{insert_path, insert_row, insert_fault, keeps_key, replace_fault, delete_fault, with_row, with_data, without_path, passed_limit}
+use Rattle.model_data.specs.DatabaseCalls.{DliResult, answered_unchanged, changed_to, unheld, get, insert, replace, delete, is_call_allowed, position_denied, denied, allowed, dli}
 use Rattle.model_data.specs.Conditions.{AreInsertSsas, AreSsasOf, IsDbCall, IsPosition}
-use Rattle.model_data.specs.Footprint.{record_need, sequence_need, behind, onward, search_needs, parent_needs, insert_needs, replace_needs, delete_needs, allowed_needs, footprint, AgreeOn}
+use Rattle.model_data.specs.Footprint.{record_need, sequence_need, roots_behind, onward, search_needs, parent_needs, insert_needs, replace_needs, delete_needs, allowed_needs, footprint, AgreeOn}
 use Rattle.dli_calls.proofs.Edits.{row_added, under_with_row, row_changed as data_changed, under_changed, rows_removed, under_removed}
 use Rattle.dli_calls.proofs.NewRows.{insert_is_row, replace_is_row}
 use Rattle.row_search.proofs.Places.{there_in_record, below_in_record, asked_in_record}
 use Rattle.dli_calls.proofs.Removing.{kept_there, held_there}
-use Rattle.dli_calls.specs.Alike.{AreAlike}
+use Rattle.dli_calls.specs.AlikeCalls.{AreAlike}
 use Rattle.dli_calls.proofs.Keys.{roots_ascending}
 use Rattle.dli_calls.proofs.Walk.{found, walk, walk_found, next_fits, found_all, found_here, found_behind, along_is, onward_is}
 
 -- a call that changes nothing, and answers alike
 still : (dbd : Dbd) (a b : List Row) (status other : Status) (area bytes : Option (List ℕ)) (at after : Position) → status ≡ other → area ≡ bytes → at ≡ after
-    → AreAlike dbd a b (answered status area a at) (answered other bytes b after)
+    → AreAlike dbd a b (answered_unchanged status area a at) (answered_unchanged other bytes b after)
 still dbd a b status other area bytes at after s d p =
     record {
       status = s;
@@ -66,8 +66,8 @@ path_some types [] h = absurd h
 path_some types (p ∷ path) h = omega arith
 
 -- what is there in a record that two lists of rows have is there in both
-there_alike : (a b : List Row) (path : List (ℕ × List ℕ)) → record_of (root_of path) a ≡ record_of (root_of path) b → is_there path a ≡ is_there path b
-there_alike a b path e = sym (there_in_record path a) ∙ (ap (is_there path) e ∙ there_in_record path b)
+there_alike : (a b : List Row) (path : List (ℕ × List ℕ)) → record_of (root_of path) a ≡ record_of (root_of path) b → is_row_there path a ≡ is_row_there path b
+there_alike a b path e = sym (there_in_record path a) ∙ (ap (is_row_there path) e ∙ there_in_record path b)
 
 module _ (dbd : Dbd) (all : IsHierarchy dbd.types) (a b : List Row) (valid_a : AreRows dbd a) (valid_b : AreRows dbd b) where
   module _ (call : DbCall) (mode : Mode) where
@@ -86,7 +86,7 @@ module _ (dbd : Dbd) (all : IsHierarchy dbd.types) (a b : List Row) (valid_a : A
       where
         agree : AgreeOn (record_need mode (root_of place)
             ∷ option_map_or (λ row. []) (find (next_fits dbd call.ssas (Some place)) (record_of (root_of place) a))
-            (sequence_need Shared ∷ walk (next_fits dbd call.ssas (Some place)) mode a (behind (root_of place) (roots a)))) a b
+            (sequence_need Shared ∷ walk (next_fits dbd call.ssas (Some place)) mode a (roots_behind (root_of place) (roots a)))) a b
         agree = subst (λ needs. AgreeOn needs a b) (onward_is dbd all a valid_a call.ssas place path mode) h
 
         there : find (next_fits dbd call.ssas (Some place)) (record_of (root_of place) b) ≡ find (next_fits dbd call.ssas (Some place)) (record_of (root_of place) a)
@@ -94,15 +94,15 @@ module _ (dbd : Dbd) (all : IsHierarchy dbd.types) (a b : List Row) (valid_a : A
 
         by : (o : Option Row) → find (next_fits dbd call.ssas (Some place)) (record_of (root_of place) a) ≡ o
             → AgreeOn (option_map_or (λ row. []) (find (next_fits dbd call.ssas (Some place)) (record_of (root_of place) a))
-            (sequence_need Shared ∷ walk (next_fits dbd call.ssas (Some place)) mode a (behind (root_of place) (roots a)))) a b
+            (sequence_need Shared ∷ walk (next_fits dbd call.ssas (Some place)) mode a (roots_behind (root_of place) (roots a)))) a b
             → first_after dbd.types call.ssas (Some place) a ≡ first_after dbd.types call.ssas (Some place) b
         by None e g =
-            let more : AgreeOn (sequence_need Shared ∷ walk (next_fits dbd call.ssas (Some place)) mode a (behind (root_of place) (roots a))) a b =
-            subst (λ o. AgreeOn (option_map_or (λ row. []) o (sequence_need Shared ∷ walk (next_fits dbd call.ssas (Some place)) mode a (behind (root_of place) (roots a)))) a b) e g in
+            let more : AgreeOn (sequence_need Shared ∷ walk (next_fits dbd call.ssas (Some place)) mode a (roots_behind (root_of place) (roots a))) a b =
+            subst (λ o. AgreeOn (option_map_or (λ row. []) o (sequence_need Shared ∷ walk (next_fits dbd call.ssas (Some place)) mode a (roots_behind (root_of place) (roots a)))) a b) e g in
             found_behind dbd all a valid_a call.ssas place path e
-            ∙ (walk_found (next_fits dbd call.ssas (Some place)) mode a b (behind (root_of place) (roots a))
+            ∙ (walk_found (next_fits dbd call.ssas (Some place)) mode a b (roots_behind (root_of place) (roots a))
             (sorted_filter key_cmp (λ key. is_lt (key_cmp (root_of place) key)) (roots a) (roots_ascending dbd all a valid_a)) more.1
-            ∙ (ap (λ keys. found (next_fits dbd call.ssas (Some place)) b (behind (root_of place) keys)) more.0
+            ∙ (ap (λ keys. found (next_fits dbd call.ssas (Some place)) b (roots_behind (root_of place) keys)) more.0
             ∙ sym (found_behind dbd all b valid_b call.ssas place path (there ∙ e))))
         by (Some row) e g =
             found_here dbd all a valid_a call.ssas place path row e
@@ -127,17 +127,17 @@ module _ (dbd : Dbd) (all : IsHierarchy dbd.types) (a b : List Row) (valid_a : A
 
     -- below a parent the same row is reached
     parent_found : (at : Position) → IsPosition dbd.types at → AgreeOn (parent_needs mode at) a b
-        → (reached Parent dbd.types call.ssas at a ≡ reached Parent dbd.types call.ssas at b)
+        → (row_reached Parent dbd.types call.ssas at a ≡ row_reached Parent dbd.types call.ssas at b)
         × (missed_status Parent dbd.types call.ssas at a ≡ missed_status Parent dbd.types call.ssas at b)
     parent_found at position h = by at.parentage position.parentage h
       where
         by : (o : Option (List (ℕ × List ℕ))) → IfSome o (IsPath dbd.types) → AgreeOn (option_map_or (λ parent. record_need mode (root_of parent) ∷ []) o []) a b
-            → (option_map_or (λ parent. cond (is_there parent a) (first_below dbd.types call.ssas at.position parent a) None) o None
-            ≡ option_map_or (λ parent. cond (is_there parent b) (first_below dbd.types call.ssas at.position parent b) None) o None)
-            × (option_map_or (λ parent. cond (is_there parent a) GE GP) o GP ≡ option_map_or (λ parent. cond (is_there parent b) GE GP) o GP)
+            → (option_map_or (λ parent. cond (is_row_there parent a) (first_below dbd.types call.ssas at.position parent a) None) o None
+            ≡ option_map_or (λ parent. cond (is_row_there parent b) (first_below dbd.types call.ssas at.position parent b) None) o None)
+            × (option_map_or (λ parent. cond (is_row_there parent a) GE GP) o GP ≡ option_map_or (λ parent. cond (is_row_there parent b) GE GP) o GP)
         by None path g = (refl, refl)
         by (Some parent) path g =
-            let there : is_there parent a ≡ is_there parent b = there_alike a b parent g.0 in
+            let there : is_row_there parent a ≡ is_row_there parent b = there_alike a b parent g.0 in
             let below : first_below dbd.types call.ssas at.position parent a ≡ first_below dbd.types call.ssas at.position parent b =
             sym (below_in_record dbd.types call.ssas at.position parent a (path_some dbd.types parent path))
             ∙ (ap (first_below dbd.types call.ssas at.position parent) g.0
@@ -145,16 +145,16 @@ module _ (dbd : Dbd) (all : IsHierarchy dbd.types) (a b : List Row) (valid_a : A
             (λ i. cond (there i) (below i) None, λ i. cond (there i) GE GP)
 
   -- a get that reaches the same, and misses alike, answers alike
-  get_alike : (reach : Reach) (hold : Bool) (call : DbCall) (at : Position) → reached reach dbd.types call.ssas at a ≡ reached reach dbd.types call.ssas at b
+  get_alike : (reach : Reach) (hold : Bool) (call : DbCall) (at : Position) → row_reached reach dbd.types call.ssas at a ≡ row_reached reach dbd.types call.ssas at b
       → missed_status reach dbd.types call.ssas at a ≡ missed_status reach dbd.types call.ssas at b → AreAlike dbd a b (get reach hold dbd call at a) (get reach hold dbd call at b)
   get_alike reach hold call at r m =
       subst (AreAlike dbd a b (get reach hold dbd call at a)) (λ i. got b (r i) (m i))
-      (by (reached reach dbd.types call.ssas at a) (missed_status reach dbd.types call.ssas at a))
+      (by (row_reached reach dbd.types call.ssas at a) (missed_status reach dbd.types call.ssas at a))
     where
       got : List Row → Option Row → Status → DliResult
       got rows o status =
-          option_map_or (λ row. answered (reached_status reach call.ssas at row.path) (Some row.bytes) rows (position_at reach hold at row.path)) o
-          (answered status None rows (position_missed reach status at))
+          option_map_or (λ row. answered_unchanged (reached_status reach call.ssas at row.path) (Some row.bytes) rows (position_at reach hold at row.path)) o
+          (answered_unchanged status None rows (position_missed reach status at))
 
       by : (o : Option Row) (status : Status) → AreAlike dbd a b (got a o status) (got b o status)
       by None status = still dbd a b status status None None (position_missed reach status at) (position_missed reach status at) refl refl refl
@@ -255,27 +255,27 @@ module _ (dbd : Dbd) (all : IsHierarchy dbd.types) (a b : List Row) (valid_a : A
   insert_faults : (path : List (ℕ × List ℕ)) → AgreeOn (insert_needs path) a b → insert_fault path a ≡ insert_fault path b
   insert_faults path h = by (eqb (length path) 1) refl
     where
-      here : is_there path a ≡ is_there path b
+      here : is_row_there path a ≡ is_row_there path b
       here = there_alike a b path (insert_record path h)
 
       by : (c : Bool) → eqb (length path) 1 ≡ c → insert_fault path a ≡ insert_fault path b
       by true e = rw e (ap (λ t. cond t (Some II) None) here)
       by false e =
-          let parent : is_there (parent_path path) a ≡ is_there (parent_path path) b =
+          let parent : is_row_there (parent_path path) a ≡ is_row_there (parent_path path) b =
           there_alike a b (parent_path path) (subst (λ k. record_of k a ≡ record_of k b) (sym (parent_rooted path e)) (insert_record path h)) in
           rw e (λ i. cond (not (parent i)) (Some GE) (cond (here i) (Some II) None))
 
   -- where a dependent may be inserted, its record is there
   pub parent_some : (path : List (ℕ × List ℕ)) → eqb (length path) 1 ≡ false → insert_fault path a ≡ None → record_of (root_of path) a ≢ []
-  parent_some path e none empty = by (is_there (parent_path path) a) refl
+  parent_some path e none empty = by (is_row_there (parent_path path) a) refl
     where
-      by : (c : Bool) → is_there (parent_path path) a ≡ c → ⊥
+      by : (c : Bool) → is_row_there (parent_path path) a ≡ c → ⊥
       by true f =
-          let found : is_there (parent_path path) [] ≡ true =
-          ap (is_there (parent_path path)) (sym empty ∙ ap (λ k. record_of k a) (sym (parent_rooted path e))) ∙ (there_in_record (parent_path path) a ∙ f) in
+          let found : is_row_there (parent_path path) [] ≡ true =
+          ap (is_row_there (parent_path path)) (sym empty ∙ ap (λ k. record_of k a) (sym (parent_rooted path e))) ∙ (there_in_record (parent_path path) a ∙ f) in
           absurd (false≢true found)
       by false f =
-          let clash : Some GE ≡ None = sym (λ i. cond (not (e i) && not (f i)) (Some GE) (cond (is_there path a) (Some II) None)) ∙ none in absurd (cc)
+          let clash : Some GE ≡ None = sym (λ i. cond (not (e i) && not (f i)) (Some GE) (cond (is_row_there path a) (Some II) None)) ∙ none in absurd (cc)
 
   insert_alike : (call : DbCall) (at : Position) → AreInsertSsas dbd.types 0 call.ssas → list_all is_printable call.area ≡ true
       → AgreeOn (insert_needs (insert_path dbd.types call.ssas call.area)) a b → AreAlike dbd a b (insert dbd call at a) (insert dbd call at b)
@@ -291,7 +291,7 @@ module _ (dbd : Dbd) (all : IsHierarchy dbd.types) (a b : List Row) (valid_a : A
 
       by_fault : List Row → Option Status → DliResult
       by_fault rows o =
-          option_map_or (λ status. answered status None rows (unheld at)) o
+          option_map_or (λ status. answered_unchanged status None rows (unheld at)) o
           (changed_to dbd (root_of (insert_path dbd.types call.ssas call.area)) rows at (with_row (insert_row dbd.types call.ssas call.area) rows)
           (record { position = Some (insert_path dbd.types call.ssas call.area); parentage = at.parentage; hold = None }))
 
@@ -321,18 +321,18 @@ module _ (dbd : Dbd) (all : IsHierarchy dbd.types) (a b : List Row) (valid_a : A
   replace_held : (call : DbCall) (at : Position) (held : List (ℕ × List ℕ)) → IsPath dbd.types held → list_all is_printable call.area ≡ true
       → AgreeOn (replace_needs dbd.types call.area held) a b
       → AreAlike dbd a b
-      (option_map_or (λ status. answered status None a (unheld at)) (replace_fault dbd.types held call.area a)
-      (changed_to dbd (root_of held) a at (with_data held (fitted (data_length dbd.types (end_type held)) call.area) a) (unheld at)))
-      (option_map_or (λ status. answered status None b (unheld at)) (replace_fault dbd.types held call.area b)
-      (changed_to dbd (root_of held) b at (with_data held (fitted (data_length dbd.types (end_type held)) call.area) b) (unheld at)))
+      (option_map_or (λ status. answered_unchanged status None a (unheld at)) (replace_fault dbd.types held call.area a)
+      (changed_to dbd (root_of held) a at (with_data held (fitted_key (data_length dbd.types (end_type held)) call.area) a) (unheld at)))
+      (option_map_or (λ status. answered_unchanged status None b (unheld at)) (replace_fault dbd.types held call.area b)
+      (changed_to dbd (root_of held) b at (with_data held (fitted_key (data_length dbd.types (end_type held)) call.area) b) (unheld at)))
   replace_held call at held path printable h = by (keeps_key dbd.types held call.area) refl h
     where
       bytes : List ℕ
-      bytes = fitted (data_length dbd.types (end_type held)) call.area
+      bytes = fitted_key (data_length dbd.types (end_type held)) call.area
 
       by_fault : List Row → Option Status → DliResult
       by_fault rows o =
-          option_map_or (λ status. answered status None rows (unheld at)) o
+          option_map_or (λ status. answered_unchanged status None rows (unheld at)) o
           (changed_to dbd (root_of held) rows at (with_data held bytes rows) (unheld at))
 
       fresh : (rows : List Row) → AreRows dbd rows → replace_fault dbd.types held call.area rows ≡ None → IsRow dbd.types rows (record { path = held; bytes = bytes })
@@ -370,11 +370,11 @@ module _ (dbd : Dbd) (all : IsHierarchy dbd.types) (a b : List Row) (valid_a : A
     where
       on : List Row → List (ℕ × List ℕ) → DliResult
       on rows held =
-          option_map_or (λ status. answered status None rows (unheld at)) (replace_fault dbd.types held call.area rows)
-          (changed_to dbd (root_of held) rows at (with_data held (fitted (data_length dbd.types (end_type held)) call.area) rows) (unheld at))
+          option_map_or (λ status. answered_unchanged status None rows (unheld at)) (replace_fault dbd.types held call.area rows)
+          (changed_to dbd (root_of held) rows at (with_data held (fitted_key (data_length dbd.types (end_type held)) call.area) rows) (unheld at))
 
       by : (o : Option (List (ℕ × List ℕ))) → IfSome o (IsPath dbd.types) → AgreeOn (option_map_or (replace_needs dbd.types call.area) o []) a b
-          → AreAlike dbd a b (option_map_or (on a) o (answered DJ None a (unheld at))) (option_map_or (on b) o (answered DJ None b (unheld at)))
+          → AreAlike dbd a b (option_map_or (on a) o (answered_unchanged DJ None a (unheld at))) (option_map_or (on b) o (answered_unchanged DJ None b (unheld at)))
       by None path g = still dbd a b DJ DJ None None (unheld at) (unheld at) refl refl refl
       by (Some held) path g = replace_held call at held path printable g
 
@@ -384,11 +384,11 @@ module _ (dbd : Dbd) (all : IsHierarchy dbd.types) (a b : List Row) (valid_a : A
     where
       by_fault : List Row → List (ℕ × List ℕ) → Option Status → DliResult
       by_fault rows held o =
-          option_map_or (λ status. answered status None rows (unheld at)) o
-          (changed_to dbd (root_of held) rows at (without held rows) (unheld at))
+          option_map_or (λ status. answered_unchanged status None rows (unheld at)) o
+          (changed_to dbd (root_of held) rows at (without_path held rows) (unheld at))
 
       whole : (held : List (ℕ × List ℕ)) → IsPath dbd.types held → (rows : List Row) → AreRows dbd rows
-          → without held rows ≡ with_record (root_of held) (without held (record_of (root_of held) rows)) rows
+          → without_path held rows ≡ with_record (root_of held) (without_path held (record_of (root_of held) rows)) rows
       whole held path rows valid = sym (rows_removed dbd all rows valid (root_of held) held refl (path_some dbd.types held path))
 
       kept : (held : List (ℕ × List ℕ)) → record_of (root_of held) a ≡ record_of (root_of held) b → delete_fault held a ≡ delete_fault held b
@@ -398,16 +398,16 @@ module _ (dbd : Dbd) (all : IsHierarchy dbd.types) (a b : List Row) (valid_a : A
           → AreAlike dbd a b (by_fault a held o) (by_fault b held o)
       either held path same (Some status) e = still dbd a b status status None None (unheld at) (unheld at) refl refl refl
       either held path same None e =
-          changed_alike (root_of held) (without held a) (without held b) (without held (record_of (root_of held) a)) at (unheld at)
+          changed_alike (root_of held) (without_path held a) (without_path held b) (without_path held (record_of (root_of held) a)) at (unheld at)
           (whole held path a valid_a)
-          (whole held path b valid_b ∙ ap (λ rs. with_record (root_of held) (without held rs) b) (sym same))
+          (whole held path b valid_b ∙ ap (λ rs. with_record (root_of held) (without_path held rs) b) (sym same))
           (under_removed dbd all a valid_a (root_of held) held refl (path_some dbd.types held path))
           same
           (λ empty. absurd (held_there held a (root_of held) refl e empty))
 
       by : (o : Option (List (ℕ × List ℕ))) → IfSome o (IsPath dbd.types) → AgreeOn (option_map_or delete_needs o []) a b
-          → AreAlike dbd a b (option_map_or (λ held. by_fault a held (delete_fault held a)) o (answered DJ None a (unheld at)))
-          (option_map_or (λ held. by_fault b held (delete_fault held b)) o (answered DJ None b (unheld at)))
+          → AreAlike dbd a b (option_map_or (λ held. by_fault a held (delete_fault held a)) o (answered_unchanged DJ None a (unheld at)))
+          (option_map_or (λ held. by_fault b held (delete_fault held b)) o (answered_unchanged DJ None b (unheld at)))
       by None path g = still dbd a b DJ DJ None None (unheld at) (unheld at) refl refl refl
       by (Some held) path g =
           subst (λ o. AreAlike dbd a b (by_fault a held (delete_fault held a)) (by_fault b held o)) (kept held g.0) (either held path g.0 (delete_fault held a) refl)
@@ -437,7 +437,7 @@ module _ (dbd : Dbd) (all : IsHierarchy dbd.types) (a b : List Row) (valid_a : A
   -- on rows that agree on what it needs, a call answers and changes alike
   pub same_call : (call : DbCall) (at : Position) → IsPosition dbd.types at → IsDbCall dbd.types call → AgreeOn (footprint dbd call at a) a b
       → AreAlike dbd a b (dli dbd call at a) (dli dbd call at b)
-  same_call call at position valid h = by (is_allowed call.function call.options) h
+  same_call call at position valid h = by (is_call_allowed call.function call.options) h
     where
       by : (c : Bool) → AgreeOn (cond c (allowed_needs call.function dbd call at a) []) a b
           → AreAlike dbd a b (cond c (allowed call.function dbd call at a) (denied call.function at a)) (cond c (allowed call.function dbd call at b) (denied call.function at b))

@@ -12,16 +12,16 @@ use Rattle.model_data.specs.declared.call.RowsLimit.{RowsLimit}
 use Rattle.model_data.specs.declared.call.RowsLimit.TheVariants.{Roots, RecordLength}
 use Rattle.model_data.specs.Path.{root_of}
 use Rattle.model_data.specs.declared.call.DbCall.{DbCall}
-use Rattle.model_data.specs.Change.{passed_limit, insert_fault, insert_path, insert_row, with_row}
-use Rattle.model_data.specs.Dli.{DliResult, answered, unheld, changed_to, insert}
+use Rattle.model_data.specs.ChangeCalls.{passed_limit, insert_fault, insert_path, insert_row, with_row}
+use Rattle.model_data.specs.DatabaseCalls.{DliResult, answered_unchanged, unheld, changed_to, insert}
 use Rattle.seg_rows.specs.declared.rows.StoreRefused.{StoreRefused}
 use Rattle.seg_rows.specs.declared.rows.StoreRefused.TheVariants.{RootLimit, RecordTooLong, Memory}
 use Rattle.seg_rows.specs.StoreRefused.{set_refusal, RefusesToSet}
 use Rattle.dli_calls.specs.declared.planned.Edit.{Edit}
 use Rattle.dli_calls.specs.declared.planned.Planned.{Planned}
-use Rattle.dli_calls.specs.Performs.{Performs, RefusesCall}
-use Rattle.dli_calls.specs.Plans.{limit_of, PlansEdit, PlansTo, Plans}
-use Rattle.dli_calls.specs.Edited.{IsEdit, rows_set, edit_limit}
+use Rattle.dli_calls.specs.PerformedCall.{Performs, RefusesCall}
+use Rattle.dli_calls.specs.CallPlan.{limit_of, PlansEdit, PlansTo, Plans}
+use Rattle.dli_calls.specs.ChangeEdit.{IsEdit, rows_set, edit_limit}
 
 -- an image that is an edited record
 pub edit_is : (dbd : Dbd) (root : List ℕ) (old new at image : List Row) → image ≡ at → IsImage dbd root at → with_record root at old ≡ new → HaveRoot root at
@@ -96,7 +96,7 @@ plans_insert dbd call at rows row root image p none is rooted e planned =
 
     whole : insert dbd call at rows ≡ changed_to dbd root rows at (with_row row rows) (record { position = Some row.path; parentage = at.parentage; hold = None })
     whole =
-        ap (λ o. option_map_or {U = DliResult} (λ status. answered status None rows (unheld at)) o
+        ap (λ o. option_map_or {U = DliResult} (λ status. answered_unchanged status None rows (unheld at)) o
         (changed_to dbd (root_of (insert_path dbd.types call.ssas call.area)) rows at (with_row (insert_row dbd.types call.ssas call.area) rows)
         (record { position = Some (insert_path dbd.types call.ssas call.area); parentage = at.parentage; hold = None }))) none
         ∙ (λ t. changed_to dbd (root_is t) rows at (with_row (sym is t) rows) (record { position = Some (path_is t); parentage = at.parentage; hold = None }))

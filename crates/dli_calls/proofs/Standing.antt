@@ -19,33 +19,33 @@ use Rattle.model_data.specs.Path.{end_type}
 use Rattle.model_data.specs.declared.call.Position.{Position}
 use Rattle.model_data.specs.declared.call.Reach.{Reach}
 use Rattle.model_data.specs.declared.call.Reach.TheVariants.{Start, Next, Parent}
-use Rattle.model_data.specs.Search.{is_after, is_below, fits, is_there, first_below}
-use Rattle.model_data.specs.Get.{reached, position_at, position_failed, position_missed}
+use Rattle.model_data.specs.Search.{is_after, is_path_below, fits, is_row_there, first_below}
+use Rattle.model_data.specs.GetCalls.{row_reached, position_at, position_failed, position_missed}
 use Rattle.model_data.specs.Conditions.{IsPosition}
 use Rattle.dli_calls.specs.declared.planned.Planned.{Planned}
 use Rattle.row_search.proofs.Finding.{find_has}
 
 -- a row that a get reaches is one of the rows
 pub reached_row : (dbd : Dbd) (reach : Reach) (ssas : List Ssa) (at : Position) (rows : List Row) (row : Row) → AreRows dbd rows
-    → reached reach dbd.types ssas at rows ≡ Some row → IsRow dbd.types rows row
+    → row_reached reach dbd.types ssas at rows ≡ Some row → IsRow dbd.types rows row
 reached_row dbd Start ssas at rows row h e =
     find_has (IsRow dbd.types rows) (λ r. is_after None r.path && fits dbd.types ssas r.path) rows row h.each e
 reached_row dbd Next ssas at rows row h e =
     find_has (IsRow dbd.types rows) (λ r. is_after at.position r.path && fits dbd.types ssas r.path) rows row h.each e
 reached_row dbd Parent ssas at rows row h e = by at.parentage e
   where
-    by : (o : Option (List (ℕ × List ℕ))) → option_map_or (λ parent. cond (is_there parent rows) (first_below dbd.types ssas at.position parent rows) None) o None ≡ Some row → IsRow dbd.types rows row
+    by : (o : Option (List (ℕ × List ℕ))) → option_map_or (λ parent. cond (is_row_there parent rows) (first_below dbd.types ssas at.position parent rows) None) o None ≡ Some row → IsRow dbd.types rows row
     by None f = absurd (none-some row f)
-    by (Some parent) f = there (is_there parent rows) f
+    by (Some parent) f = there (is_row_there parent rows) f
       where
         there : (b : Bool) → cond b (first_below dbd.types ssas at.position parent rows) None ≡ Some row → IsRow dbd.types rows row
         there true k =
-            find_has (IsRow dbd.types rows) (λ r. is_after at.position r.path && is_after (Some parent) r.path && is_below parent r.path && fits dbd.types ssas r.path) rows row h.each k
+            find_has (IsRow dbd.types rows) (λ r. is_after at.position r.path && is_after (Some parent) r.path && is_path_below parent r.path && fits dbd.types ssas r.path) rows row h.each k
         there false k = absurd (none-some row k)
 
 -- so it has a path of the database
 pub reached_path : (dbd : Dbd) (reach : Reach) (ssas : List Ssa) (at : Position) (rows : List Row) (row : Row) → AreRows dbd rows
-    → reached reach dbd.types ssas at rows ≡ Some row → IsPath dbd.types row.path
+    → row_reached reach dbd.types ssas at rows ≡ Some row → IsPath dbd.types row.path
 reached_path dbd reach ssas at rows row h e = (reached_row dbd reach ssas at rows row h e).path
 
 short_type : (found : Option SegType) (n : ℕ) → IfSome found (λ s. s.bytes ≤ 1996) → IsSomeAnd found (λ s. n ≡ s.bytes) → n ≤ 1996
@@ -62,7 +62,7 @@ short_at types number short = by (number == 0) (slice_get types (number - 1)) re
 
 -- and where no type has more bytes than a segment's text, its data is such a text
 pub reached_text : (dbd : Dbd) (reach : Reach) (ssas : List Ssa) (at : Position) (rows : List Row) (row : Row) → AreRows dbd rows
-    → reached reach dbd.types ssas at rows ≡ Some row → All (λ s. s.bytes ≤ 1996) dbd.types → IsSegmentText row.bytes
+    → row_reached reach dbd.types ssas at rows ≡ Some row → All (λ s. s.bytes ≤ 1996) dbd.types → IsSegmentText row.bytes
 reached_text dbd reach ssas at rows row h e short =
     let r = reached_row dbd reach ssas at rows row h e in
     (short_type (type_at dbd.types (end_type row.path)) (length row.bytes) (short_at dbd.types (end_type row.path) short) r.whole, r.printable)

@@ -15,10 +15,10 @@ use Rattle.model_data.specs.declared.call.Position.{Position}
 use Rattle.model_data.specs.declared.call.Reach.{Reach}
 use Rattle.model_data.specs.declared.call.Reach.TheVariants.{Start, Next, Parent}
 use Rattle.model_data.specs.declared.call.RowsLimit.{RowsLimit}
-use Rattle.model_data.specs.Search.{fitted, data_length}
-use Rattle.model_data.specs.Get.{reached, missed_status, reached_status, position_at, position_missed}
-use Rattle.model_data.specs.Change.{insert_path, insert_row, insert_fault, replace_fault, delete_fault, with_row, with_data, without, passed_limit}
-use Rattle.model_data.specs.Dli.{DliResult, answered, changed_to, unheld, get, insert, replace, delete, is_allowed, position_denied, denied, allowed, dli}
+use Rattle.model_data.specs.Search.{fitted_key, data_length}
+use Rattle.model_data.specs.GetCalls.{row_reached, missed_status, reached_status, position_at, position_missed}
+use Rattle.model_data.specs.ChangeCalls.{insert_path, insert_row, insert_fault, replace_fault, delete_fault, with_row, with_data, without_path, passed_limit}
+use Rattle.model_data.specs.DatabaseCalls.{DliResult, answered_unchanged, changed_to, unheld, get, insert, replace, delete, is_call_allowed, position_denied, denied, allowed, dli}
 use Rattle.model_data.specs.Conditions.{AreSsasOf, IsDbCall, IsPosition}
 use Rattle.dli_calls.proofs.NewRows.{insert_is_path}
 use Rattle.dli_calls.proofs.Standing.{reached_path, stands_at, stands_failed, stands_missed}
@@ -38,11 +38,11 @@ module _ (dbd : Dbd) (all : IsHierarchy dbd.types) (rows : List Row) (valid : Ar
       by (Some limit) = b
 
   get_stands : (reach : Reach) (hold : Bool) (call : DbCall) (at : Position) → IsPosition dbd.types at → IsPosition dbd.types (get reach hold dbd call at rows).position
-  get_stands reach hold call at h = by (reached reach dbd.types call.ssas at rows) refl
+  get_stands reach hold call at h = by (row_reached reach dbd.types call.ssas at rows) refl
     where
-      by : (o : Option Row) → reached reach dbd.types call.ssas at rows ≡ o
-          → IsPosition dbd.types (option_map_or (λ row. answered (reached_status reach call.ssas at row.path) (Some row.bytes) rows (position_at reach hold at row.path)) o
-          (answered (missed_status reach dbd.types call.ssas at rows) None rows (position_missed reach (missed_status reach dbd.types call.ssas at rows) at))).position
+      by : (o : Option Row) → row_reached reach dbd.types call.ssas at rows ≡ o
+          → IsPosition dbd.types (option_map_or (λ row. answered_unchanged (reached_status reach call.ssas at row.path) (Some row.bytes) rows (position_at reach hold at row.path)) o
+          (answered_unchanged (missed_status reach dbd.types call.ssas at rows) None rows (position_missed reach (missed_status reach dbd.types call.ssas at rows) at))).position
       by None e = stands_missed dbd.types reach (missed_status reach dbd.types call.ssas at rows) at h
       by (Some row) e = stands_at dbd.types reach hold at row.path h (reached_path dbd reach call.ssas at rows row valid e)
 
@@ -65,7 +65,7 @@ module _ (dbd : Dbd) (all : IsHierarchy dbd.types) (rows : List Row) (valid : Ar
   insert_stands call at h path = by (insert_fault (insert_path dbd.types call.ssas call.area) rows)
     where
       by : (o : Option Status)
-          → IsPosition dbd.types (option_map_or (λ status. answered status None rows (unheld at)) o
+          → IsPosition dbd.types (option_map_or (λ status. answered_unchanged status None rows (unheld at)) o
           (changed_to dbd (root_of (insert_path dbd.types call.ssas call.area)) rows at (with_row (insert_row dbd.types call.ssas call.area) rows)
           (record { position = Some (insert_path dbd.types call.ssas call.area); parentage = at.parentage; hold = None }))).position
       by (Some status) = stands_unheld at h
@@ -76,7 +76,7 @@ module _ (dbd : Dbd) (all : IsHierarchy dbd.types) (rows : List Row) (valid : Ar
 
   -- a change of the segment that was got with hold, or a fault
   held_stands : (at : Position) → IsPosition dbd.types at → (root : List ℕ) (new : List Row) (o : Option Status)
-      → IsPosition dbd.types (option_map_or (λ status. answered status None rows (unheld at)) o (changed_to dbd root rows at new (unheld at))).position
+      → IsPosition dbd.types (option_map_or (λ status. answered_unchanged status None rows (unheld at)) o (changed_to dbd root rows at new (unheld at))).position
   held_stands at h root new (Some status) = stands_unheld at h
   held_stands at h root new None = changed_stands root new at (unheld at) h (stands_unheld at h)
 
@@ -84,23 +84,23 @@ module _ (dbd : Dbd) (all : IsHierarchy dbd.types) (rows : List Row) (valid : Ar
   replace_stands call at h = by at.hold
     where
       by : (o : Option (List (ℕ × List ℕ)))
-          → IsPosition dbd.types (option_map_or (λ held. option_map_or (λ status. answered status None rows (unheld at)) (replace_fault dbd.types held call.area rows)
-          (changed_to dbd (root_of held) rows at (with_data held (fitted (data_length dbd.types (end_type held)) call.area) rows) (unheld at))) o (answered DJ None rows (unheld at))).position
+          → IsPosition dbd.types (option_map_or (λ held. option_map_or (λ status. answered_unchanged status None rows (unheld at)) (replace_fault dbd.types held call.area rows)
+          (changed_to dbd (root_of held) rows at (with_data held (fitted_key (data_length dbd.types (end_type held)) call.area) rows) (unheld at))) o (answered_unchanged DJ None rows (unheld at))).position
       by None = stands_unheld at h
-      by (Some held) = held_stands at h (root_of held) (with_data held (fitted (data_length dbd.types (end_type held)) call.area) rows) (replace_fault dbd.types held call.area rows)
+      by (Some held) = held_stands at h (root_of held) (with_data held (fitted_key (data_length dbd.types (end_type held)) call.area) rows) (replace_fault dbd.types held call.area rows)
 
   delete_stands : (at : Position) → IsPosition dbd.types at → IsPosition dbd.types (delete dbd at rows).position
   delete_stands at h = by at.hold
     where
       by : (o : Option (List (ℕ × List ℕ)))
-          → IsPosition dbd.types (option_map_or (λ held. option_map_or (λ status. answered status None rows (unheld at)) (delete_fault held rows)
-          (changed_to dbd (root_of held) rows at (without held rows) (unheld at))) o (answered DJ None rows (unheld at))).position
+          → IsPosition dbd.types (option_map_or (λ held. option_map_or (λ status. answered_unchanged status None rows (unheld at)) (delete_fault held rows)
+          (changed_to dbd (root_of held) rows at (without_path held rows) (unheld at))) o (answered_unchanged DJ None rows (unheld at))).position
       by None = stands_unheld at h
-      by (Some held) = held_stands at h (root_of held) (without held rows) (delete_fault held rows)
+      by (Some held) = held_stands at h (root_of held) (without_path held rows) (delete_fault held rows)
 
   -- a call leaves its PCB on paths of the database
   pub position_kept : (call : DbCall) (at : Position) → IsPosition dbd.types at → IsDbCall dbd.types call → IsPosition dbd.types (dli dbd call at rows).position
-  position_kept call at h ok = by (is_allowed call.function call.options)
+  position_kept call at h ok = by (is_call_allowed call.function call.options)
     where
       of : (function : Function) → AreSsasOf function dbd.types call.ssas → IsPosition dbd.types (allowed function dbd call at rows).position
       of GU ssas = get_stands Start false call at h

@@ -1,5 +1,5 @@
-pub mod Performs
-pub mod Plans
-pub mod Edited
-pub mod Along
-pub mod Alike
+pub mod PerformedCall
+pub mod CallPlan
+pub mod ChangeEdit
+pub mod NamedRecords
+pub mod AlikeCalls

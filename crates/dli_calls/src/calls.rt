@@ -5,11 +5,11 @@ ghost use Rattle.tm_types.specs.declared.status.Status.TheVariants.{AM};
 ghost use Rattle.tm_types.specs.Segment.{IsSegmentText};
 ghost use Rattle.model_data.specs.Rows.{IsImage};
 ghost use Rattle.model_data.specs.Conditions.{IsDbCall, IsPosition, AreInsertSsas};
-ghost use Rattle.model_data.specs.Dli.{dli, get, has_option, is_allowed, position_denied, insert, replace, delete};
+ghost use Rattle.model_data.specs.DatabaseCalls.{dli, get, has_option, is_call_allowed, position_denied, insert, replace, delete};
 ghost use Rattle.model_data.specs.declared.call.Position.{Position};
-ghost use Rattle.dli_calls.specs.Performs.{RefusesCall};
-ghost use Rattle.dli_calls.specs.Plans.{IsThere, Plans};
-ghost use Rattle.dli_calls.specs.Edited.{rows_set, edit_limit};
+ghost use Rattle.dli_calls.specs.PerformedCall.{RefusesCall};
+ghost use Rattle.dli_calls.specs.CallPlan.{IsThere, Plans};
+ghost use Rattle.dli_calls.specs.ChangeEdit.{rows_set, edit_limit};
 
 use crate::change::{self, delete_fault, replace_fault};
 use crate::get::{copied_path, failed, get};
@@ -196,7 +196,7 @@ fn denied(function: Function, at: &Position) -> Result<Planned, Memory>
 
 /// Whether the options of a PCB allow a call.
 pub fn is_allowed(function: Function, options: u8) -> bool
-    ensures { result ≡ is_allowed function options }
+    ensures { result ≡ is_call_allowed function options }
 {
     match function {
         Function::GU | Function::GN | Function::GNP => has(options, GET),

@@ -6,12 +6,12 @@ ghost use Rattle.tm_types.specs.Segment.{is_printable};
 ghost use Rattle.model_data.specs.Path.{key_cmp, root_of, end_type, end_key, IsPath};
 ghost use Rattle.model_data.specs.Row.{IsRow};
 ghost use Rattle.model_data.specs.Rows.{AreRows};
-ghost use Rattle.model_data.specs.Search.{fitted, key_length, data_length};
-ghost use Rattle.model_data.specs.Change.{replace_fault, delete_fault, with_row, with_data, without};
+ghost use Rattle.model_data.specs.Search.{fitted_key, key_length, data_length};
+ghost use Rattle.model_data.specs.ChangeCalls.{replace_fault, delete_fault, with_row, with_data, without_path};
 ghost use Rattle.model_data.specs.Conditions.{AreInsertSsas, IsPosition};
-ghost use Rattle.model_data.specs.Dli.{insert, replace, delete};
-ghost use Rattle.dli_calls.specs.Plans.{IsThere, Plans};
-ghost use Rattle.dli_calls.specs.Edited.{IsEdit};
+ghost use Rattle.model_data.specs.DatabaseCalls.{insert, replace, delete};
+ghost use Rattle.dli_calls.specs.CallPlan.{IsThere, Plans};
+ghost use Rattle.dli_calls.specs.ChangeEdit.{IsEdit};
 
 use crate::edit;
 use crate::inserting::{insert_fault, insert_row};
@@ -149,7 +149,7 @@ pub fn replace_fault<R: Rows>(
 
 pub fn keeps_key(types: &SegTypes, held: &Path, area: &[u8]) -> bool
     requires { IsPath types.now held.now }
-    ensures { result ≡ is_eq (key_cmp (end_key held.now) (fitted (key_length types.now (end_type held.now)) area.now)) }
+    ensures { result ≡ is_eq (key_cmp (end_key held.now) (fitted_key (key_length types.now (end_type held.now)) area.now)) }
 {
     let Some(segment) = types.numbered(held.segment()) else {
         unreachable!()
@@ -195,9 +195,9 @@ fn with_data<R: Rows>(
     rows: &R,
 ) -> Result<RecordImage, Memory>
     requires rows { R.database rows.now ≡ dbd.now }
-    requires row { IsRow dbd.now.types (R.rows rows.now) (record { path = held.now; bytes = fitted (data_length dbd.now.types (end_type held.now)) area.now }) }
+    requires row { IsRow dbd.now.types (R.rows rows.now) (record { path = held.now; bytes = fitted_key (data_length dbd.now.types (end_type held.now)) area.now }) }
     requires root { root_of held.now ≡ root.now }
-    ensures { IfOk result (IsEdit dbd.now root.now (R.rows rows.now) (with_data held.now (fitted (data_length dbd.now.types (end_type held.now)) area.now) (R.rows rows.now))) }
+    ensures { IfOk result (IsEdit dbd.now root.now (R.rows rows.now) (with_data held.now (fitted_key (data_length dbd.now.types (end_type held.now)) area.now) (R.rows rows.now))) }
 {
     let length = data_length(&dbd.types, held.segment());
     let bytes = fitted_bytes(alloc, length, area)?;
@@ -215,7 +215,7 @@ fn without<R: Rows>(
     requires rows { R.database rows.now ≡ dbd.now }
     requires held { 1 ≤ length held.now }
     requires root { root_of held.now ≡ root.now }
-    ensures { IfOk result (IsEdit dbd.now root.now (R.rows rows.now) (without held.now (R.rows rows.now))) }
+    ensures { IfOk result (IsEdit dbd.now root.now (R.rows rows.now) (without_path held.now (R.rows rows.now))) }
 {
     edit::without(alloc, held, record_rows(root, rows))
 }

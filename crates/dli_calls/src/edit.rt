@@ -2,7 +2,7 @@
 ghost use Rattle.std.specs.Prelude.{◌≡◌, ◌≤◌, ◌++◌, length, filter, IfOk, OnOk};
 ghost use Rattle.std.specs.Ordering.{is_lt, is_gt};
 ghost use Rattle.model_data.specs.Path.{path_cmp};
-ghost use Rattle.model_data.specs.Change.{row_with, with_row, with_data, without};
+ghost use Rattle.model_data.specs.ChangeCalls.{row_with, with_row, with_data, without_path};
 
 use model_data::{Path, Row};
 use row_search::is_within;
@@ -73,7 +73,7 @@ fn row_with(path: &Path, bytes: &Bytes, row: &Row) -> Result<Row, Memory>
 
 /// The rows without this path and all that go on from it.
 pub fn without(alloc: Global, path: &Path, rows: &[Row]) -> Result<RecordImage, Memory>
-    ensures { IfOk result (λ image. image ≡ without path.now rows.now) }
+    ensures { IfOk result (λ image. image ≡ without_path path.now rows.now) }
 {
     let mut image = RecordImage::new(alloc);
     for row in rows {

@@ -4,10 +4,10 @@ ghost use Rattle.std.specs.Option.{option_copied, option_map_or};
 ghost use Rattle.model_data.specs.Path.{IsPath};
 ghost use Rattle.model_data.specs.Rows.{roots, AreRows};
 ghost use Rattle.model_data.specs.Search.{first_after};
-ghost use Rattle.model_data.specs.Change.{insert_path};
+ghost use Rattle.model_data.specs.ChangeCalls.{insert_path};
 ghost use Rattle.model_data.specs.Conditions.{AreInsertSsas, IsDbCall, IsPosition};
 ghost use Rattle.model_data.specs.Footprint.{along, onward, search_needs, parent_needs, insert_needs, replace_needs, delete_needs, footprint};
-ghost use Rattle.dli_calls.specs.Along.{keys_behind, records_of};
+ghost use Rattle.dli_calls.specs.NamedRecords.{keys_behind, rows_of_roots};
 
 use crate::calls::is_allowed;
 use crate::change::keeps_key;
@@ -71,10 +71,8 @@ fn search_needs<R: Rows>(
     ensures { IfOk result (λ needs. needs ≡ search_needs mode dbd.now call.now (option_copied place.entry) (R.rows rows.now)) }
 {
     let mut needs = Needs::new(alloc);
-    match needed_row(mode, dbd, call, place, rows, &mut needs) {
-        Ok(_) => Ok(needs),
-        Err(error) => Err(error),
-    }
+    needed_row(mode, dbd, call, place, rows, &mut needs)?;
+    Ok(needs)
 }
 
 /// The row that GU and GN find after a place, and what they need to find it: the one record for whose
@@ -145,8 +143,8 @@ fn along<'a, R: Rows>(
     needs: &mut Needs,
 ) -> Result<Option<&'a Row>, Memory>
     requires { R.database rows.now ≡ asked.now.dbd }
-    ensures named { OnOk result (needs.new ≡ needs.old ++ along mode (first_after asked.now.dbd.types asked.now.ssas (option_copied place.entry) (records_of (keys_behind (option_copied after.entry) (roots (R.rows rows.now))) (R.rows rows.now))) (keys_behind (option_copied after.entry) (roots (R.rows rows.now)))) }
-    ensures found { IfOk result (λ row. option_copied row ≡ first_after asked.now.dbd.types asked.now.ssas (option_copied place.entry) (records_of (keys_behind (option_copied after.entry) (roots (R.rows rows.now))) (R.rows rows.now))) }
+    ensures named { OnOk result (needs.new ≡ needs.old ++ along mode (first_after asked.now.dbd.types asked.now.ssas (option_copied place.entry) (rows_of_roots (keys_behind (option_copied after.entry) (roots (R.rows rows.now))) (R.rows rows.now))) (keys_behind (option_copied after.entry) (roots (R.rows rows.now)))) }
+    ensures found { IfOk result (λ row. option_copied row ≡ first_after asked.now.dbd.types asked.now.ssas (option_copied place.entry) (rows_of_roots (keys_behind (option_copied after.entry) (roots (R.rows rows.now))) (R.rows rows.now))) }
     ensures valid { OnOk result (AreRows asked.now.dbd (R.rows rows.now)) }
 {
     needs.push(sequence_need(Mode::Shared))?;

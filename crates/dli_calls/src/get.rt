@@ -1,15 +1,15 @@
 //! The gets: GU, GN and GNP, and the same with hold.
 ghost use Rattle.std.specs.Prelude.{◌≡◌, ◌≤◌, length, All, IfOk, IfSome, IsSome, OnErr, OnSome, None, Some, ◌⊎◌, if◌then◌else◌};
 ghost use Rattle.std.specs.Option.{option_copied};
-ghost use Rattle.model_data.specs.Get.{reached, missed_status, level_status, moved_status, reached_status, parentage_at, position_at, position_failed, position_missed};
-ghost use Rattle.model_data.specs.Dli.{get};
-ghost use Rattle.model_data.specs.Search.{is_there};
+ghost use Rattle.model_data.specs.GetCalls.{row_reached, missed_status, level_status, moved_status, reached_status, parentage_at, position_at, position_failed, position_missed};
+ghost use Rattle.model_data.specs.DatabaseCalls.{get};
+ghost use Rattle.model_data.specs.Search.{is_row_there};
 ghost use Rattle.model_data.specs.declared.call.Reach.TheVariants.{Parent};
 ghost use Rattle.tm_types.specs.declared.status.Status.TheVariants.{GE, GP};
 ghost use Rattle.model_data.specs.Conditions.{IsPosition};
 ghost use Rattle.tm_types.specs.Segment.{IsSegmentText};
 ghost use Rattle.model_data.specs.Rows.{AreRows};
-ghost use Rattle.dli_calls.specs.Plans.{Plans, StandsSomewhere};
+ghost use Rattle.dli_calls.specs.CallPlan.{Plans, StandsSomewhere};
 
 use crate::planned::{Planned, answer_at};
 use model_data::{DbCall, Path, Position, Reach, Row};
@@ -34,7 +34,7 @@ pub fn get<R: Rows>(
     ensures text { All (λ type. type.bytes ≤ 1996) dbd.now.types → IfOk result (λ p. IfSome p.area IsSegmentText) }
     ensures no_edit { IfOk result (λ p. p.edit ≡ None) }
     // A get that reaches no row, by a PCB that stands nowhere, takes no memory.
-    ensures memory { OnErr result (IsSome (reached reach dbd.now.types call.now.ssas at.now (R.rows rows.now)) ⊎ StandsSomewhere at.now) }
+    ensures memory { OnErr result (IsSome (row_reached reach dbd.now.types call.now.ssas at.now (R.rows rows.now)) ⊎ StandsSomewhere at.now) }
 {
     let row = reached(reach, dbd, call.ssas.as_slice(), at, rows);
     get_found(reach, hold, dbd, call, at, row, rows)
@@ -53,14 +53,14 @@ pub fn get_found<R: Rows>(
     requires types { length dbd.now.types ≤ 255 }
     requires rows { R.database rows.now ≡ dbd.now }
     requires position { IsPosition dbd.now.types at.now }
-    requires row { option_copied row ≡ reached reach dbd.now.types call.now.ssas at.now (R.rows rows.now) }
+    requires row { option_copied row ≡ row_reached reach dbd.now.types call.now.ssas at.now (R.rows rows.now) }
     requires valid { OnSome row (AreRows (R.database rows.now) (R.rows rows.now)) }
     ensures planned { IfOk result (Plans dbd.now (R.rows rows.now) (get reach hold dbd.now call.now at.now (R.rows rows.now))) }
     ensures valid { IfOk result (λ p. IsPosition dbd.now.types p.position) }
     ensures text { All (λ type. type.bytes ≤ 1996) dbd.now.types → IfOk result (λ p. IfSome p.area IsSegmentText) }
     ensures no_edit { IfOk result (λ p. p.edit ≡ None) }
     // A get that reaches no row, by a PCB that stands nowhere, takes no memory.
-    ensures memory { OnErr result (IsSome (reached reach dbd.now.types call.now.ssas at.now (R.rows rows.now)) ⊎ StandsSomewhere at.now) }
+    ensures memory { OnErr result (IsSome (row_reached reach dbd.now.types call.now.ssas at.now (R.rows rows.now)) ⊎ StandsSomewhere at.now) }
 {
     let ssas = call.ssas.as_slice();
     match row {
@@ -108,7 +108,7 @@ fn reached<'a, R: Rows>(
     requires types { length dbd.now.types ≤ 255 }
     requires rows { R.database rows.now ≡ dbd.now }
     requires position { IsPosition dbd.now.types at.now }
-    ensures value { option_copied result ≡ reached reach dbd.now.types ssas.now at.now (R.rows rows.now) }
+    ensures value { option_copied result ≡ row_reached reach dbd.now.types ssas.now at.now (R.rows rows.now) }
     ensures valid { OnSome result (AreRows (R.database rows.now) (R.rows rows.now)) }
 {
     match reach {
@@ -127,7 +127,7 @@ fn reached_below<'a, R: Rows>(
     requires types { length dbd.now.types ≤ 255 }
     requires rows { R.database rows.now ≡ dbd.now }
     requires position { IsPosition dbd.now.types at.now }
-    ensures value { option_copied result ≡ reached Parent dbd.now.types ssas.now at.now (R.rows rows.now) }
+    ensures value { option_copied result ≡ row_reached Parent dbd.now.types ssas.now at.now (R.rows rows.now) }
     ensures valid { OnSome result (AreRows (R.database rows.now) (R.rows rows.now)) }
 {
     let parent = at.parentage.as_ref()?;
@@ -158,7 +158,7 @@ fn missed_status<R: Rows>(reach: Reach, dbd: &Dbd, ssas: &[Ssa], at: &Position, 
 
 fn missed_below<R: Rows>(parent: &Path, rows: &R) -> Status
     requires { 1 ≤ length parent.now }
-    ensures { result ≡ if is_there parent.now (R.rows rows.now) then GE else GP }
+    ensures { result ≡ if is_row_there parent.now (R.rows rows.now) then GE else GP }
 {
     if is_there(parent, rows) {
         Status::GE

@@ -5,10 +5,10 @@ ghost use Rattle.std.specs.Cmp.Lexicographic.{pointwise};
 ghost use Rattle.tm_types.specs.SegTypes.{type_at};
 ghost use Rattle.model_data.specs.Path.{root_of, parent_path, path_cmp};
 ghost use Rattle.model_data.specs.Rows.{AreRows};
-ghost use Rattle.model_data.specs.Search.{number_named, pair_eq, is_there};
-ghost use Rattle.model_data.specs.Change.{key_bytes, asked_pair, insert_path, insert_row, insert_fault};
+ghost use Rattle.model_data.specs.Search.{number_named, pair_eq, is_row_there};
+ghost use Rattle.model_data.specs.ChangeCalls.{key_bytes, asked_pair, insert_path, insert_row, insert_fault};
 ghost use Rattle.model_data.specs.Conditions.{AreInsertSsas};
-ghost use Rattle.dli_calls.specs.Edited.{AreNamed};
+ghost use Rattle.dli_calls.specs.ChangeEdit.{AreTypesNamed};
 
 use model_data::{Path, Row};
 use row_search::{asked_number, data_length, fitted_bytes, fitted_key, number_named, record_rows};
@@ -42,7 +42,7 @@ fn asked_pair(types: &SegTypes, area: &[u8], ssa: &Ssa) -> (u8, Key)
 
 fn are_asked_pairs(types: &SegTypes, area: &[u8], ssas: &[Ssa], path: &[(u8, Key)]) -> bool
     requires few { length types.now ≤ 255 }
-    requires named { AreNamed types.now ssas.now }
+    requires named { AreTypesNamed types.now ssas.now }
     ensures { result ≡ pointwise pair_eq (insert_path types.now ssas.now area.now) path.now }
 {
     if ssas.len() != path.len() {
@@ -60,7 +60,7 @@ fn are_asked_pairs(types: &SegTypes, area: &[u8], ssas: &[Ssa], path: &[(u8, Key
 #[tactic(auto, using(crate::proofs::Asking::path_ties))]
 fn leads_to(types: &SegTypes, area: &[u8], ssas: &[Ssa], path: &Path) -> bool
     requires few { length types.now ≤ 255 }
-    requires named { AreNamed types.now ssas.now }
+    requires named { AreTypesNamed types.now ssas.now }
     ensures { result ≡ is_eq (path_cmp (insert_path types.now ssas.now area.now) path.now) }
 {
     are_asked_pairs(types, area, ssas, path.as_slice())
@@ -68,8 +68,8 @@ fn leads_to(types: &SegTypes, area: &[u8], ssas: &[Ssa], path: &Path) -> bool
 
 fn has_asked(types: &SegTypes, area: &[u8], ssas: &[Ssa], rows: &[Row]) -> bool
     requires few { length types.now ≤ 255 }
-    requires named { AreNamed types.now ssas.now }
-    ensures { result ≡ is_there (insert_path types.now ssas.now area.now) rows.now }
+    requires named { AreTypesNamed types.now ssas.now }
+    ensures { result ≡ is_row_there (insert_path types.now ssas.now area.now) rows.now }
 {
     for row in rows {
         if leads_to(types, area, ssas, &row.path) {
@@ -83,8 +83,8 @@ fn has_asked(types: &SegTypes, area: &[u8], ssas: &[Ssa], rows: &[Row]) -> bool
 fn is_asked_there<R: Rows>(types: &SegTypes, area: &[u8], ssas: &[Ssa], rows: &R) -> bool
     requires few { length types.now ≤ 255 }
     requires some { 1 ≤ length ssas.now }
-    requires named { AreNamed types.now ssas.now }
-    ensures value { result ≡ is_there (insert_path types.now ssas.now area.now) (R.rows rows.now) }
+    requires named { AreTypesNamed types.now ssas.now }
+    ensures value { result ≡ is_row_there (insert_path types.now ssas.now area.now) (R.rows rows.now) }
     ensures valid { AreRows (R.database rows.now) (R.rows rows.now) }
 {
     let (_, root) = asked_pair(types, area, &ssas[0]);
@@ -94,7 +94,7 @@ fn is_asked_there<R: Rows>(types: &SegTypes, area: &[u8], ssas: &[Ssa], rows: &R
 fn lacks_parent<R: Rows>(types: &SegTypes, area: &[u8], ssas: &[Ssa], rows: &R) -> bool
     requires few { length types.now ≤ 255 }
     requires ssas { AreInsertSsas types.now 0 ssas.now }
-    ensures { result ≡ (not (length (insert_path types.now ssas.now area.now) == 1) && not (is_there (parent_path (insert_path types.now ssas.now area.now)) (R.rows rows.now))) }
+    ensures { result ≡ (not (length (insert_path types.now ssas.now area.now) == 1) && not (is_row_there (parent_path (insert_path types.now ssas.now area.now)) (R.rows rows.now))) }
 {
     if ssas.len() == 1 {
         return false;
@@ -136,7 +136,7 @@ pub fn insert_root(types: &SegTypes, area: &[u8], ssas: &[Ssa]) -> Key
 
 fn insert_path(alloc: Global, types: &SegTypes, area: &[u8], ssas: &[Ssa]) -> Result<Path, Memory>
     requires few { length types.now ≤ 255 }
-    requires named { AreNamed types.now ssas.now }
+    requires named { AreTypesNamed types.now ssas.now }
     ensures { IfOk result (λ path. path ≡ insert_path types.now ssas.now area.now) }
 {
     let mut path = Path::new(alloc);

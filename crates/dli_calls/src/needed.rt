@@ -4,12 +4,12 @@ ghost use Rattle.std.specs.Option.{option_copied};
 ghost use Rattle.tm_types.specs.Segment.{IsSegmentText};
 ghost use Rattle.model_data.specs.Path.{IsPath};
 ghost use Rattle.model_data.specs.Conditions.{IsDbCall, IsPosition};
-ghost use Rattle.model_data.specs.Dli.{dli, get};
+ghost use Rattle.model_data.specs.DatabaseCalls.{dli, get};
 ghost use Rattle.model_data.specs.Footprint.{footprint, search_needs};
-ghost use Rattle.model_data.specs.Get.{reached};
+ghost use Rattle.model_data.specs.GetCalls.{row_reached};
 ghost use Rattle.model_data.specs.Search.{first_after};
-ghost use Rattle.dli_calls.specs.Along.{mode_of};
-ghost use Rattle.dli_calls.specs.Plans.{IsThere, Plans};
+ghost use Rattle.dli_calls.specs.NamedRecords.{mode_of};
+ghost use Rattle.dli_calls.specs.CallPlan.{IsThere, Plans};
 
 use crate::calls::{is_allowed, plan};
 use crate::footprint::{needed_row, needs};
@@ -100,7 +100,7 @@ fn search<R: Rows>(
     requires rows { R.database rows.now ≡ dbd.now }
     requires position { IsPosition dbd.now.types at.now }
     requires place { IfSome (option_copied place) (IsPath dbd.now.types) }
-    requires reach { first_after dbd.now.types call.now.ssas (option_copied place) (R.rows rows.now) ≡ reached reach dbd.now.types call.now.ssas at.now (R.rows rows.now) }
+    requires reach { first_after dbd.now.types call.now.ssas (option_copied place) (R.rows rows.now) ≡ row_reached reach dbd.now.types call.now.ssas at.now (R.rows rows.now) }
     ensures needs { IfOk result (λ p. p.needs ≡ search_needs (mode_of hold) dbd.now call.now (option_copied place.entry) (R.rows rows.now)) }
     ensures planned { IfOk result (λ p. Plans dbd.now (R.rows rows.now) (get reach hold dbd.now call.now at.now (R.rows rows.now)) p.planned) }
     ensures position { IfOk result (λ p. IsPosition dbd.now.types p.planned.position) }
@@ -108,13 +108,9 @@ fn search<R: Rows>(
     ensures no_edit { IfOk result (λ p. p.planned.edit ≡ None) }
 {
     let mut needs = Needs::new(alloc);
-    match needed_row(mode_of(hold), dbd, call, place, rows, &mut needs) {
-        Ok(row) => {
-            let planned = get_found(reach, hold, dbd, call, at, row, rows)?;
-            Ok(NeededPlan { needs, planned })
-        }
-        Err(error) => Err(error),
-    }
+    let row = needed_row(mode_of(hold), dbd, call, place, rows, &mut needs)?;
+    let planned = get_found(reach, hold, dbd, call, at, row, rows)?;
+    Ok(NeededPlan { needs, planned })
 }
 
 /// A get shares what it needs, but with hold has its records alone.

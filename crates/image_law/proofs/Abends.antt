@@ -10,9 +10,9 @@ use Rattle.tm_types.specs.declared.function.Function.TheVariants.{ROLL, ISRT}
 use Rattle.model_data.specs.declared.row.Row.{Row}
 use Rattle.model_data.specs.declared.call.RowsLimit.{RowsLimit}
 use Rattle.model_data.specs.declared.call.RowsLimit.TheVariants.{Roots, RecordLength}
-use Rattle.model_data.specs.Data.{Data, abend_by, is_changed, limit_abend, most_changed}
-use Rattle.model_messages.specs.Calls.{abend_by as message_abend_by, gives_back, is_wrong_pad}
-use Rattle.model_messages.specs.Work.{MessageWork}
+use Rattle.model_data.specs.Data.{Data, limit_abend_by, is_root_changed, limit_abend, most_changed}
+use Rattle.model_messages.specs.MessageCalls.{message_abend_by as message_abend_by, gives_back, is_wrong_pad}
+use Rattle.model_messages.specs.MessageWork.{MessageWork}
 use Rattle.model_system.specs.declared.need.CallText.{CallText}
 use Rattle.model_system.specs.declared.need.Need.{Need}
 use Rattle.model_system.specs.declared.need.Need.TheVariants.{Call as NeedsCall, Abend as NeedsAbend, Ended}
@@ -21,16 +21,16 @@ use Rattle.model_system.specs.declared.statement.Statement.{Statement}
 use Rattle.model_system.specs.declared.statement.Statement.TheVariants.{Label, Set, Word, Cut, Pad, Add, Less, If, Goto, Call, Abend, End}
 use Rattle.model_system.specs.Arithmetic.{sum_text, difference_text}
 use Rattle.model_system.specs.Programs.{is_statement}
-use Rattle.model_system.specs.Script.{ScriptState, Needs, counted, executed_by, need_at, need_of, script_after, script_start, settled, step_by, variable_text}
+use Rattle.model_system.specs.Script.{ScriptState, Needs, computed, executed_by, need_at, need_of, script_after, script_start, script_settled, step_by, variable_text}
 use Rattle.model_system.specs.Jobs.{Job, job_of}
 use Rattle.model_system.specs.System.{System}
 use Rattle.model_machine.specs.Machine.{LastingState, Slot}
-use Rattle.model_machine.specs.Steps.{AtWork, slot_work, work_by}
-use Rattle.model_machine.specs.Trial.{Outcome, Reached, Trial, advance, advance_by, call_outcome, called, gone_on, is_sync, outcome_at, reached, trial_need, unless_abend}
+use Rattle.model_machine.specs.MachineCalls.{AtWork, slot_work, work_by}
+use Rattle.model_machine.specs.Trial.{Outcome, Reached, Trial, advance, advance_by, call_outcome, called_in_trial, trial_goes_on, is_sync, outcome_at, pcb_reached, trial_need, unless_abend}
 use Rattle.model_machine.specs.Trial.Advance.{Stops}
 use Rattle.model_machine.specs.Trial.Reached.{Messages, Rows, Nothing}
 use Rattle.model_machine.specs.Trial.WorkEnd.{Abends, Syncs}
-use Rattle.model_machine.specs.Work.{slot_trial}
+use Rattle.model_machine.specs.WorkSoFar.{slot_trial}
 
 -- a number from 1 to 4095
 abbrev pub IsAbend : ℕ → Type 0
@@ -47,7 +47,7 @@ NeedsRight (NeedsAbend code) = IsAbend code.number
 NeedsRight (NeedsCall call) = ⊤
 NeedsRight Ended = ⊤
 
-by_count : (state : ScriptState) (x : ℕ) (found : Option (List ℕ)) → NeedsRight (need_of (counted state x found))
+by_count : (state : ScriptState) (x : ℕ) (found : Option (List ℕ)) → NeedsRight (need_of (computed state x found))
 by_count state x (Some text) = tt
 by_count state x None = (omega arith, omega arith)
 
@@ -77,10 +77,10 @@ line_allowed (l ∷ lines) (suc place) line h e =
     line_allowed lines place line (and_parts (is_statement l.statement) (list_all (λ line. is_statement line.statement) lines) h).1 e
 
 need_right : (lines : List ScriptLine) (limit : ℕ) (state : ScriptState) → AreAllowed lines → NeedsRight (need_at lines limit state)
-need_right lines limit state h = by (slice_get lines (settled lines limit state).place) refl
+need_right lines limit state h = by (slice_get lines (script_settled lines limit state).place) refl
   where
-    by : (found : Option ScriptLine) → slice_get lines (settled lines limit state).place ≡ found → NeedsRight (need_of (step_by limit found (settled lines limit state)))
-    by (Some line) at = by_limit (nat_lt (settled lines limit state).executed limit) line.statement (settled lines limit state) (line_allowed lines (settled lines limit state).place line h at)
+    by : (found : Option ScriptLine) → slice_get lines (script_settled lines limit state).place ≡ found → NeedsRight (need_of (step_by limit found (script_settled lines limit state)))
+    by (Some line) at = by_limit (nat_lt (script_settled lines limit state).executed limit) line.statement (script_settled lines limit state) (line_allowed lines (script_settled lines limit state).place line h at)
     by None at = tt
 
 -- ---- what calls lead to
@@ -103,9 +103,9 @@ limit_right None = tt
 limit_right (Some Roots) = (omega arith, omega arith)
 limit_right (Some RecordLength) = (omega arith, omega arith)
 
-data_right : (number : ℕ) (changed : List (ℕ × List ℕ)) (root : Option (List ℕ)) (refusal : Option RowsLimit) → LeadsRight (abend_by number changed root refusal)
+data_right : (number : ℕ) (changed : List (ℕ × List ℕ)) (root : Option (List ℕ)) (refusal : Option RowsLimit) → LeadsRight (limit_abend_by number changed root refusal)
 data_right number changed None refusal = tt
-data_right number changed (Some root) refusal = by (not (is_changed number root changed) && nat_le most_changed (length changed))
+data_right number changed (Some root) refusal = by (not (is_root_changed number root changed) && nat_le most_changed (length changed))
   where
     by : (b : Bool) → LeadsRight (if b then Some (record { number = 900 }) else option_map limit_abend refusal)
     by true = (omega arith, omega arith)
@@ -119,18 +119,18 @@ outcome_right system rows Nothing work d call = tt
 
 -- ---- how the work ends
 
-unless_right : (found : Option AbendCode) (trial : Trial) (call : CallText) (outcome : Outcome) (abend : AbendCode) → LeadsRight found → unless_abend found (gone_on trial call outcome) ≡ Stops (Abends abend) → IsAbend abend.number
+unless_right : (found : Option AbendCode) (trial : Trial) (call : CallText) (outcome : Outcome) (abend : AbendCode) → LeadsRight found → unless_abend found (trial_goes_on trial call outcome) ≡ Stops (Abends abend) → IsAbend abend.number
 unless_right None trial call outcome abend h e = absurd (cc)
 unless_right (Some code) trial call outcome abend h e = let same : code ≡ abend = cc in subst (λ (a : AbendCode). IsAbend a.number) same h
 
 by_need : (job : Job) (rows : List (List Row)) (trial : Trial) (need : Need) (abend : AbendCode) → NeedsRight need → advance_by job rows trial need ≡ Stops (Abends abend) → IsAbend abend.number
 by_need job rows trial (NeedsCall call) abend h e = by (is_sync trial.work call) e
   where
-    by : (b : Bool) → (if b then Stops Syncs else called trial call (call_outcome job rows trial call)) ≡ Stops (Abends abend) → IsAbend abend.number
+    by : (b : Bool) → (if b then Stops Syncs else called_in_trial trial call (call_outcome job rows trial call)) ≡ Stops (Abends abend) → IsAbend abend.number
     by true f = absurd (cc)
     by false f =
         unless_right (call_outcome job rows trial call).abend trial call (call_outcome job rows trial call) abend
-        (outcome_right job.system rows (reached job.system.databases job.pcbs call.pcb) trial.work trial.databases call) f
+        (outcome_right job.system rows (pcb_reached job.system.databases job.pcbs call.pcb) trial.work trial.databases call) f
 by_need job rows trial Ended abend h e = absurd (cc)
 by_need job rows trial (NeedsAbend code) abend h e = let same : code ≡ abend = cc in subst (λ (a : AbendCode). IsAbend a.number) same h
 

@@ -3,11 +3,6 @@ use Rattle.std.proofs.Common.{◌≡◌, Bool, true, false, not, ◌&&◌, ◌||
 use Rattle.std.specs.Str.{bytes_eq}
 use Rattle.std.proofs.lemmas.Slice.Eq.{bytes_eq-Decides}
 
-pub both : (a b : Bool) → a ≡ true → b ≡ true → a && b ≡ true
-both true true x y = refl
-both true false x y = y
-both false b x y = x
-
 pub first_of : (a b : Bool) → a && b ≡ true → a ≡ true
 first_of true b x = refl
 first_of false b x = x

@@ -6,7 +6,8 @@ use Rattle.std.specs.Option.{option_map_or}
 use Rattle.std.proofs.lemmas.List.Sums.{sum_by-cons}
 use Rattle.model_system.specs.Lists.{change_at}
 pub use Rattle.image_law.proofs.Lists.{passes_at, all_set, all_changed}
-use Rattle.image_law.proofs.Bools.{both, first_of, second_of}
+use Rattle.image_law.proofs.Bools.{first_of, second_of}
+use Rattle.tm_types.proofs.Truths.{both}
 
 pub sum_set : {X : Type 0} (f : X → ℕ) (xs : List X) (place : ℕ) (x y : X) → slice_get xs place ≡ Some x → sum_by f (slice_set xs place y) + f x ≡ sum_by f xs + f y
 sum_set f [] place x y e = cc

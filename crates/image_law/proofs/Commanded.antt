@@ -9,20 +9,21 @@ use Rattle.model_system.specs.Lists.{change_at}
 use Rattle.model_system.specs.System.{System}
 use Rattle.model_machine.specs.declared.lasting.CodeSetting.{CodeSetting}
 use Rattle.model_machine.specs.Machine.{LastingState, setting_place}
-use Rattle.model_machine.specs.Lasting.{commanded, stopped_code, with_stopped_code, with_stopped_terminal, without_replies}
+use Rattle.model_machine.specs.LastingSteps.{commanded, stopped_code, with_stopped_code, with_stopped_terminal, without_replies}
 use Rattle.model_image.specs.States.{is_setting, run_up_to}
-use Rattle.image_law.specs.Steps.{EndsNoneWaiting}
-use Rattle.image_law.proofs.Bools.{both, first_of}
+use Rattle.image_law.specs.StepNeeds.{EndsNoneWaiting}
+use Rattle.image_law.proofs.Bools.{first_of}
 use Rattle.image_law.proofs.Lists.{all_changed}
 use Rattle.image_law.proofs.Ordered.{all_at}
 use Rattle.image_law.proofs.Kept.{acknowledged_stands, changes_stand}
-use Rattle.image_law.specs.Standing.{Stands, is_run}
+use Rattle.image_law.specs.StandingState.{StandsLasting, is_run}
+use Rattle.tm_types.proofs.Truths.{both}
 
 settings_stand : (stopped : Bool) (codes : List CodeSetting) (place : Option ℕ) → list_all is_setting codes ≡ true → list_all is_setting (change_at codes place (stopped_code stopped)) ≡ true
 settings_stand stopped codes None all = all
 settings_stand stopped codes (Some place) all = all_changed is_setting codes place (stopped_code stopped) all (λ code is. is)
 
-code_stands : (system : System) (stopped : Bool) (code : List ℕ) (lasting : LastingState) → Stands system lasting → Stands system (with_stopped_code stopped code lasting)
+code_stands : (system : System) (stopped : Bool) (code : List ℕ) (lasting : LastingState) → StandsLasting system lasting → StandsLasting system (with_stopped_code stopped code lasting)
 code_stands system stopped code lasting s = record {
   settings = settings_stand stopped lasting.codes (setting_place lasting.codes code) s.settings;
   pads = s.pads;
@@ -32,7 +33,7 @@ code_stands system stopped code lasting s = record {
   runs = s.runs;
 }
 
-terminal_stands : (system : System) (stopped : Bool) (terminal : List ℕ) (lasting : LastingState) → Stands system lasting → Stands system (with_stopped_terminal stopped terminal lasting)
+terminal_stands : (system : System) (stopped : Bool) (terminal : List ℕ) (lasting : LastingState) → StandsLasting system lasting → StandsLasting system (with_stopped_terminal stopped terminal lasting)
 terminal_stands system stopped terminal lasting s = record {
   settings = s.settings;
   pads = s.pads;
@@ -42,7 +43,7 @@ terminal_stands system stopped terminal lasting s = record {
   runs = s.runs;
 }
 
-dequeued_stands : (system : System) (terminal : List ℕ) (lasting : LastingState) → Stands system lasting → Stands system (record lasting { outputs = with_terminal terminal without_replies lasting.outputs })
+dequeued_stands : (system : System) (terminal : List ℕ) (lasting : LastingState) → StandsLasting system lasting → StandsLasting system (record lasting { outputs = with_terminal terminal without_replies lasting.outputs })
 dequeued_stands system terminal lasting s = record {
   settings = s.settings;
   pads = s.pads;
@@ -52,7 +53,7 @@ dequeued_stands system terminal lasting s = record {
   runs = all_at is_run terminal without_replies lasting.outputs s.runs (λ t is. both (not (t.next == 0)) true (first_of (not (t.next == 0)) (run_up_to t.next t.replies) is) refl);
 }
 
-pub commanded_stands : (system : System) (command : LastingCommand) (lasting : LastingState) → Stands system lasting → EndsNoneWaiting command lasting → Stands system (commanded command lasting)
+pub commanded_stands : (system : System) (command : LastingCommand) (lasting : LastingState) → StandsLasting system lasting → EndsNoneWaiting command lasting → StandsLasting system (commanded command lasting)
 commanded_stands system (StartTransaction code) lasting s none = code_stands system false code lasting s
 commanded_stands system (StopTransaction code) lasting s none = code_stands system true code lasting s
 commanded_stands system (StartTerminal terminal) lasting s none = terminal_stands system false terminal lasting s

@@ -17,8 +17,8 @@ use Rattle.model_system.specs.Lists.{change_at}
 use Rattle.model_system.specs.System.{System}
 use Rattle.model_messages.specs.declared.ended_message.EndedMessage.{EndedMessage}
 use Rattle.model_messages.specs.declared.open_pcb.OpenPcb.{OpenPcb}
-use Rattle.model_messages.specs.Work.{MessageWork, destination_of, ended_by, ended_to, fresh_pcb, without_message}
-use Rattle.model_messages.specs.Calls.{change_status, change_work, destination_at, destination_named, ended_at, gives_back, insert_work, is_blank, next_work, purge_status, purge_work, reset_pcb, returned_pad, segment_status, segment_work, texts_of, with_chosen, with_segment, without_blanks, work_by}
+use Rattle.model_messages.specs.MessageWork.{MessageWork, destination_of, output_ended_by, ended_to, fresh_pcb, without_output}
+use Rattle.model_messages.specs.MessageCalls.{change_status, change_work, destination_at, destination_named, ended_at, gives_back, insert_work, is_blank, next_work, purge_status, purge_work, reset_pcb, returned_pad, segment_status, segment_work, work_texts, with_chosen, with_output_segment, without_blanks, message_work_by}
 use Rattle.model_machine.specs.Trial.{Given, Trial, outputs_of, trial_of}
 use Rattle.image_law.proofs.Trials.{IsJob, trial_has}
 
@@ -53,7 +53,7 @@ changed n m le change step (p ∷ pcbs) (suc place) h = by (slice_get pcbs place
     by (Some q) rest = (omega (arith, le, h.0), rest)
     by None rest = (omega (arith, le, h.0), rest)
 
-one_more : (text : List ℕ) (n : ℕ) (p : OpenPcb) → length p.segments ≤ n → length (with_segment text p).segments ≤ n + 1
+one_more : (text : List ℕ) (n : ℕ) (p : OpenPcb) → length p.segments ≤ n → length (with_output_segment text p).segments ≤ n + 1
 one_more text n p h = omega (arith, h, length-append p.segments (text ∷ []))
 
 none_left : (pcbs : List OpenPcb) → Fit 0 (map reset_pcb pcbs)
@@ -75,19 +75,19 @@ both_have : (a b : List EndedMessage) → HaveSegments a → HaveSegments b → 
 both_have [] b h g = g
 both_have (o ∷ a) b h g = (h.0, both_have a b h.1 g)
 
-one_ends : (n : ℕ) → n ≤ 32 → (pcbs : List OpenPcb) (place : ℕ) → Fit n pcbs → HaveSegments (option_map_or ended_by (slice_get pcbs place) [])
+one_ends : (n : ℕ) → n ≤ 32 → (pcbs : List OpenPcb) (place : ℕ) → Fit n pcbs → HaveSegments (option_map_or output_ended_by (slice_get pcbs place) [])
 one_ends n le [] place h = tt
 one_ends n le (p ∷ pcbs) zero h = ends (destination_of p) p.segments (omega (arith, le, h.0))
 one_ends n le (p ∷ pcbs) (suc place) h = one_ends n le pcbs place h.1
 
-all_end : (n : ℕ) → n ≤ 32 → (pcbs : List OpenPcb) → Fit n pcbs → HaveSegments (flat_map ended_by pcbs)
+all_end : (n : ℕ) → n ≤ 32 → (pcbs : List OpenPcb) → Fit n pcbs → HaveSegments (flat_map output_ended_by pcbs)
 all_end n le [] h = tt
-all_end n le (p ∷ pcbs) h = both_have (ended_by p) (flat_map ended_by pcbs) (ends (destination_of p) p.segments (omega (arith, le, h.0))) (all_end n le pcbs h.1)
+all_end n le (p ∷ pcbs) h = both_have (output_ended_by p) (flat_map output_ended_by pcbs) (ends (destination_of p) p.segments (omega (arith, le, h.0))) (all_end n le pcbs h.1)
 
 -- ---- calls
 
 -- a segment is inserted where fewer than the count were
-room_left : (there long full : Bool) → is_blank (if not there then A3 else if long then A6 else if full then A7 else Blank) ≡ true
+pub room_left : (there long full : Bool) → is_blank (if not there then A3 else if long then A6 else if full then A7 else Blank) ≡ true
     → full ≡ false
 room_left false long full e = cc
 room_left true true full e = cc
@@ -96,14 +96,14 @@ room_left true false false e = refl
 
 segment_counts : (work : MessageWork) (pcb : ℕ) (text : List ℕ) → CountsWithin work → CountsWithin (segment_work work pcb text)
 segment_counts work pcb text s = by (is_blank (segment_status work pcb text)) refl where
-  by : (b : Bool) → is_blank (segment_status work pcb text) ≡ b → CountsWithin (if b then record work { inserted = work.inserted + 1; pcbs = change_at work.pcbs (Some pcb) (with_segment text) } else work)
+  by : (b : Bool) → is_blank (segment_status work pcb text) ≡ b → CountsWithin (if b then record work { inserted = work.inserted + 1; pcbs = change_at work.pcbs (Some pcb) (with_output_segment text) } else work)
   by true e =
       let full = room_left (is_some (destination_at work.pcbs pcb)) (nat_lt work.size_limit (segment_length text)) (nat_le work.count_limit work.inserted) e in
       let less = leb-false work.count_limit work.inserted full in
       record {
         count = s.count;
         inserted = omega (arith, less);
-        pcbs = changed work.inserted (work.inserted + 1) (omega arith) (with_segment text) (one_more text work.inserted) work.pcbs pcb s.pcbs;
+        pcbs = changed work.inserted (work.inserted + 1) (omega arith) (with_output_segment text) (one_more text work.inserted) work.pcbs pcb s.pcbs;
         ended = s.ended;
       }
   by false e = s
@@ -116,11 +116,11 @@ insert_counts work pcb text s = by (gives_back work pcb) (segment_counts work pc
 
 purge_counts : (work : MessageWork) (pcb : ℕ) → CountsWithin work → CountsWithin (purge_work work pcb)
 purge_counts work pcb s = by (is_blank (purge_status work pcb)) where
-  by : (b : Bool) → CountsWithin (if b then record work { pcbs = change_at work.pcbs (Some pcb) without_message; ended = work.ended ++ ended_at work.pcbs pcb } else work)
+  by : (b : Bool) → CountsWithin (if b then record work { pcbs = change_at work.pcbs (Some pcb) without_output; ended = work.ended ++ ended_at work.pcbs pcb } else work)
   by true = record {
     count = s.count;
     inserted = s.inserted;
-    pcbs = changed work.inserted work.inserted (omega arith) without_message (λ p h. omega arith) work.pcbs pcb s.pcbs;
+    pcbs = changed work.inserted work.inserted (omega arith) without_output (λ p h. omega arith) work.pcbs pcb s.pcbs;
     ended = both_have work.ended (ended_at work.pcbs pcb) s.ended (one_ends work.inserted (omega (arith, s.count, s.inserted)) work.pcbs pcb s.pcbs);
   }
   by false = s
@@ -137,12 +137,12 @@ change_counts system work pcb name s = by (is_blank (change_status system work p
   by false = s
 
 next_counts : (work : MessageWork) → CountsWithin work → CountsWithin (next_work work)
-next_counts work s = by (work.begun && nat_lt work.place (length (texts_of work))) where
+next_counts work s = by (work.begun && nat_lt work.place (length (work_texts work))) where
   by : (b : Bool) → CountsWithin (if b then record work { place = work.place + 1 } else work)
   by true = record { count = s.count; inserted = s.inserted; pcbs = s.pcbs; ended = s.ended }
   by false = s
 
-call_counts : (function : Function) (system : System) (work : MessageWork) (pcb : ℕ) (text : List ℕ) → CountsWithin work → CountsWithin (work_by function system work pcb text)
+call_counts : (function : Function) (system : System) (work : MessageWork) (pcb : ℕ) (text : List ℕ) → CountsWithin work → CountsWithin (message_work_by function system work pcb text)
 call_counts GU system work pcb text s = record { count = s.count; inserted = s.inserted; pcbs = s.pcbs; ended = s.ended }
 call_counts GN system work pcb text s = next_counts work s
 call_counts ISRT system work pcb text s = insert_counts work pcb text s
@@ -156,4 +156,4 @@ outputs_have job is_job rows given calls trial e =
     let s =
     trial_has job rows given CountsWithin (λ work call s. call_counts call.function job.system work call.pcb call.area s)
     (record { count = is_job.count; inserted = omega arith; pcbs = none_yet (Destination given.message.origin ∷ job.pcbs); ended = tt }) calls trial e in
-    both_have trial.work.ended (flat_map ended_by trial.work.pcbs) s.ended (all_end trial.work.inserted (omega (arith, s.count, s.inserted)) trial.work.pcbs s.pcbs)
+    both_have trial.work.ended (flat_map output_ended_by trial.work.pcbs) s.ended (all_end trial.work.inserted (omega (arith, s.count, s.inserted)) trial.work.pcbs s.pcbs)

@@ -14,13 +14,13 @@ use Rattle.model_system.specs.declared.system_program.SystemProgram.{SystemProgr
 use Rattle.model_system.specs.Codes.{code_at}
 use Rattle.model_system.specs.Jobs.{Job, job_by, job_of, job_with, program_at}
 use Rattle.model_system.specs.System.{System}
-use Rattle.model_image.specs.States.{is_terminal, is_code}
+use Rattle.model_image.specs.States.{is_system_terminal, is_system_code}
 use Rattle.system_types.specs.Definitions.{IsTransaction}
-use Rattle.system_types.specs.Valid.{IsKnownTo, IsSentTo, IsSystem}
-use Rattle.image_law.specs.Steps.{takes_switched}
-use Rattle.image_law.proofs.Bools.{both}
-use Rattle.image_law.specs.Sending.{sends_well}
+use Rattle.system_types.specs.ValidSystem.{IsKnownTo, IsSentTo, IsSystem}
+use Rattle.image_law.specs.StepNeeds.{takes_switched}
+use Rattle.image_law.specs.SentMessages.{sends_well}
 use Rattle.image_law.proofs.Trials.{IsJob}
+use Rattle.tm_types.proofs.Truths.{both}
 
 -- what holds of all holds of what is found
 pub found_holds : {X : Type 0} (P : X → Type 0) (test : X → Bool) (xs : List X) (x : X) → All P xs → find test xs ≡ Some x → P x
@@ -52,11 +52,11 @@ switched_by None some none = refl
 switched_by (Some code) some none = grind (arith, nat_tests, none)
 
 pcb_sends : (system : System) (pcb : Pcb) → IsKnownTo system.terminals system.codes pcb → IsSentTo system.codes pcb → sends_well system pcb ≡ true
-pcb_sends system (Destination name) known none = or_one (is_terminal system name) (takes_switched system name) (by known) where
-  by : IsSome (position (λ other. bytes_eq other name) system.terminals) ⊎ IsSome (code_at system.codes name) → (is_terminal system name ≡ true) ⊎ (takes_switched system name ≡ true)
+pcb_sends system (Destination name) known none = or_one (is_system_terminal system name) (takes_switched system name) (by known) where
+  by : IsSome (position (λ other. bytes_eq other name) system.terminals) ⊎ IsSome (code_at system.codes name) → (is_system_terminal system name ≡ true) ⊎ (takes_switched system name ≡ true)
   by (inl some) = inl (placed system.terminals name some)
   by (inr some) =
-      inr (both (is_code system name) (option_map_or (λ code. code.transaction.scratch_pad == 0) (code_at system.codes name) true) some (switched_by (code_at system.codes name) some none))
+      inr (both (is_system_code system name) (option_map_or (λ code. code.transaction.scratch_pad == 0) (code_at system.codes name) true) some (switched_by (code_at system.codes name) some none))
 pcb_sends system (Database number options) known none = refl
 pcb_sends system Modifiable known none = refl
 

@@ -9,7 +9,7 @@ use Rattle.std.proofs.lemmas.List.{append-nil}
 use Rattle.tm_types.specs.declared.abend.AbendCode.{AbendCode}
 use Rattle.tm_types.specs.declared.command.LastingCommand.{LastingCommand}
 use Rattle.tm_types.specs.declared.message.Message.{Message}
-use Rattle.tm_types.specs.Commands.{name_in, spelling}
+use Rattle.tm_types.specs.Commands.{name_in, command_spelling}
 use Rattle.tm_types.specs.Name.{IsName}
 use Rattle.tm_types.proofs.Commands.{spelled_read}
 use Rattle.tm_types.specs.declared.message.Reply.{Reply as KeptReply}
@@ -20,30 +20,31 @@ use Rattle.model_messages.specs.declared.ended_message.EndedMessage.{EndedMessag
 use Rattle.model_system.specs.System.{System}
 use Rattle.model_machine.specs.declared.lasting.TerminalState.{TerminalState}
 use Rattle.model_machine.specs.Machine.{LastingState, terminal_at, message_at, output_at}
-use Rattle.model_machine.specs.Lasting.{applied, sent, kept_input, finished_by, with_pad_by, discarded_pad, abend_outputs}
-use Rattle.model_machine.specs.Lasting.LastingStep.{Accepts, Acknowledges, Completes, Discards, Commands}
+use Rattle.model_machine.specs.LastingSteps.{applied, output_sent, kept_input, finished_by, with_pad_by, discarded_pad, abend_outputs}
+use Rattle.model_machine.specs.LastingSteps.LastingStep.{Accepts, Acknowledges, Completes, Discards, Commands}
 use Rattle.log_records.specs.declared.record.Record.{Record}
 use Rattle.log_records.specs.declared.record.Record.TheVariants.{Input, Command, Reply, Discarded, Acknowledged, SyncPoint}
-use Rattle.model_image.specs.States.{is_terminal, is_code, breaks_a_rule}
+use Rattle.model_image.specs.States.{is_system_terminal, is_system_code, breaks_a_rule}
 use Rattle.model_image.specs.Slots.{is_image_of}
-use Rattle.model_image.specs.Replay.{Replay, is_of_unit, without_unit, with_lasting, syncs, names_known, is_known, replay_one, replay_all}
-use Rattle.model_image.specs.Records.{output_record, completion_records}
+use Rattle.model_image.specs.Replay.{Replay, is_of_unit, without_unit, with_lasting, syncs, names_known, is_record_known, replay_one, replay_all}
+use Rattle.model_image.specs.StepRecords.{output_record, completion_records}
 use Rattle.model_image.proofs.Steps.{accepts_again, acknowledges_again, commands_again, discards_again, completes_again}
-use Rattle.image_law.specs.Sound.{Fits}
-use Rattle.image_law.specs.Steps.{EndsNoneWaiting, HasPads, IsFree, PadFits, takes_switched, has_receiver}
+use Rattle.image_law.specs.SoundState.{FitsRanges}
+use Rattle.image_law.specs.StepNeeds.{EndsNoneWaiting, HasPads, IsConversationFree, PadFits, takes_switched, has_receiver}
 use Rattle.image_law.specs.Records.{without_changes, waits}
-use Rattle.image_law.proofs.Bools.{both, first_of, second_of}
+use Rattle.image_law.proofs.Bools.{first_of, second_of}
 use Rattle.image_law.proofs.Lists.{all_imply}
 use Rattle.image_law.proofs.SoundLaws.{breaks_none, is_sound}
 use Rattle.image_law.proofs.Ordered.{below_next}
 use Rattle.image_law.proofs.Kept.{stands, sound_where, origin_known, receivers_stay, finished_stands, acknowledged_stands}
-use Rattle.image_law.specs.Standing.{Stands}
+use Rattle.image_law.specs.StandingState.{StandsLasting}
 use Rattle.image_law.proofs.Accepted.{accepted_stands}
 use Rattle.image_law.proofs.Commanded.{commanded_stands}
 use Rattle.image_law.proofs.Replayed.{all_take, keeps_all, drops_all, keeps_others, one_done, appended, all_wait, replay_more}
+use Rattle.tm_types.proofs.Truths.{both}
 
 -- one step more is counted
-counted_stands : (system : System) (steps : ℕ) (lasting : LastingState) → Stands system lasting → Stands system (record lasting { steps = steps })
+counted_stands : (system : System) (steps : ℕ) (lasting : LastingState) → StandsLasting system lasting → StandsLasting system (record lasting { steps = steps })
 counted_stands system steps lasting s = record {
   settings = s.settings;
   pads = s.pads;
@@ -54,12 +55,12 @@ counted_stands system steps lasting s = record {
 }
 
 -- a state that stands and fits breaks no rule
-none_broken : (system : System) (lasting : LastingState) → Stands system lasting → Fits system lasting → breaks_a_rule system lasting ≡ false
+none_broken : (system : System) (lasting : LastingState) → StandsLasting system lasting → FitsRanges system lasting → breaks_a_rule system lasting ≡ false
 none_broken system lasting s fits = breaks_none system lasting (sound_where system lasting s fits)
 
 -- ---- the records of a completion
 
-module _ (system : System) (unit : ℕ) (origin : List ℕ) (from : is_terminal system origin ≡ true) where
+module _ (system : System) (unit : ℕ) (origin : List ℕ) (from : is_system_terminal system origin ≡ true) where
   output_waits : (b : Bool) (output : EndedMessage) (lasting : LastingState) →
       waits (if b then Reply (suc unit) output.to (next_of output.to lasting.outputs) output.segments else Input (suc unit) lasting.next_id origin output.to 0 false output.segments) ≡ true
   output_waits true output lasting = refl
@@ -68,8 +69,8 @@ module _ (system : System) (unit : ℕ) (origin : List ℕ) (from : is_terminal 
   completion_waits : (id : ℕ) (outputs : List EndedMessage) (lasting : LastingState) → list_all waits (completion_records (suc unit) origin id outputs lasting) ≡ true
   completion_waits id [] lasting = refl
   completion_waits id (output ∷ outputs) lasting =
-      both (waits (output_record (suc unit) origin output lasting)) (list_all waits (completion_records (suc unit) origin id outputs (sent origin output lasting)))
-      (output_waits (is_some (output_at lasting.outputs output.to)) output lasting) (completion_waits id outputs (sent origin output lasting))
+      both (waits (output_record (suc unit) origin output lasting)) (list_all waits (completion_records (suc unit) origin id outputs (output_sent origin output lasting)))
+      (output_waits (is_some (output_at lasting.outputs output.to)) output lasting) (completion_waits id outputs (output_sent origin output lasting))
 
   output_is_of : (b : Bool) (output : EndedMessage) (lasting : LastingState) →
       is_of_unit (suc unit) (if b then Reply (suc unit) output.to (next_of output.to lasting.outputs) output.segments else Input (suc unit) lasting.next_id origin output.to 0 false output.segments) ≡ true
@@ -79,24 +80,24 @@ module _ (system : System) (unit : ℕ) (origin : List ℕ) (from : is_terminal 
   completion_is_of : (id : ℕ) (outputs : List EndedMessage) (lasting : LastingState) → list_all (is_of_unit (suc unit)) (completion_records (suc unit) origin id outputs lasting) ≡ true
   completion_is_of id [] lasting = both (suc unit == suc unit) true (eq-eqb (suc unit) (suc unit) refl) refl
   completion_is_of id (output ∷ outputs) lasting =
-      both (is_of_unit (suc unit) (output_record (suc unit) origin output lasting)) (list_all (is_of_unit (suc unit)) (completion_records (suc unit) origin id outputs (sent origin output lasting)))
-      (output_is_of (is_some (output_at lasting.outputs output.to)) output lasting) (completion_is_of id outputs (sent origin output lasting))
+      both (is_of_unit (suc unit) (output_record (suc unit) origin output lasting)) (list_all (is_of_unit (suc unit)) (completion_records (suc unit) origin id outputs (output_sent origin output lasting)))
+      (output_is_of (is_some (output_at lasting.outputs output.to)) output lasting) (completion_is_of id outputs (output_sent origin output lasting))
 
-  output_known : (b : Bool) (output : EndedMessage) (lasting : LastingState) → (if b then is_terminal system output.to else takes_switched system output.to) ≡ true →
-      is_known system (if b then Reply (suc unit) output.to (next_of output.to lasting.outputs) output.segments else Input (suc unit) lasting.next_id origin output.to 0 false output.segments) ≡ true
+  output_known : (b : Bool) (output : EndedMessage) (lasting : LastingState) → (if b then is_system_terminal system output.to else takes_switched system output.to) ≡ true →
+      is_record_known system (if b then Reply (suc unit) output.to (next_of output.to lasting.outputs) output.segments else Input (suc unit) lasting.next_id origin output.to 0 false output.segments) ≡ true
   output_known true output lasting is = is
   output_known false output lasting is =
-      both (is_terminal system origin) (is_code system output.to) from (first_of (is_code system output.to) _ is)
+      both (is_system_terminal system origin) (is_system_code system output.to) from (first_of (is_system_code system output.to) _ is)
 
-  completion_known : (id : ℕ) (outputs : List EndedMessage) (lasting : LastingState) → list_all (has_receiver system lasting.outputs) outputs ≡ true → list_all (is_known system) (completion_records (suc unit) origin id outputs lasting) ≡ true
+  completion_known : (id : ℕ) (outputs : List EndedMessage) (lasting : LastingState) → list_all (has_receiver system lasting.outputs) outputs ≡ true → list_all (is_record_known system) (completion_records (suc unit) origin id outputs lasting) ≡ true
   completion_known id [] lasting there = refl
   completion_known id (output ∷ outputs) lasting there =
       let b = is_some (output_at lasting.outputs output.to) in
-      both (is_known system (output_record (suc unit) origin output lasting)) (list_all (is_known system) (completion_records (suc unit) origin id outputs (sent origin output lasting)))
+      both (is_record_known system (output_record (suc unit) origin output lasting)) (list_all (is_record_known system) (completion_records (suc unit) origin id outputs (output_sent origin output lasting)))
       (output_known b output lasting (first_of (has_receiver system lasting.outputs output) (list_all (has_receiver system lasting.outputs) outputs) there))
-      (completion_known id outputs (sent origin output lasting)
-      (all_imply (has_receiver system lasting.outputs) (has_receiver system (sent origin output lasting).outputs) outputs
-      (λ other is. ap (λ (b : Bool). if b then is_terminal system other.to else takes_switched system other.to) (receivers_stay system origin from output other lasting b refl) ∙ is)
+      (completion_known id outputs (output_sent origin output lasting)
+      (all_imply (has_receiver system lasting.outputs) (has_receiver system (output_sent origin output lasting).outputs) outputs
+      (λ other is. ap (λ (b : Bool). if b then is_system_terminal system other.to else takes_switched system other.to) (receivers_stay system origin from output other lasting b refl) ∙ is)
       (second_of (has_receiver system lasting.outputs output) (list_all (has_receiver system lasting.outputs) outputs) there)))
 
 -- ---- the steps
@@ -109,7 +110,7 @@ module _ (system : System) (lasting : LastingState) (waiting : List Record) (sou
   abbrev After : LastingState → Replay
   After after = record { lasting = after; waiting = waiting }
 
-  s : Stands system lasting
+  s : StandsLasting system lasting
   s = stands system lasting (is_sound system lasting sound)
 
   alone : (r : Record) (after : Replay) → replay_one system r Before ≡ Some after → replay_all system (r ∷ []) Before ≡ Some after
@@ -117,20 +118,20 @@ module _ (system : System) (lasting : LastingState) (waiting : List Record) (sou
 
   -- an input is accepted
   pub accept_replayed : HasPads system → (terminal : List ℕ) (number : ℕ) (segments : List (List ℕ)) (t : TerminalState) → terminal_at lasting.terminals terminal ≡ Some t → t.last + 1 ≡ number →
-      is_terminal system terminal ≡ true → IsFree terminal lasting → let kept = kept_input system lasting terminal segments in
-      is_code system kept.code ≡ true → Fits system (applied (Accepts terminal number kept) lasting) →
+      is_system_terminal system terminal ≡ true → IsConversationFree terminal lasting → let kept = kept_input system lasting terminal segments in
+      is_system_code system kept.code ≡ true → FitsRanges system (applied (Accepts terminal number kept) lasting) →
       replay_all system (Input 0 lasting.next_id terminal kept.code number kept.conversation kept.segments ∷ []) Before ≡ Some (After (applied (Accepts terminal number kept) lasting))
   accept_replayed pads terminal number segments t found next from free there fits =
       let kept = kept_input system lasting terminal segments in
       let after = applied (Accepts terminal number kept) lasting in
       alone (Input 0 lasting.next_id terminal kept.code number kept.conversation kept.segments) (After after)
       (one_done system (Input 0 lasting.next_id terminal kept.code number kept.conversation kept.segments) Before (After after)
-      (both (is_terminal system terminal) (is_code system kept.code) from there)
+      (both (is_system_terminal system terminal) (is_system_code system kept.code) from there)
       (ap (with_lasting Before) (accepts_again system lasting terminal number segments t found next))
       (none_broken system after (counted_stands system (lasting.steps + 1) _ (accepted_stands system pads terminal number segments lasting s free from there)) fits))
 
   -- a reply is acknowledged
-  pub acknowledge_replayed : (terminal : List ℕ) (reply : KeptReply) → reply_at terminal 0 lasting.outputs ≡ Some reply → is_terminal system terminal ≡ true → Fits system (applied (Acknowledges terminal) lasting) →
+  pub acknowledge_replayed : (terminal : List ℕ) (reply : KeptReply) → reply_at terminal 0 lasting.outputs ≡ Some reply → is_system_terminal system terminal ≡ true → FitsRanges system (applied (Acknowledges terminal) lasting) →
       replay_all system (Acknowledged terminal reply.number ∷ []) Before ≡ Some (After (applied (Acknowledges terminal) lasting))
   acknowledge_replayed terminal reply found known fits =
       let after = applied (Acknowledges terminal) lasting in
@@ -140,19 +141,19 @@ module _ (system : System) (lasting : LastingState) (waiting : List Record) (sou
       (none_broken system after (counted_stands system (lasting.steps + 1) _ (acknowledged_stands system terminal lasting s)) fits))
 
   -- a command is done
-  pub command_replayed : (command : LastingCommand) → IsName (name_in command) → names_known system command ≡ true → EndsNoneWaiting command lasting → Fits system (applied (Commands command) lasting) →
-      replay_all system (Command (spelling command) ∷ []) Before ≡ Some (After (applied (Commands command) lasting))
+  pub command_replayed : (command : LastingCommand) → IsName (name_in command) → names_known system command ≡ true → EndsNoneWaiting command lasting → FitsRanges system (applied (Commands command) lasting) →
+      replay_all system (Command (command_spelling command) ∷ []) Before ≡ Some (After (applied (Commands command) lasting))
   command_replayed command named known none fits =
       let after = applied (Commands command) lasting in
-      alone (Command (spelling command)) (After after)
-      (one_done system (Command (spelling command)) Before (After after)
-      (ap (λ (o : Option LastingCommand). option_map_or (names_known system) o false) (spelled_read (spelling command) command (record { spelled = refl; named = named })) ∙ known)
+      alone (Command (command_spelling command)) (After after)
+      (one_done system (Command (command_spelling command)) Before (After after)
+      (ap (λ (o : Option LastingCommand). option_map_or (names_known system) o false) (spelled_read (command_spelling command) command (record { spelled = refl; named = named })) ∙ known)
       (ap (with_lasting Before) (commands_again lasting command named))
       (none_broken system after (counted_stands system (lasting.steps + 1) _ (commanded_stands system command lasting s none)) fits))
 
   module _ (id : ℕ) (message : Message) (found : message_at lasting.messages id ≡ Some message) where
     -- a message is discarded
-    pub abend_replayed : (unit : ℕ) (abend : AbendCode) → is_some (output_at lasting.outputs message.origin) ≡ true → Fits system (applied (Discards id abend) lasting) →
+    pub abend_replayed : (unit : ℕ) (abend : AbendCode) → is_some (output_at lasting.outputs message.origin) ≡ true → FitsRanges system (applied (Discards id abend) lasting) →
         replay_all system (Discarded unit id abend (next_of message.origin lasting.outputs) ∷ []) Before ≡ Some (After (applied (Discards id abend) lasting))
     abend_replayed unit abend there fits =
         let after = applied (Discards id abend) lasting in
@@ -164,17 +165,17 @@ module _ (system : System) (lasting : LastingState) (waiting : List Record) (sou
           pad_fits true flag = flag
           pad_fits false flag = tt
 
-          its : Stands system (finished_by (message_at lasting.messages id) (λ message. abend_outputs message abend) (with_pad_by (message_at lasting.messages id) discarded_pad lasting))
+          its : StandsLasting system (finished_by (message_at lasting.messages id) (λ message. abend_outputs message abend) (with_pad_by (message_at lasting.messages id) discarded_pad lasting))
           its =
-              subst (λ (o : Option Message). Stands system (finished_by o (λ message. abend_outputs message abend) (with_pad_by o discarded_pad lasting))) (sym found)
+              subst (λ (o : Option Message). StandsLasting system (finished_by o (λ message. abend_outputs message abend) (with_pad_by o discarded_pad lasting))) (sym found)
               (finished_stands system id message lasting found s (discarded_pad message) (abend_outputs message abend) (pad_fits message.conversation refl)
               (both (has_receiver system lasting.outputs (record { to = message.origin; segments = [] })) true (rw there (origin_known system id message lasting found s)) refl))
 
     module _ (outputs : List EndedMessage) (there : list_all (has_receiver system lasting.outputs) outputs ≡ true) where
-      from : is_terminal system message.origin ≡ true
+      from : is_system_terminal system message.origin ≡ true
       from = origin_known system id message lasting found s
 
-      sync : (unit : ℕ) (pad : PadChange) → PadFits system pad message lasting → filter (is_of_unit (suc unit)) waiting ≡ [] → Fits system (applied (Completes id lasting.rows outputs pad) lasting) →
+      sync : (unit : ℕ) (pad : PadChange) → PadFits system pad message lasting → filter (is_of_unit (suc unit)) waiting ≡ [] → FitsRanges system (applied (Completes id lasting.rows outputs pad) lasting) →
           let records = completion_records (suc unit) message.origin id outputs lasting in
           replay_all system (SyncPoint (suc unit) pad ∷ []) (record { lasting = lasting; waiting = waiting ++ records }) ≡ Some (After (applied (Completes id lasting.rows outputs pad) lasting))
       sync unit pad pad_fits none fits =
@@ -193,13 +194,13 @@ module _ (system : System) (lasting : LastingState) (waiting : List Record) (sou
           ∙ ap (with_lasting (without_unit (suc unit) (record { lasting = lasting; waiting = waiting ++ records }))) (completes_again (suc unit) id message outputs pad lasting found (below_next lasting.next_id id lasting.messages message s.ascending found))
           ∙ ap (λ (l : List Record). Some (record { lasting = after; waiting = l })) others)
           (none_broken system after (counted_stands system (lasting.steps + 1) _ its) fits)) where
-            its : Stands system (finished_by (message_at lasting.messages id) (λ _. outputs) (with_pad_by (message_at lasting.messages id) (λ _. pad) lasting))
+            its : StandsLasting system (finished_by (message_at lasting.messages id) (λ _. outputs) (with_pad_by (message_at lasting.messages id) (λ _. pad) lasting))
             its =
-                subst (λ (o : Option Message). Stands system (finished_by o (λ _. outputs) (with_pad_by o (λ _. pad) lasting))) (sym found)
+                subst (λ (o : Option Message). StandsLasting system (finished_by o (λ _. outputs) (with_pad_by o (λ _. pad) lasting))) (sym found)
                 (finished_stands system id message lasting found s pad outputs pad_fits there)
 
       -- a message is completed: its outputs, that it is completed, and the sync point with what becomes of the pad
-      pub completion_replayed : (unit : ℕ) → 0 < unit → (pad : PadChange) → PadFits system pad message lasting → filter (is_of_unit unit) waiting ≡ [] → Fits system (applied (Completes id lasting.rows outputs pad) lasting) →
+      pub completion_replayed : (unit : ℕ) → 0 < unit → (pad : PadChange) → PadFits system pad message lasting → filter (is_of_unit unit) waiting ≡ [] → FitsRanges system (applied (Completes id lasting.rows outputs pad) lasting) →
           replay_all system (completion_records unit message.origin id outputs lasting ++ SyncPoint unit pad ∷ []) Before ≡ Some (After (applied (Completes id lasting.rows outputs pad) lasting))
       completion_replayed zero some pad pad_fits none fits = absurd (omega (arith, some))
       completion_replayed (suc unit) some pad pad_fits none fits =
@@ -217,7 +218,7 @@ module _ (system : System) (lasting : LastingState) (waiting : List Record) (sou
           let records = completion_records (suc unit) message.origin id outputs lasting in
           all_wait system (take n records) Before
           (all_take waits n records (completion_waits system unit message.origin from id outputs lasting))
-          (all_take (is_known system) n records (completion_known system unit message.origin from id outputs lasting there)) sound
+          (all_take (is_record_known system) n records (completion_known system unit message.origin from id outputs lasting there)) sound
 
   -- Changes of slots, among them all that ROLB logs, leave all as it was.
   pub changes_replayed : (records : List Record) → list_all (is_image_of system) records ≡ true → without_changes records ≡ [] → replay_all system records Before ≡ Some Before

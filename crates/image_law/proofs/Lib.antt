@@ -10,9 +10,9 @@ pub mod Replayed
 pub mod Laws
 pub mod Rows
 pub mod Cut
-pub mod CountLawKept
+pub mod CountsKept
 pub mod Told
-pub mod CountLawReplayed
+pub mod CountsReplayed
 pub mod Changes
 pub mod Ended
 pub mod Calls

@@ -4,7 +4,8 @@ use Rattle.std.specs.Prelude.{if◌then◌else◌, filter, find, slice_get, slic
 use Rattle.std.specs.List.{list_all, list_any}
 use Rattle.std.specs.Option.{option_map_or}
 use Rattle.model_system.specs.Lists.{change_at}
-use Rattle.image_law.proofs.Bools.{both, first_of, second_of, neither_first, neither_second}
+use Rattle.image_law.proofs.Bools.{first_of, second_of, neither_first, neither_second}
+use Rattle.tm_types.proofs.Truths.{both}
 
 pub all_more : {X : Type 0} (p : X → Bool) (xs : List X) (x : X) → list_all p xs ≡ true → p x ≡ true → list_all p (xs ++ x ∷ []) ≡ true
 all_more p [] x all is = both (p x) true is refl

@@ -9,13 +9,14 @@ use Rattle.std.proofs.lemmas.List.{length-append}
 use Rattle.std.proofs.lemmas.List.Folds.{list_any-append}
 use Rattle.tm_types.specs.declared.message.Message.{Message}
 use Rattle.tm_types.specs.declared.message.Reply.{Reply}
-use Rattle.model_messages.specs.Input.{is_conversing}
+use Rattle.model_messages.specs.ConversationInput.{is_conversing}
 use Rattle.model_messages.specs.declared.replies.TerminalReplies.{TerminalReplies}
-use Rattle.model_messages.specs.Outputs.{is_of, replies_at, with_terminal}
+use Rattle.model_messages.specs.Outputs.{are_replies_of, replies_at, with_terminal}
 use Rattle.model_machine.specs.Machine.{message_at}
 use Rattle.model_image.specs.States.{ascend_below, are_alone, run_up_to}
-use Rattle.image_law.proofs.Bools.{both, first_of, second_of, neither_first, neither_second, not_true, not_of_false, other_false, same_bytes, bytes_same}
+use Rattle.image_law.proofs.Bools.{first_of, second_of, neither_first, neither_second, not_true, not_of_false, other_false, same_bytes, bytes_same}
 use Rattle.image_law.proofs.Lists.{none_filter}
+use Rattle.tm_types.proofs.Truths.{both}
 
 -- ---- ids
 
@@ -141,7 +142,7 @@ run_drop next (r ∷ replies) run = second_of (not (r.number == 0) && (r.number 
 
 pub all_at : (p : TerminalReplies → Bool) (name : List ℕ) (change : TerminalReplies → TerminalReplies) (outputs : List TerminalReplies) → list_all p outputs ≡ true → ((t : TerminalReplies) → p t ≡ true → p (change t) ≡ true) → list_all p (with_terminal name change outputs) ≡ true
 all_at p name change [] all changed = refl
-all_at p name change (t ∷ ts) all changed = by_head (is_of name t) (all_at p name change ts (second_of (p t) (list_all p ts) all) changed) where
+all_at p name change (t ∷ ts) all changed = by_head (are_replies_of name t) (all_at p name change ts (second_of (p t) (list_all p ts) all) changed) where
   by_head : (b : Bool) → list_all p (with_terminal name change ts) ≡ true → list_all p (if b then change t ∷ ts else t ∷ with_terminal name change ts) ≡ true
   by_head true rest = both (p (change t)) (list_all p ts) (changed t (first_of (p t) (list_all p ts) all)) (second_of (p t) (list_all p ts) all)
   by_head false rest = both (p t) (list_all p (with_terminal name change ts)) (first_of (p t) (list_all p ts) all) rest
@@ -149,7 +150,7 @@ all_at p name change (t ∷ ts) all changed = by_head (is_of name t) (all_at p n
 -- the same terminals are there
 pub stays_there : (name other : List ℕ) (change : TerminalReplies → TerminalReplies) → ((t : TerminalReplies) → (change t).terminal ≡ t.terminal) → (outputs : List TerminalReplies) → is_some (replies_at name (with_terminal other change outputs)) ≡ is_some (replies_at name outputs)
 stays_there name other change same [] = refl
-stays_there name other change same (t ∷ ts) = by_head (is_of other t) (stays_there name other change same ts) where
+stays_there name other change same (t ∷ ts) = by_head (are_replies_of other t) (stays_there name other change same ts) where
   by_name : (b : Bool) (x y : TerminalReplies) (rest more : Option TerminalReplies) → is_some rest ≡ is_some more → is_some (if b then Some x else rest) ≡ is_some (if b then Some y else more)
   by_name true x y rest more is = refl
   by_name false x y rest more is = is
@@ -157,8 +158,8 @@ stays_there name other change same (t ∷ ts) = by_head (is_of other t) (stays_t
   by_head : (b : Bool) → is_some (replies_at name (with_terminal other change ts)) ≡ is_some (replies_at name ts) → is_some (replies_at name (if b then change t ∷ ts else t ∷ with_terminal other change ts)) ≡ is_some (replies_at name (t ∷ ts))
   by_head true rest =
       ap (λ (n : List ℕ). is_some (if bytes_eq n name then Some (change t) else replies_at name ts)) (same t)
-      ∙ by_name (is_of name t) (change t) t (replies_at name ts) (replies_at name ts) refl
-  by_head false rest = by_name (is_of name t) t t (replies_at name (with_terminal other change ts)) (replies_at name ts) rest
+      ∙ by_name (are_replies_of name t) (change t) t (replies_at name ts) (replies_at name ts) refl
+  by_head false rest = by_name (are_replies_of name t) t t (replies_at name (with_terminal other change ts)) (replies_at name ts) rest
 
 -- ---- a message that is there has an id below the next one
 

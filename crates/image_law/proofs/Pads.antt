@@ -12,8 +12,8 @@ use Rattle.model_data.specs.declared.row.Row.{Row}
 use Rattle.model_system.specs.Jobs.{Job}
 use Rattle.model_system.specs.Lists.{change_at}
 use Rattle.model_system.specs.System.{System}
-use Rattle.model_messages.specs.Work.{MessageWork, without_message}
-use Rattle.model_messages.specs.Calls.{change_status, change_work, destination_named, ended_at, gives_back, insert_work, is_blank, next_work, purge_status, purge_work, returned_pad, segment_status, segment_work, texts_of, with_chosen, with_segment, without_blanks, work_by}
+use Rattle.model_messages.specs.MessageWork.{MessageWork, without_output}
+use Rattle.model_messages.specs.MessageCalls.{change_status, change_work, destination_named, ended_at, gives_back, insert_work, is_blank, next_work, purge_status, purge_work, returned_pad, segment_status, segment_work, work_texts, with_chosen, with_output_segment, without_blanks, message_work_by}
 use Rattle.model_machine.specs.Trial.{Given, Trial, pad_of, trial_of}
 use Rattle.image_law.proofs.Bools.{first_of, second_of}
 use Rattle.image_law.proofs.Trials.{trial_has}
@@ -32,8 +32,8 @@ module _ (conversation : Option Conversation) where
 
   segment_pad : (work : MessageWork) (pcb : ℕ) (text : List ℕ) → Keeps work → Keeps (segment_work work pcb text)
   segment_pad work pcb text s = by (is_blank (segment_status work pcb text)) where
-    by : (b : Bool) → Keeps (if b then record work { inserted = work.inserted + 1; pcbs = change_at work.pcbs (Some pcb) (with_segment text) } else work)
-    by true = stays work (record work { inserted = work.inserted + 1; pcbs = change_at work.pcbs (Some pcb) (with_segment text) }) refl refl s
+    by : (b : Bool) → Keeps (if b then record work { inserted = work.inserted + 1; pcbs = change_at work.pcbs (Some pcb) (with_output_segment text) } else work)
+    by true = stays work (record work { inserted = work.inserted + 1; pcbs = change_at work.pcbs (Some pcb) (with_output_segment text) }) refl refl s
     by false = s
 
   insert_pad : (work : MessageWork) (pcb : ℕ) (text : List ℕ) → Keeps work → Keeps (insert_work work pcb text)
@@ -47,8 +47,8 @@ module _ (conversation : Option Conversation) where
 
   purge_pad : (work : MessageWork) (pcb : ℕ) → Keeps work → Keeps (purge_work work pcb)
   purge_pad work pcb s = by (is_blank (purge_status work pcb)) where
-    by : (b : Bool) → Keeps (if b then record work { pcbs = change_at work.pcbs (Some pcb) without_message; ended = work.ended ++ ended_at work.pcbs pcb } else work)
-    by true = stays work (record work { pcbs = change_at work.pcbs (Some pcb) without_message; ended = work.ended ++ ended_at work.pcbs pcb }) refl refl s
+    by : (b : Bool) → Keeps (if b then record work { pcbs = change_at work.pcbs (Some pcb) without_output; ended = work.ended ++ ended_at work.pcbs pcb } else work)
+    by true = stays work (record work { pcbs = change_at work.pcbs (Some pcb) without_output; ended = work.ended ++ ended_at work.pcbs pcb }) refl refl s
     by false = s
 
   change_pad : (system : System) (work : MessageWork) (pcb : ℕ) (name : List ℕ) → Keeps work → Keeps (change_work system work pcb name)
@@ -58,12 +58,12 @@ module _ (conversation : Option Conversation) where
     by false = s
 
   next_pad : (work : MessageWork) → Keeps work → Keeps (next_work work)
-  next_pad work s = by (work.begun && nat_lt work.place (length (texts_of work))) where
+  next_pad work s = by (work.begun && nat_lt work.place (length (work_texts work))) where
     by : (b : Bool) → Keeps (if b then record work { place = work.place + 1 } else work)
     by true = stays work (record work { place = work.place + 1 }) refl refl s
     by false = s
 
-  call_pad : (function : Function) (system : System) (work : MessageWork) (pcb : ℕ) (text : List ℕ) → Keeps work → Keeps (work_by function system work pcb text)
+  call_pad : (function : Function) (system : System) (work : MessageWork) (pcb : ℕ) (text : List ℕ) → Keeps work → Keeps (message_work_by function system work pcb text)
   call_pad GU system work pcb text s = stays work (record work { begun = true; place = 1 }) refl refl s
   call_pad GN system work pcb text s = next_pad work s
   call_pad ISRT system work pcb text s = insert_pad work pcb text s

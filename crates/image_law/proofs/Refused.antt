@@ -5,7 +5,7 @@ use Rattle.std.specs.Option.{is_some, option_and_then, option_map_or, option_or,
 use Rattle.std.proofs.lemmas.Bool.{ltb-false}
 use Rattle.tm_types.specs.Segment.{counted_bytes}
 use Rattle.model_messages.specs.declared.conversation.Conversation.{Conversation}
-use Rattle.model_messages.specs.Input.{busy_id}
+use Rattle.model_messages.specs.ConversationInput.{busy_id}
 use Rattle.model_messages.specs.Terminals.{conversation_at}
 use Rattle.model_system.specs.declared.code.Code.{Code}
 use Rattle.model_system.specs.declared.code_state.CodeState.{CodeState}
@@ -17,10 +17,10 @@ use Rattle.model_machine.specs.declared.entry.InputRefused.TheVariants.{Terminal
 use Rattle.model_machine.specs.declared.entry.Taken.{Taken}
 use Rattle.model_machine.specs.declared.entry.Taken.TheVariants.{New, Already}
 use Rattle.model_machine.specs.declared.lasting.TerminalState.{TerminalState}
-use Rattle.model_machine.specs.Lasting.{KeptInput, LastingStep, kept_input}
-use Rattle.model_machine.specs.ModelMachineCommands.{state_now}
+use Rattle.model_machine.specs.LastingSteps.{KeptInput, LastingStep, kept_input}
+use Rattle.model_machine.specs.CommandAnswers.{state_now}
 use Rattle.model_machine.specs.Machine.{Moment, busy_slots, content, terminal_at}
-use Rattle.model_machine.specs.Steps.{Refusal, accepts, busy_by, busy_conversation, by_count, by_number, by_room, first_of, input_answer, many_segments, most_segments, no_room, refusals, stopped_code, stopped_terminal, unknown_code, unknown_terminal, wrong_number}
+use Rattle.model_machine.specs.MachineCalls.{Refusal, accepted_step, busy_by, busy_conversation, by_count, by_number, by_room, first_refusal, input_answer, many_segments, most_segments, no_room, refusals, stopped_code, stopped_terminal, unknown_code, unknown_terminal, wrong_number}
 
 -- no refusal says that an input is new
 abbrev IsRefusal : Refusal → Type 0
@@ -74,7 +74,7 @@ or_refused (Some r) b is more = is
 
 -- an input that is accepted was refused by none of them
 none_of : (refusal : Refusal) (terminal : List ℕ) (number id : ℕ) (kept : KeptInput) (step : LastingStep) → IsRefusal refusal
-    → accepts terminal number kept (unwrap_or refusal (Ok (New id))) ≡ Some step → refusal ≡ None
+    → accepted_step terminal number kept (unwrap_or refusal (Ok (New id))) ≡ Some step → refusal ≡ None
 none_of None terminal number id kept step is e = refl
 none_of (Some (Ok (New other))) terminal number id kept step is e = absurd is
 none_of (Some (Ok Already)) terminal number id kept step is e = cc
@@ -93,7 +93,7 @@ pub record IsNew (system : System) (moment : Moment) (terminal : List ℕ) (numb
   pub room : no_room system moment (kept_input system moment.lasting terminal segments).segments ≡ None
 
 pub is_new : (system : System) (moment : Moment) (terminal : List ℕ) (number : ℕ) (segments : List (List ℕ)) (step : LastingStep)
-    → accepts terminal number (kept_input system moment.lasting terminal segments) (input_answer system moment terminal number segments) ≡ Some step → IsNew system moment terminal number segments
+    → accepted_step terminal number (kept_input system moment.lasting terminal segments) (input_answer system moment terminal number segments) ≡ Some step → IsNew system moment terminal number segments
 is_new system moment terminal number segments step e =
     let kept = kept_input system moment.lasting terminal segments in
     let one = unknown_terminal moment.lasting terminal in
@@ -119,9 +119,9 @@ is_new system moment terminal number segments step e =
     or_refused two (option_or three (option_or four (option_or halted (option_or five (option_or six None))))) (wrong_refused (terminal_at moment.lasting.terminals terminal) number) r3 in
     let r1 : IsRefusal (option_or stopped (option_or two (option_or three (option_or four (option_or halted (option_or five (option_or six None))))))) =
     or_refused stopped (option_or two (option_or three (option_or four (option_or halted (option_or five (option_or six None)))))) (so_refused (option_map_or (λ (t : TerminalState). t.stopped) (terminal_at moment.lasting.terminals terminal) false) (Err StoppedTerminal) tt) r2 in
-    let r0 : IsRefusal (first_of (refusals system moment terminal number kept)) =
+    let r0 : IsRefusal (first_refusal (refusals system moment terminal number kept)) =
     or_refused one (option_or stopped (option_or two (option_or three (option_or four (option_or halted (option_or five (option_or six None))))))) (if_refused (is_some (terminal_at moment.lasting.terminals terminal)) (Err NoTerminal) tt) r1 in
-    let none = none_of (first_of (refusals system moment terminal number kept)) terminal number moment.lasting.next_id kept step r0 e in
+    let none = none_of (first_refusal (refusals system moment terminal number kept)) terminal number moment.lasting.next_id kept step r0 e in
     let p0 = both_none one (option_or stopped (option_or two (option_or three (option_or four (option_or halted (option_or five (option_or six None))))))) none in
     let p1 = both_none stopped (option_or two (option_or three (option_or four (option_or halted (option_or five (option_or six None)))))) p0.1 in
     let p2 = both_none two (option_or three (option_or four (option_or halted (option_or five (option_or six None))))) p1.1 in

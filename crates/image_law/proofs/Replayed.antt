@@ -9,9 +9,10 @@ use Rattle.log_records.specs.declared.record.Record.{Record}
 use Rattle.log_records.specs.declared.record.Record.TheVariants.{Input, Command, Reply, Discarded, Completed, Acknowledged, SyncPoint, Checkpoint, Terminal, Code, Change}
 use Rattle.model_image.specs.States.{breaks_a_rule}
 use Rattle.model_image.specs.Slots.{is_image_of}
-use Rattle.model_image.specs.Replay.{Replay, with_waiting, replayed, is_known, unless_it_breaks, replay_one, replay_all}
-use Rattle.image_law.specs.Records.{is_change, without_changes, waits}
-use Rattle.image_law.proofs.Bools.{both, first_of, second_of}
+use Rattle.model_image.specs.Replay.{Replay, with_waiting, replayed, is_record_known, unless_it_breaks, replay_one, replay_all}
+use Rattle.image_law.specs.Records.{is_change_record, without_changes, waits}
+use Rattle.image_law.proofs.Bools.{first_of, second_of}
+use Rattle.tm_types.proofs.Truths.{both}
 
 pub all_take : {X : Type 0} (p : X → Bool) (n : ℕ) (xs : List X) → list_all p xs ≡ true → list_all p (take n xs) ≡ true
 all_take p zero xs all = refl
@@ -43,12 +44,12 @@ module _ (system : System) where
     from (Some next) later = later next
     from None later = refl
 
-  pub one_done : (r : Record) (before after : Replay) → is_known system r ≡ true → replayed system r before ≡ Some after → breaks_a_rule system after.lasting ≡ false → replay_one system r before ≡ Some after
+  pub one_done : (r : Record) (before after : Replay) → is_record_known system r ≡ true → replayed system r before ≡ Some after → breaks_a_rule system after.lasting ≡ false → replay_one system r before ≡ Some after
   one_done r before after known done sound = rw known (ap (option_and_then (unless_it_breaks system)) done ∙ rw sound refl)
 
   -- what one leaves breaks no rule
   pub leaves_sound : (r : Record) (before after : Replay) → replay_one system r before ≡ Some after → breaks_a_rule system after.lasting ≡ false
-  leaves_sound r before after is = by_known (is_known system r) is where
+  leaves_sound r before after is = by_known (is_record_known system r) is where
     by_rules : (next : Replay) (b : Bool) → breaks_a_rule system next.lasting ≡ b → (if b then None else Some next) ≡ Some after → breaks_a_rule system after.lasting ≡ false
     by_rules next true rule is = cc
     by_rules next false rule is = let e : next ≡ after = cc in ap (λ (x : Replay). breaks_a_rule system x.lasting) (sym e) ∙ rule
@@ -62,7 +63,7 @@ module _ (system : System) where
     by_known false is = cc
 
   -- a change of a slot says nothing of what lasts
-  change_passes : (r : Record) (before : Replay) → is_change r ≡ true → is_image_of system r ≡ true → breaks_a_rule system before.lasting ≡ false → replay_one system r before ≡ Some before
+  change_passes : (r : Record) (before : Replay) → is_change_record r ≡ true → is_image_of system r ≡ true → breaks_a_rule system before.lasting ≡ false → replay_one system r before ≡ Some before
   change_passes (Change unit database slot earlier later) before is image sound = one_done (Change unit database slot earlier later) before before image refl sound
   change_passes (Input unit id origin code number conversation segments) before is image sound = cc
   change_passes (Command text) before is image sound = cc
@@ -78,7 +79,7 @@ module _ (system : System) where
   -- and so changes may stand anywhere among the records of steps
   pub changes_pass : (records : List Record) (before : Replay) → list_all (is_image_of system) records ≡ true → breaks_a_rule system before.lasting ≡ false → replay_all system records before ≡ replay_all system (without_changes records) before
   changes_pass [] before images sound = refl
-  changes_pass (r ∷ records) before images sound = by_kind (is_change r) refl (λ next. changes_pass records next rest) where
+  changes_pass (r ∷ records) before images sound = by_kind (is_change_record r) refl (λ next. changes_pass records next rest) where
     rest : list_all (is_image_of system) records ≡ true
     rest = second_of (is_image_of system r) (list_all (is_image_of system) records) images
 
@@ -89,7 +90,7 @@ module _ (system : System) where
     from later (Some next) is = later next (leaves_sound r before next is)
     from later None is = refl
 
-    by_kind : (b : Bool) → is_change r ≡ b → Later → replay_all system (r ∷ records) before ≡ replay_all system (if not b then r ∷ without_changes records else without_changes records) before
+    by_kind : (b : Bool) → is_change_record r ≡ b → Later → replay_all system (r ∷ records) before ≡ replay_all system (if not b then r ∷ without_changes records else without_changes records) before
     by_kind true is later =
         ap (option_and_then (replay_all system records)) (change_passes r before is (first_of (is_image_of system r) (list_all (is_image_of system) records) images) sound)
         ∙ later before sound
@@ -122,11 +123,11 @@ module _ (system : System) where
   wait_one (Code name stopped class priority) before is = cc
 
   -- what lasts stays as it was
-  pub all_wait : (records : List Record) (before : Replay) → list_all waits records ≡ true → list_all (is_known system) records ≡ true → breaks_a_rule system before.lasting ≡ false →
+  pub all_wait : (records : List Record) (before : Replay) → list_all waits records ≡ true → list_all (is_record_known system) records ≡ true → breaks_a_rule system before.lasting ≡ false →
       replay_all system records before ≡ Some (record before { waiting = before.waiting ++ records })
   all_wait [] before wait known sound = ap (λ (l : List Record). Some (record before { waiting = l })) (sym (append-nil before.waiting))
   all_wait (r ∷ records) before wait known sound =
       ap (option_and_then (replay_all system records))
-      (one_done r before (with_waiting r before) (first_of (is_known system r) (list_all (is_known system) records) known) (wait_one r before (first_of (waits r) (list_all waits records) wait)) sound)
-      ∙ all_wait records (with_waiting r before) (second_of (waits r) (list_all waits records) wait) (second_of (is_known system r) (list_all (is_known system) records) known) sound
+      (one_done r before (with_waiting r before) (first_of (is_record_known system r) (list_all (is_record_known system) records) known) (wait_one r before (first_of (waits r) (list_all waits records) wait)) sound)
+      ∙ all_wait records (with_waiting r before) (second_of (waits r) (list_all waits records) wait) (second_of (is_record_known system r) (list_all (is_record_known system) records) known) sound
       ∙ ap (λ (l : List Record). Some (record before { waiting = l })) (append_assoc before.waiting (r ∷ []) records)

@@ -10,10 +10,10 @@ use Rattle.model_data.specs.declared.row.Row.{Row}
 use Rattle.model_system.specs.System.{System}
 use Rattle.model_messages.specs.Room.{input_needs, message_bytes, slot_room}
 use Rattle.model_messages.specs.declared.ended_message.EndedMessage.{EndedMessage}
-use Rattle.model_machine.specs.Lasting.{abend_outputs, applied, finished_by, input_message, kept_input, with_pad_by}
-use Rattle.model_machine.specs.Lasting.LastingStep.{Accepts, Acknowledges, Completes, Discards, Commands}
+use Rattle.model_machine.specs.LastingSteps.{abend_outputs, applied, finished_by, input_message, kept_input, with_pad_by}
+use Rattle.model_machine.specs.LastingSteps.LastingStep.{Accepts, Acknowledges, Completes, Discards, Commands}
 use Rattle.model_machine.specs.Machine.{LastingState, Moment, busy_slots, content, message_at}
-use Rattle.image_law.specs.Sending.{sent_bytes}
+use Rattle.image_law.specs.SentMessages.{sent_bytes}
 use Rattle.image_law.proofs.Contents.{acknowledged_bytes, dequeued_bytes, finished_content}
 use Rattle.image_law.proofs.Refused.{IsNew, has_room}
 

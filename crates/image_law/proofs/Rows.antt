@@ -9,8 +9,8 @@ use Rattle.model_messages.specs.declared.conversation.PadChange.{PadChange}
 use Rattle.model_messages.specs.declared.ended_message.EndedMessage.{EndedMessage}
 use Rattle.model_data.specs.declared.row.Row.{Row}
 use Rattle.model_machine.specs.Machine.{LastingState, message_at, output_at}
-use Rattle.model_machine.specs.Lasting.{LastingStep, applied, sent, all_sent, without_message, finished_by, with_pad_by, padded, discarded_pad, abend_outputs}
-use Rattle.model_machine.specs.Lasting.LastingStep.{Accepts, Acknowledges, Completes, Discards, Commands}
+use Rattle.model_machine.specs.LastingSteps.{LastingStep, applied, output_sent, all_sent, without_message, finished_by, with_pad_by, with_pad_changed, discarded_pad, abend_outputs}
+use Rattle.model_machine.specs.LastingSteps.LastingStep.{Accepts, Acknowledges, Completes, Discards, Commands}
 
 abbrev pub with_rows : List (List Row) → LastingState → LastingState
 with_rows rows lasting = record lasting { rows = rows }
@@ -24,20 +24,20 @@ at_rows rows (Discards id abend) = Discards id abend
 at_rows rows (Commands command) = Commands command
 
 module _ (rows : List (List Row)) where
-  sent_rows : (origin : List ℕ) (output : EndedMessage) (lasting : LastingState) (b : Bool) → is_some (output_at lasting.outputs output.to) ≡ b → with_rows rows (sent origin output lasting) ≡ sent origin output (with_rows rows lasting)
+  sent_rows : (origin : List ℕ) (output : EndedMessage) (lasting : LastingState) (b : Bool) → is_some (output_at lasting.outputs output.to) ≡ b → with_rows rows (output_sent origin output lasting) ≡ output_sent origin output (with_rows rows lasting)
   sent_rows origin output lasting true is = rw is refl
   sent_rows origin output lasting false is = rw is refl
 
   all_sent_rows : (origin : List ℕ) (outputs : List EndedMessage) (lasting : LastingState) → with_rows rows (all_sent origin outputs lasting) ≡ all_sent origin outputs (with_rows rows lasting)
   all_sent_rows origin [] lasting = refl
   all_sent_rows origin (output ∷ outputs) lasting =
-      all_sent_rows origin outputs (sent origin output lasting)
+      all_sent_rows origin outputs (output_sent origin output lasting)
       ∙ ap (all_sent origin outputs) (sent_rows origin output lasting (is_some (output_at lasting.outputs output.to)) refl)
 
   finished_rows : (o : Option Message) (outputs : Message → List EndedMessage) (pad : Message → PadChange) (lasting : LastingState) →
       with_rows rows (finished_by o outputs (with_pad_by o pad lasting)) ≡ finished_by o outputs (with_pad_by o pad (with_rows rows lasting))
   finished_rows (Some message) outputs pad lasting =
-      all_sent_rows message.origin (outputs message) (record lasting { conversations = padded (pad message) message.origin lasting.conversations; messages = without_message lasting.messages message.id })
+      all_sent_rows message.origin (outputs message) (record lasting { conversations = with_pad_changed (pad message) message.origin lasting.conversations; messages = without_message lasting.messages message.id })
   finished_rows None outputs pad lasting = refl
 
   commanded_rows : (command : LastingCommand) (lasting : LastingState) → with_rows rows (applied (Commands command) lasting) ≡ applied (Commands command) (with_rows rows lasting)

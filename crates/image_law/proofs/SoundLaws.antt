@@ -3,8 +3,8 @@ use Rattle.std.proofs.Common.{◌≡◌, Bool, true, false, not, ◌&&◌, ◌||
 use Rattle.std.specs.List.{list_all}
 use Rattle.model_system.specs.System.{System}
 use Rattle.model_machine.specs.Machine.{LastingState}
-use Rattle.model_image.specs.States.{is_small, is_next, is_setting, has_right_pad, ascend_below, is_known, are_alone, run_up_to, over_full, wrong_values, wrong_ids, unknown_messages, wrong_replies, breaks_a_rule}
-use Rattle.image_law.specs.Sound.{IsSound}
+use Rattle.model_image.specs.States.{is_small, is_next, is_setting, has_right_pad, ascend_below, is_message_known, are_alone, run_up_to, over_full, wrong_values, wrong_ids, unknown_messages, wrong_replies, breaks_a_rule}
+use Rattle.image_law.specs.SoundState.{IsSound}
 use Rattle.image_law.proofs.Bools.{first_of, second_of, neither_first, neither_second, not_false}
 
 none_broken : (a b c d e f g h i j k : Bool) → a ≡ true → b ≡ true → c ≡ true → d ≡ true → e ≡ true → f ≡ true → g ≡ true → h ≡ true → i ≡ true → j ≡ true → k ≡ false →
@@ -17,7 +17,7 @@ module _ (system : System) (lasting : LastingState) where
   breaks_none s =
       none_broken (is_next lasting.next_id) (is_small lasting.steps) (list_all (λ terminal. is_small terminal.last) lasting.terminals)
       (list_all (λ terminal. is_next terminal.next) lasting.outputs) (list_all is_setting lasting.codes) (list_all (has_right_pad system) lasting.conversations)
-      (ascend_below lasting.next_id lasting.messages) (list_all (is_known system lasting) lasting.messages) (are_alone lasting.messages)
+      (ascend_below lasting.next_id lasting.messages) (list_all (is_message_known system lasting) lasting.messages) (are_alone lasting.messages)
       (list_all (λ terminal. run_up_to terminal.next terminal.replies) lasting.outputs) (over_full system lasting)
       s.fits.id s.fits.counted s.fits.inputs s.fits.numbers s.settings s.pads s.ascending s.known s.alone s.runs s.fits.room
 
@@ -29,7 +29,7 @@ module _ (system : System) (lasting : LastingState) where
       let d = list_all (λ terminal. is_next terminal.next) lasting.outputs in
       let e = list_all is_setting lasting.codes in
       let f = list_all (has_right_pad system) lasting.conversations in
-      let h = list_all (is_known system lasting) lasting.messages in
+      let h = list_all (is_message_known system lasting) lasting.messages in
       let i = are_alone lasting.messages in
       let values = wrong_values system lasting in
       let ids = wrong_ids lasting in

@@ -16,7 +16,7 @@ use Rattle.model_messages.specs.declared.conversation.Conversation.{Conversation
 use Rattle.model_messages.specs.declared.conversation.PadChange.{PadChange}
 use Rattle.model_messages.specs.declared.conversation.PadChange.TheVariants.{Stays, New, Ends}
 use Rattle.model_messages.specs.declared.conversation.TerminalConversation.{TerminalConversation}
-use Rattle.model_messages.specs.Input.{is_conversing, busy_id}
+use Rattle.model_messages.specs.ConversationInput.{is_conversing, busy_id}
 use Rattle.model_messages.specs.Terminals as conversations
 use Rattle.model_data.specs.declared.request.Request.{Request}
 use Rattle.model_data.specs.declared.victim.Victim.{Victim}
@@ -26,7 +26,7 @@ use Rattle.model_system.specs.Codes.{code_at}
 use Rattle.model_system.specs.System.{System}
 use Rattle.model_messages.specs.declared.ended_message.EndedMessage.{EndedMessage}
 use Rattle.model_data.specs.declared.row.Row.{Row}
-use Rattle.model_image.specs.States.{has_right_pad, is_conversation, is_terminal}
+use Rattle.model_image.specs.States.{has_right_pad, is_conversation, is_system_terminal}
 use Rattle.model_machine.specs.declared.entry.Acked.{Acked}
 use Rattle.model_machine.specs.declared.entry.Acked.TheVariants.{Removed, Already as AckAlready}
 use Rattle.model_machine.specs.declared.entry.AckRefused.{AckRefused}
@@ -38,31 +38,31 @@ use Rattle.model_machine.specs.declared.entry.Taken.{Taken}
 use Rattle.model_machine.specs.declared.entry.Taken.TheVariants.{New as IsNewInput, Already}
 use Rattle.model_machine.specs.declared.lasting.TerminalState.{TerminalState}
 use Rattle.model_machine.specs.declared.entry.CommandRefused.TheVariants.{UnknownName}
-use Rattle.model_machine.specs.ModelMachineCommands.{CommandAnswer, command_answer, command_step, exited, steps_by}
+use Rattle.model_machine.specs.CommandAnswers.{CommandAnswer, command_answer, command_step, exited, steps_by}
 use Rattle.model_machine.specs.History.{AreVictims}
-use Rattle.model_machine.specs.Lasting.{LastingStep, KeptInput, abend_outputs, abend_text, all_sent, applied, discarded_pad, finished_by, kept_input, padded, replied, sent, switched, with_pad_by, with_text}
-use Rattle.model_machine.specs.Lasting.LastingStep.{Accepts, Commands}
+use Rattle.model_machine.specs.LastingSteps.{LastingStep, KeptInput, abend_outputs, dfs555i_text, all_sent, applied, discarded_pad, finished_by, kept_input, with_pad_changed, replied, output_sent, switched, with_pad_by, with_conversation_text}
+use Rattle.model_machine.specs.LastingSteps.LastingStep.{Accepts, Commands}
 use Rattle.model_machine.specs.Machine.{LastingState, Moment, Slot, message_at, output_at, slot_at, terminal_at}
 use Rattle.model_machine.specs.Requests.{blocked_now}
-use Rattle.model_machine.specs.Steps.{AtWork, After, Refusal, accepts, ack_answer, acknowledges, busy_by, ended_step, input_answer, slot_work, step_in_turn, turn_step, unless_blocked}
+use Rattle.model_machine.specs.MachineCalls.{AtWork, After, Refusal, accepted_step, ack_answer, acknowledged_step, busy_by, ended_step, input_answer, slot_work, step_in_turn, turn_step, unless_blocked}
 use Rattle.model_machine.specs.Trial.{Advance, Trial, outputs_of, pad_of}
 use Rattle.model_machine.specs.Trial.Advance.{Goes, Stops}
 use Rattle.model_machine.specs.Trial.WorkEnd.{Ends as ScriptEnds, Syncs, Abends}
-use Rattle.system_types.specs.Valid.{IsPadLength, IsSystem}
-use Rattle.image_law.specs.Steps.{EndsNoneWaiting, IsFree, PadFits, has_receiver, has_room, takes_switched}
+use Rattle.system_types.specs.ValidSystem.{IsPadLength, IsSystem}
+use Rattle.image_law.specs.StepNeeds.{EndsNoneWaiting, IsConversationFree, PadFits, has_receiver, has_room, takes_switched}
 use Rattle.image_law.proofs.Accepted.{accepted_stands}
-use Rattle.image_law.proofs.Bools.{both}
 use Rattle.image_law.proofs.Commanded.{commanded_stands}
 use Rattle.image_law.proofs.Conversing.{itself_changed}
 use Rattle.image_law.proofs.Kept.{acknowledged_stands, finished_stands}
-use Rattle.image_law.specs.Standing.{Stands}
+use Rattle.image_law.specs.StandingState.{StandsLasting}
 use Rattle.image_law.proofs.Lists.{all_imply, found_passes}
-use Rattle.image_law.specs.Rooms.{StaysSound}
-use Rattle.image_law.specs.Sending.{is_sent_well}
+use Rattle.image_law.specs.SoundMachine.{StaysSound}
+use Rattle.image_law.specs.SentMessages.{is_sent_well}
 use Rattle.image_law.proofs.Pads.{Changes}
 use Rattle.image_law.proofs.Refused.{IsNew, is_new}
 use Rattle.image_law.proofs.Turns.{call_fits}
 use Rattle.image_law.proofs.Works.{SendsWell, origin_known, work_sends}
+use Rattle.tm_types.proofs.Truths.{both}
 
 -- what lasts has the terminals of the system, in their order
 pub record HasTerminals (system : System) (lasting : LastingState) : Type 0 where
@@ -89,11 +89,11 @@ pads_of_codes (code ∷ codes) all =
       by pad false e h = grind (arith, nat_tests, e, h.least)
 
 -- a step is counted
-pub counted_stands : (system : System) (steps : ℕ) (lasting : LastingState) → Stands system lasting → Stands system (record lasting { steps = steps })
+pub counted_stands : (system : System) (steps : ℕ) (lasting : LastingState) → StandsLasting system lasting → StandsLasting system (record lasting { steps = steps })
 counted_stands system steps lasting s = record { settings = s.settings; pads = s.pads; ascending = s.ascending; known = s.known; alone = s.alone; runs = s.runs }
 
 -- what is sent keeps the conversations
-sent_keeps : (origin : List ℕ) (output : EndedMessage) (lasting : LastingState) → (sent origin output lasting).conversations ≡ lasting.conversations
+sent_keeps : (origin : List ℕ) (output : EndedMessage) (lasting : LastingState) → (output_sent origin output lasting).conversations ≡ lasting.conversations
 sent_keeps origin output lasting = by (is_some (output_at lasting.outputs output.to)) where
   by : (b : Bool) → (if b then replied output lasting else switched origin output lasting).conversations ≡ lasting.conversations
   by true = refl
@@ -101,10 +101,10 @@ sent_keeps origin output lasting = by (is_some (output_at lasting.outputs output
 
 pub all_keep : (origin : List ℕ) (outputs : List EndedMessage) (lasting : LastingState) → (all_sent origin outputs lasting).conversations ≡ lasting.conversations
 all_keep origin [] lasting = refl
-all_keep origin (output ∷ outputs) lasting = all_keep origin outputs (sent origin output lasting) ∙ sent_keeps origin output lasting
+all_keep origin (output ∷ outputs) lasting = all_keep origin outputs (output_sent origin output lasting) ∙ sent_keeps origin output lasting
 
 module _ (system : System) (valid : IsSystem system) (moment : Moment) (names : HasTerminals system moment.lasting) (sound : StaysSound system moment) where
-  s : Stands system moment.lasting
+  s : StandsLasting system moment.lasting
   s = sound.stands
 
   -- ---- inputs
@@ -129,20 +129,20 @@ module _ (system : System) (valid : IsSystem system) (moment : Moment) (names : 
     by true f later = cc
     by false f later = later f
 
-  pub is_free : (terminal : List ℕ) (number : ℕ) (segments : List (List ℕ)) → is_terminal system terminal ≡ true → IsNew system moment terminal number segments → IsFree terminal moment.lasting
+  pub is_free : (terminal : List ℕ) (number : ℕ) (segments : List (List ℕ)) → is_system_terminal system terminal ≡ true → IsNew system moment terminal number segments → IsConversationFree terminal moment.lasting
   is_free terminal number segments known new = record {
     place = there_by (λ (t : TerminalConversation). t.terminal) moment.lasting.conversations terminal ∙ ap (λ (ns : List (List ℕ)). list_any (λ other. bytes_eq other terminal) ns) names.conversations ∙ known;
     none = free_by terminal (conversations.conversation_at terminal moment.lasting.conversations) moment.lasting.messages new.free;
   }
 
-  pub input_known : (terminal : List ℕ) (number : ℕ) (segments : List (List ℕ)) → IsNew system moment terminal number segments → is_terminal system terminal ≡ true
+  pub input_known : (terminal : List ℕ) (number : ℕ) (segments : List (List ℕ)) → IsNew system moment terminal number segments → is_system_terminal system terminal ≡ true
   input_known terminal number segments new =
       sym (ap (λ (ns : List (List ℕ)). list_any (λ other. bytes_eq other terminal) ns) names.terminals)
       ∙ sym (there_by (λ (t : TerminalState). t.name) moment.lasting.terminals terminal)
       ∙ known_by (terminal_at moment.lasting.terminals terminal) new.terminal_known
 
   accepts_stand : (terminal : List ℕ) (number : ℕ) (segments : List (List ℕ)) → IsNew system moment terminal number segments
-      → Stands system (applied (Accepts terminal number (kept_input system moment.lasting terminal segments)) moment.lasting)
+      → StandsLasting system (applied (Accepts terminal number (kept_input system moment.lasting terminal segments)) moment.lasting)
   accepts_stand terminal number segments new =
       let known = input_known terminal number segments new in
       counted_stands system (moment.lasting.steps + 1) _
@@ -153,18 +153,18 @@ module _ (system : System) (valid : IsSystem system) (moment : Moment) (names : 
   behind step = option_map_or (λ s. applied s moment.lasting) step moment.lasting
 
   input_stands : (terminal : List ℕ) (number : ℕ) (segments : List (List ℕ)) (step : Option LastingStep)
-      → accepts terminal number (kept_input system moment.lasting terminal segments) (input_answer system moment terminal number segments) ≡ step → Stands system (behind step)
+      → accepted_step terminal number (kept_input system moment.lasting terminal segments) (input_answer system moment terminal number segments) ≡ step → StandsLasting system (behind step)
   input_stands terminal number segments None e = s
   input_stands terminal number segments (Some step) e =
       let kept = kept_input system moment.lasting terminal segments in
       let is : Accepts terminal number kept ≡ step = accepts_one (input_answer system moment terminal number segments) kept e in
-      subst (λ (x : LastingStep). Stands system (applied x moment.lasting)) is (accepts_stand terminal number segments (is_new system moment terminal number segments step e)) where
-        accepts_one : (answer : Result Taken InputRefused) (kept : KeptInput) → accepts terminal number kept answer ≡ Some step → Accepts terminal number kept ≡ step
+      subst (λ (x : LastingStep). StandsLasting system (applied x moment.lasting)) is (accepts_stand terminal number segments (is_new system moment terminal number segments step e)) where
+        accepts_one : (answer : Result Taken InputRefused) (kept : KeptInput) → accepted_step terminal number kept answer ≡ Some step → Accepts terminal number kept ≡ step
         accepts_one (Ok (IsNewInput id)) kept f = cc
         accepts_one (Ok Already) kept f = cc
         accepts_one (Err refused) kept f = cc
 
-  ack_stands : (terminal : List ℕ) (answer : Result Acked AckRefused) → Stands system (behind (acknowledges terminal answer))
+  ack_stands : (terminal : List ℕ) (answer : Result Acked AckRefused) → StandsLasting system (behind (acknowledged_step terminal answer))
   ack_stands terminal (Ok Removed) = counted_stands system (moment.lasting.steps + 1) _ (acknowledged_stands system terminal moment.lasting s)
   ack_stands terminal (Ok AckAlready) = s
   ack_stands terminal (Err refused) = s
@@ -173,59 +173,59 @@ module _ (system : System) (valid : IsSystem system) (moment : Moment) (names : 
 
   pub receives : (output : EndedMessage) → is_sent_well system output ≡ true → has_receiver system moment.lasting.outputs output ≡ true
   receives output is =
-      let same : is_some (output_at moment.lasting.outputs output.to) ≡ is_terminal system output.to =
+      let same : is_some (output_at moment.lasting.outputs output.to) ≡ is_system_terminal system output.to =
       there_by (λ (t : TerminalReplies). t.terminal) moment.lasting.outputs output.to ∙ ap (λ (ns : List (List ℕ)). list_any (λ other. bytes_eq other output.to) ns) names.outputs in
-      ap (λ (b : Bool). if b then is_terminal system output.to else takes_switched system output.to) same ∙ by (is_terminal system output.to) (takes_switched system output.to) is where
+      ap (λ (b : Bool). if b then is_system_terminal system output.to else takes_switched system output.to) same ∙ by (is_system_terminal system output.to) (takes_switched system output.to) is where
         by : (t c : Bool) → (t || c) ≡ true → (if t then t else c) ≡ true
         by true c h = refl
         by false c h = h
 
   -- what the pads are behind a completion
-  pad_right : (text origin : List ℕ) (t : Option TerminalConversation) → conversations.terminal_at origin moment.lasting.conversations ≡ t → list_all (has_right_pad system) (padded (New text) origin moment.lasting.conversations) ≡ true
-      → option_map_or (λ c. is_conversation system (with_text text c)) (option_and_then (λ (t : TerminalConversation). t.conversation) t) true ≡ true
+  pad_right : (text origin : List ℕ) (t : Option TerminalConversation) → conversations.conversation_terminal origin moment.lasting.conversations ≡ t → list_all (has_right_pad system) (with_pad_changed (New text) origin moment.lasting.conversations) ≡ true
+      → option_map_or (λ c. is_conversation system (with_conversation_text text c)) (option_and_then (λ (t : TerminalConversation). t.conversation) t) true ≡ true
   pad_right text origin None e right = refl
   pad_right text origin (Some t) e right =
-      by t.conversation (itself_changed origin (option_map (with_text text)) moment.lasting.conversations t e) (conversations.terminal_at origin (padded (New text) origin moment.lasting.conversations)) refl where
-        by : (c : Option Conversation) → conversations.conversation_at origin (padded (New text) origin moment.lasting.conversations) ≡ option_map (with_text text) c
-            → (found : Option TerminalConversation) → conversations.terminal_at origin (padded (New text) origin moment.lasting.conversations) ≡ found
-            → option_map_or (λ c. is_conversation system (with_text text c)) c true ≡ true
+      by t.conversation (itself_changed origin (option_map (with_conversation_text text)) moment.lasting.conversations t e) (conversations.conversation_terminal origin (with_pad_changed (New text) origin moment.lasting.conversations)) refl where
+        by : (c : Option Conversation) → conversations.conversation_at origin (with_pad_changed (New text) origin moment.lasting.conversations) ≡ option_map (with_conversation_text text) c
+            → (found : Option TerminalConversation) → conversations.conversation_terminal origin (with_pad_changed (New text) origin moment.lasting.conversations) ≡ found
+            → option_map_or (λ c. is_conversation system (with_conversation_text text c)) c true ≡ true
         by None f found g = refl
-        by (Some c) f None g = let none : None ≡ Some (with_text text c) = sym (ap (option_and_then (λ (t : TerminalConversation). t.conversation)) g) ∙ f in cc
+        by (Some c) f None g = let none : None ≡ Some (with_conversation_text text c) = sym (ap (option_and_then (λ (t : TerminalConversation). t.conversation)) g) ∙ f in cc
         by (Some c) f (Some after) g =
-            let is : after.conversation ≡ Some (with_text text c) = sym (ap (option_and_then (λ (t : TerminalConversation). t.conversation)) g) ∙ f in
+            let is : after.conversation ≡ Some (with_conversation_text text c) = sym (ap (option_and_then (λ (t : TerminalConversation). t.conversation)) g) ∙ f in
             sym (ap (λ (o : Option Conversation). option_map_or (is_conversation system) o true) is)
-            ∙ found_passes (has_right_pad system) (conversations.is_of origin) (padded (New text) origin moment.lasting.conversations) after right g
+            ∙ found_passes (has_right_pad system) (conversations.is_conversation_of origin) (with_pad_changed (New text) origin moment.lasting.conversations) after right g
 
-  pub pad_fits : (pad : PadChange) (message : Message) → (Changes pad → message.conversation ≡ true) → list_all (has_right_pad system) (padded pad message.origin moment.lasting.conversations) ≡ true → PadFits system pad message moment.lasting
+  pub pad_fits : (pad : PadChange) (message : Message) → (Changes pad → message.conversation ≡ true) → list_all (has_right_pad system) (with_pad_changed pad message.origin moment.lasting.conversations) ≡ true → PadFits system pad message moment.lasting
   pad_fits Stays message flagged right = tt
-  pad_fits (New text) message flagged right = (flagged tt, pad_right text message.origin (conversations.terminal_at message.origin moment.lasting.conversations) refl right)
+  pad_fits (New text) message flagged right = (flagged tt, pad_right text message.origin (conversations.conversation_terminal message.origin moment.lasting.conversations) refl right)
   pad_fits Ends message flagged right = flagged tt
 
-  rows_stand : (rows : List (List Row)) → Stands system (record moment.lasting { rows = rows })
+  rows_stand : (rows : List (List Row)) → StandsLasting system (record moment.lasting { rows = rows })
   rows_stand rows = record { settings = s.settings; pads = s.pads; ascending = s.ascending; known = s.known; alone = s.alone; runs = s.runs }
 
   completed_by : (id : ℕ) (rows : List (List Row)) (outputs : List EndedMessage) (pad : PadChange) (found : Option Message) → message_at moment.lasting.messages id ≡ found
       → list_all (is_sent_well system) outputs ≡ true → ((message : Message) → found ≡ Some message → Changes pad → message.conversation ≡ true)
       → list_all (has_right_pad system) (finished_by found (λ _. outputs) (with_pad_by found (λ _. pad) (record moment.lasting { rows = rows }))).conversations ≡ true
-      → Stands system (finished_by found (λ _. outputs) (with_pad_by found (λ _. pad) (record moment.lasting { rows = rows })))
+      → StandsLasting system (finished_by found (λ _. outputs) (with_pad_by found (λ _. pad) (record moment.lasting { rows = rows })))
   completed_by id rows outputs pad None e sends flagged right = rows_stand rows
   completed_by id rows outputs pad (Some message) e sends flagged right =
       finished_stands system id message (record moment.lasting { rows = rows }) e (rows_stand rows) pad outputs
       (fits_with_rows pad message (flagged message refl) (sym (ap (list_all (has_right_pad system)) (all_keep message.origin outputs _)) ∙ right))
       (all_imply (is_sent_well system) (has_receiver system moment.lasting.outputs) outputs receives sends) where
-        fits_with_rows : (pad : PadChange) (message : Message) → (Changes pad → message.conversation ≡ true) → list_all (has_right_pad system) (padded pad message.origin moment.lasting.conversations) ≡ true
+        fits_with_rows : (pad : PadChange) (message : Message) → (Changes pad → message.conversation ≡ true) → list_all (has_right_pad system) (with_pad_changed pad message.origin moment.lasting.conversations) ≡ true
             → PadFits system pad message (record moment.lasting { rows = rows })
         fits_with_rows Stays message flagged right = tt
         fits_with_rows (New text) message flagged right = pad_fits (New text) message flagged right
         fits_with_rows Ends message flagged right = flagged tt
 
   discarded_by : (id : ℕ) (abend : AbendCode) (found : Option Message) → message_at moment.lasting.messages id ≡ found
-      → Stands system (finished_by found (λ message. abend_outputs message abend) (with_pad_by found discarded_pad moment.lasting))
+      → StandsLasting system (finished_by found (λ message. abend_outputs message abend) (with_pad_by found discarded_pad moment.lasting))
   discarded_by id abend None e = s
   discarded_by id abend (Some message) e =
       finished_stands system id message moment.lasting e s (discarded_pad message) (abend_outputs message abend) (flag message.conversation refl)
-      (both (has_receiver system moment.lasting.outputs (record { to = message.origin; segments = abend_text message.code abend ∷ [] })) true
-      (receives (record { to = message.origin; segments = abend_text message.code abend ∷ [] }) (by_terminal (is_terminal system message.origin) (takes_switched system message.origin) (origin_known system valid moment.lasting s id message e))) refl) where
+      (both (has_receiver system moment.lasting.outputs (record { to = message.origin; segments = dfs555i_text message.code abend ∷ [] })) true
+      (receives (record { to = message.origin; segments = dfs555i_text message.code abend ∷ [] }) (by_terminal (is_system_terminal system message.origin) (takes_switched system message.origin) (origin_known system valid moment.lasting s id message e))) refl) where
         flag : (b : Bool) → message.conversation ≡ b → PadFits system (if b then Ends else Stays) message moment.lasting
         flag true is = is
         flag false is = tt
@@ -237,7 +237,7 @@ module _ (system : System) (valid : IsSystem system) (moment : Moment) (names : 
   abbrev RightPads : LastingState → Type 0
   RightPads after = list_all (has_right_pad system) after.conversations ≡ true
 
-  ended_stands : (slot : Slot) (trial : Trial) → SendsWell system moment.lasting slot.id trial → (advance : Advance) → RightPads (behind (ended_step slot trial advance)) → Stands system (behind (ended_step slot trial advance))
+  ended_stands : (slot : Slot) (trial : Trial) → SendsWell system moment.lasting slot.id trial → (advance : Advance) → RightPads (behind (ended_step slot trial advance)) → StandsLasting system (behind (ended_step slot trial advance))
   ended_stands slot trial sends (Goes after call) right = s
   ended_stands slot trial sends (Stops ScriptEnds) right =
       counted_stands system (moment.lasting.steps + 1) _
@@ -249,16 +249,16 @@ module _ (system : System) (valid : IsSystem system) (moment : Moment) (names : 
       counted_stands system (moment.lasting.steps + 1) _ (discarded_by slot.id abend (message_at moment.lasting.messages slot.id) refl)
 
   work_stands : (slot : Slot) (found : Option AtWork) → slot_work system moment.lasting slot ≡ found
-      → RightPads (behind (option_and_then (λ work. ended_step slot work.trial work.advance) found)) → Stands system (behind (option_and_then (λ work. ended_step slot work.trial work.advance) found))
+      → RightPads (behind (option_and_then (λ work. ended_step slot work.trial work.advance) found)) → StandsLasting system (behind (option_and_then (λ work. ended_step slot work.trial work.advance) found))
   work_stands slot None e right = s
   work_stands slot (Some work) e right = ended_stands slot work.trial (work_sends system valid moment.lasting s slot work e) work.advance right
 
   unblocked_stands : (slot : Slot) (blocked : Option (Request × ℕ)) → RightPads (behind (unless_blocked blocked (turn_step system moment.lasting slot)))
-      → Stands system (behind (unless_blocked blocked (turn_step system moment.lasting slot)))
+      → StandsLasting system (behind (unless_blocked blocked (turn_step system moment.lasting slot)))
   unblocked_stands slot (Some blocked) right = s
   unblocked_stands slot None right = work_stands slot (slot_work system moment.lasting slot) refl right
 
-  turn_stands : (region : ℕ) (found : Option Slot) → RightPads (behind (option_and_then (step_in_turn system moment region) found)) → Stands system (behind (option_and_then (step_in_turn system moment region) found))
+  turn_stands : (region : ℕ) (found : Option Slot) → RightPads (behind (option_and_then (step_in_turn system moment region) found)) → StandsLasting system (behind (option_and_then (step_in_turn system moment region) found))
   turn_stands region None right = s
   turn_stands region (Some slot) right = unblocked_stands slot (blocked_now system moment region slot) right
 
@@ -278,26 +278,26 @@ module _ (system : System) (valid : IsSystem system) (moment : Moment) (names : 
   there_exit false terminal answer step e = cc
 
   -- a command that is done
-  done_stands : (command : LastingCommand) → EndsNoneWaiting command moment.lasting → Stands system (applied (Commands command) moment.lasting)
+  done_stands : (command : LastingCommand) → EndsNoneWaiting command moment.lasting → StandsLasting system (applied (Commands command) moment.lasting)
   done_stands command none = counted_stands system (moment.lasting.steps + 1) _ (commanded_stands system command moment.lasting s none)
 
-  answered_stands : (command : LastingCommand) (answer : CommandAnswer) → EndsNoneWaiting command moment.lasting → Stands system (behind (steps_by (Some command) answer))
+  answered_stands : (command : LastingCommand) (answer : CommandAnswer) → EndsNoneWaiting command moment.lasting → StandsLasting system (behind (steps_by (Some command) answer))
   answered_stands command (Ok answer) none = done_stands command none
   answered_stands command (Err refused) none = s
 
-  exit_stands : (terminal : List ℕ) (step : Option LastingStep) → step ≡ command_step system moment (command.Exit terminal) → Stands system (behind step)
+  exit_stands : (terminal : List ℕ) (step : Option LastingStep) → step ≡ command_step system moment (command.Exit terminal) → StandsLasting system (behind step)
   exit_stands terminal None e = s
   exit_stands terminal (Some step) e =
       let c = conversations.conversation_at terminal moment.lasting.conversations in
       let there = there_exit (is_some (terminal_at moment.lasting.terminals terminal)) terminal (exited terminal c (busy_id terminal moment.lasting.messages)) step e in
       let none = exit_free terminal c moment.lasting.messages step there in
-      subst (λ (x : Option LastingStep). Stands system (behind x)) (sym e) (answered_stands (Exit terminal) (command_answer system moment (command.Exit terminal)) none)
+      subst (λ (x : Option LastingStep). StandsLasting system (behind x)) (sym e) (answered_stands (Exit terminal) (command_answer system moment (command.Exit terminal)) none)
 
-  nothing_stands : (answer : CommandAnswer) → Stands system (behind (steps_by None answer))
+  nothing_stands : (answer : CommandAnswer) → StandsLasting system (behind (steps_by None answer))
   nothing_stands (Ok answer) = s
   nothing_stands (Err refused) = s
 
-  command_stands : (c : Command) → Stands system (behind (command_step system moment c))
+  command_stands : (c : Command) → StandsLasting system (behind (command_step system moment c))
   command_stands (command.StartTransaction code) = answered_stands (StartTransaction code) (command_answer system moment (command.StartTransaction code)) tt
   command_stands (command.StopTransaction code) = answered_stands (StopTransaction code) (command_answer system moment (command.StopTransaction code)) tt
   command_stands (command.StartTerminal terminal) = answered_stands (StartTerminal terminal) (command_answer system moment (command.StartTerminal terminal)) tt
@@ -316,7 +316,7 @@ module _ (system : System) (valid : IsSystem system) (moment : Moment) (names : 
 
   -- ---- all calls
 
-  call_stands : (call : ControlCall) (victims : List Victim) → RightPads (After system moment call victims).lasting → Stands system (After system moment call victims).lasting
+  call_stands : (call : ControlCall) (victims : List Victim) → RightPads (After system moment call victims).lasting → StandsLasting system (After system moment call victims).lasting
   call_stands (Input terminal number segments) victims right = input_stands terminal number segments _ refl
   call_stands (Receive terminal) victims right = s
   call_stands (Acknowledge terminal number) victims right = ack_stands terminal (ack_answer moment terminal number)

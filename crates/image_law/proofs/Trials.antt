@@ -14,15 +14,16 @@ use Rattle.model_system.specs.declared.pcb.Pcb.TheVariants.{Destination}
 use Rattle.model_system.specs.Jobs.{Job}
 use Rattle.model_system.specs.System.{System}
 use Rattle.model_data.specs.Data.{Data}
-use Rattle.model_messages.specs.Work.{MessageWork, fresh_pcb}
-use Rattle.model_messages.specs.Calls.{message_work}
-use Rattle.model_machine.specs.Trial.{Advance, Given, Outcome, Reached, Trial, advance, advance_by, call_outcome, called, gone, gone_on, is_sync, outcome_at, outputs_of, reached, trial_need, trial_of, trial_start, unless_abend}
+use Rattle.model_messages.specs.MessageWork.{MessageWork, fresh_pcb}
+use Rattle.model_messages.specs.MessageCalls.{message_work}
+use Rattle.model_machine.specs.Trial.{Advance, Given, Outcome, Reached, Trial, advance, advance_by, call_outcome, called_in_trial, gone, trial_goes_on, is_sync, outcome_at, outputs_of, pcb_reached, trial_need, trial_of, trial_start, unless_abend}
 use Rattle.model_machine.specs.Trial.Advance.{Goes, Stops}
 use Rattle.model_machine.specs.Trial.WorkEnd.{Syncs}
 use Rattle.model_machine.specs.Trial.Reached.{Messages, Rows, Nothing}
-use Rattle.image_law.proofs.Bools.{both, first_of, second_of}
-use Rattle.image_law.specs.Sending.{is_receiver, sends_well, is_well, is_sent_well, open_count, open_segments, sent_bytes, SendsWithin}
+use Rattle.image_law.proofs.Bools.{first_of, second_of}
+use Rattle.image_law.specs.SentMessages.{is_receiver, sends_well, is_well, is_sent_well, segments_built, open_segments, sent_bytes, SendsWithin}
 use Rattle.image_law.proofs.Calls.{call_keeps, fresh_well, finished_bytes, finished_sent}
+use Rattle.tm_types.proofs.Truths.{both}
 
 -- what a job gives: limits within those of all codes, and PCBs that send to receivers
 pub record IsJob (job : Job) : Type 0 where
@@ -38,7 +39,7 @@ fresh_all system (pcb ∷ pcbs) all =
 
 fresh_none : (pcbs : List Pcb) → open_segments (map fresh_pcb pcbs) ≡ 0
 fresh_none [] = refl
-fresh_none (pcb ∷ pcbs) = omega (arith, sum_by-cons open_count (fresh_pcb pcb) (map fresh_pcb pcbs), fresh_none pcbs)
+fresh_none (pcb ∷ pcbs) = omega (arith, sum_by-cons segments_built (fresh_pcb pcb) (map fresh_pcb pcbs), fresh_none pcbs)
 
 -- What each message call keeps, and a trial begins with, every trial has.
 module _ (job : Job) (rows : List (List Row)) (given : Given) (P : MessageWork → Type 0)
@@ -52,17 +53,17 @@ module _ (job : Job) (rows : List (List Row)) (given : Given) (P : MessageWork �
   Goes_on (Goes trial call) = P trial.work
   Goes_on (Stops end) = Unit {0}
 
-  called_keeps : (trial : Trial) (call : CallText) (outcome : Outcome) (abend : Option AbendCode) → P outcome.work → Goes_on (unless_abend abend (gone_on trial call outcome))
+  called_keeps : (trial : Trial) (call : CallText) (outcome : Outcome) (abend : Option AbendCode) → P outcome.work → Goes_on (unless_abend abend (trial_goes_on trial call outcome))
   called_keeps trial call outcome None s = s
   called_keeps trial call outcome (Some code) s = tt
 
   advance_keeps : (need : Need) (trial : Trial) → P trial.work → Goes_on (advance_by job rows trial need)
   advance_keeps (Call call) trial s = by (is_sync trial.work call) where
-    by : (b : Bool) → Goes_on (if b then Stops Syncs else called trial call (call_outcome job rows trial call))
+    by : (b : Bool) → Goes_on (if b then Stops Syncs else called_in_trial trial call (call_outcome job rows trial call))
     by true = tt
     by false =
         let outcome = call_outcome job rows trial call in
-        called_keeps trial call outcome outcome.abend (outcome_keeps (reached job.system.databases job.pcbs call.pcb) trial.work trial.databases call s)
+        called_keeps trial call outcome outcome.abend (outcome_keeps (pcb_reached job.system.databases job.pcbs call.pcb) trial.work trial.databases call s)
   advance_keeps Ended trial s = tt
   advance_keeps (Abend code) trial s = tt
 

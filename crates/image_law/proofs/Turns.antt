@@ -23,19 +23,19 @@ use Rattle.model_machine.specs.declared.entry.Taken.{Taken}
 use Rattle.model_machine.specs.declared.entry.Taken.TheVariants.{New, Already}
 use Rattle.model_machine.specs.declared.entry.Turned.TheVariants.{Idle, Held, Scheduled}
 use Rattle.tm_types.specs.declared.command.LastingCommand.{LastingCommand}
-use Rattle.model_machine.specs.ModelMachineCommands.{CommandAnswer, command_answer, lasting_command, state_now, steps_by}
+use Rattle.model_machine.specs.CommandAnswers.{CommandAnswer, command_answer, lasting_command, state_now, steps_by}
 use Rattle.model_machine.specs.History.{AreVictims}
-use Rattle.model_machine.specs.Lasting.{LastingStep, KeptInput, applied, kept_input}
-use Rattle.model_machine.specs.Lasting.LastingStep.{Accepts}
+use Rattle.model_machine.specs.LastingSteps.{LastingStep, KeptInput, applied, kept_input}
+use Rattle.model_machine.specs.LastingSteps.LastingStep.{Accepts}
 use Rattle.model_machine.specs.Machine.{LastingState, Moment, Slot, busy_slots, content, is_held, slot_at}
 use Rattle.model_machine.specs.Pick.{Candidate}
-use Rattle.model_machine.specs.Requests.{blocked_now, BreaksAt, BreaksWhere, asked_table, changes_now, without_victims}
-use Rattle.model_machine.specs.Steps.{AtWork, After, accepts, acknowledges, ack_answer, blocked_answer, ended_step, ending_step, input_answer, may_go_on, need_now, next_among, next_message, pick_now, schedule_answer, slot_after, slot_answer, slot_work, step_in_turn, sync_answer, turn_by, turn_step, unless_blocked, work_answer}
+use Rattle.model_machine.specs.Requests.{blocked_now, BreaksRingsAt, BreaksWhere, asked_table, changes_now, without_victims}
+use Rattle.model_machine.specs.MachineCalls.{AtWork, After, accepted_step, acknowledged_step, ack_answer, blocked_answer, ended_step, ending_step, input_answer, may_go_on, need_now, next_among, next_message, pick_now, schedule_answer, slot_after, slot_answer, slot_work, step_in_turn, sync_answer, turn_by, turn_step, unless_blocked, work_answer}
 use Rattle.model_machine.specs.Trial.{Advance, Trial}
 use Rattle.model_machine.specs.Trial.Advance.{Goes, Stops}
 use Rattle.model_machine.specs.Trial.WorkEnd.{Ends, Syncs, Abends}
-use Rattle.system_types.specs.Valid.{IsSystem}
-use Rattle.image_law.specs.Rooms.{HasRoom, StaysSound}
+use Rattle.system_types.specs.ValidSystem.{IsSystem}
+use Rattle.image_law.specs.SoundMachine.{IsMachineSound, StaysSound}
 use Rattle.image_law.proofs.Refused.{is_new}
 use Rattle.image_law.proofs.Rooms.{accepted_room, acknowledged_content, commanded_content, completed_content, discarded_content}
 use Rattle.image_law.proofs.Slots.{fewer_slots, freed_slots, kept_slots, more_slots, victims_slots}
@@ -139,7 +139,7 @@ module _ (system : System) (valid : IsSystem system) (moment : Moment) (sound : 
         subst (λ (vs : List Victim). Fits (behind_step (turn_step system moment.lasting slot)) (without_victims vs (set region (slot_after (slot_answer system moment slot) (Some slot))))) (sym right)
         (work_fits (slot_work system moment.lasting slot) refl)
 
-  turn_fits : (region : ℕ) (victims : List Victim) (found : Option Slot) → slot_at moment region ≡ found → BreaksAt system moment region victims found
+  turn_fits : (region : ℕ) (victims : List Victim) (found : Option Slot) → slot_at moment region ≡ found → BreaksRingsAt system moment region victims found
       → Fits (option_map_or (λ s. applied s moment.lasting) (option_and_then (step_in_turn system moment region) found) moment.lasting)
       (without_victims victims (set region (slot_after (turn_by system moment region victims found) found)))
   turn_fits region victims None e right =
@@ -150,19 +150,19 @@ module _ (system : System) (valid : IsSystem system) (moment : Moment) (sound : 
   -- ---- the other calls
 
   input_fits : (terminal : List ℕ) (number : ℕ) (segments : List (List ℕ)) (step : Option LastingStep)
-      → accepts terminal number (kept_input system moment.lasting terminal segments) (input_answer system moment terminal number segments) ≡ step
+      → accepted_step terminal number (kept_input system moment.lasting terminal segments) (input_answer system moment terminal number segments) ≡ step
       → Fits (option_map_or (λ s. applied s moment.lasting) step moment.lasting) moment.slots
   input_fits terminal number segments None e = sound.room
   input_fits terminal number segments (Some step) e =
       let kept = kept_input system moment.lasting terminal segments in
       let is : Accepts terminal number kept ≡ step = accepts_one (input_answer system moment terminal number segments) kept e in
       subst (λ (s : LastingStep). Fits (applied s moment.lasting) moment.slots) is (accepted_room system moment terminal number segments (is_new system moment terminal number segments step e)) where
-        accepts_one : (answer : Result Taken InputRefused) (kept : KeptInput) → accepts terminal number kept answer ≡ Some step → Accepts terminal number kept ≡ step
+        accepts_one : (answer : Result Taken InputRefused) (kept : KeptInput) → accepted_step terminal number kept answer ≡ Some step → Accepts terminal number kept ≡ step
         accepts_one (Ok (New id)) kept f = cc
         accepts_one (Ok Already) kept f = cc
         accepts_one (Err refused) kept f = cc
 
-  ack_fits : (terminal : List ℕ) (answer : Result Acked AckRefused) → Fits (option_map_or (λ s. applied s moment.lasting) (acknowledges terminal answer) moment.lasting) moment.slots
+  ack_fits : (terminal : List ℕ) (answer : Result Acked AckRefused) → Fits (option_map_or (λ s. applied s moment.lasting) (acknowledged_step terminal answer) moment.lasting) moment.slots
   ack_fits terminal (Ok Removed) = omega (arith, sound.room, acknowledged_content terminal moment.lasting)
   ack_fits terminal (Ok AckAlready) = sound.room
   ack_fits terminal (Err refused) = sound.room
@@ -173,7 +173,7 @@ module _ (system : System) (valid : IsSystem system) (moment : Moment) (sound : 
   command_fits step (Err refused) = sound.room
 
   -- every call leaves the room that it found
-  pub call_fits : (call : ControlCall) (victims : List Victim) → AreVictims system moment victims call → HasRoom system (After system moment call victims)
+  pub call_fits : (call : ControlCall) (victims : List Victim) → AreVictims system moment victims call → IsMachineSound system (After system moment call victims)
   call_fits (Input terminal number segments) victims right = input_fits terminal number segments _ refl
   call_fits (Receive terminal) victims right = sound.room
   call_fits (Acknowledge terminal number) victims right = ack_fits terminal (ack_answer moment terminal number)

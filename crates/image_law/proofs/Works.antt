@@ -13,21 +13,21 @@ use Rattle.model_system.specs.declared.code.Code.{Code}
 use Rattle.model_system.specs.Codes.{code_at}
 use Rattle.model_system.specs.Jobs.{Job, job_of}
 use Rattle.model_system.specs.System.{System}
-use Rattle.model_image.specs.States.{is_code, is_known, is_terminal}
-use Rattle.model_machine.specs.Lasting.{abend_outputs, abend_text}
+use Rattle.model_image.specs.States.{is_system_code, is_message_known, is_system_terminal}
+use Rattle.model_machine.specs.LastingSteps.{abend_outputs, dfs555i_text}
 use Rattle.model_machine.specs.Machine.{LastingState, Slot, message_at}
-use Rattle.model_machine.specs.Steps.{AtWork, slot_work, work_by}
+use Rattle.model_machine.specs.MachineCalls.{AtWork, slot_work, work_by}
 use Rattle.model_machine.specs.Trial.{Trial, outputs_of, pad_of, trial_of}
 use Rattle.model_messages.specs.declared.conversation.Conversation.{Conversation}
 use Rattle.model_messages.specs.Terminals.{conversation_at}
 use Rattle.image_law.proofs.Pads.{Changes, pad_in_conversation}
-use Rattle.model_machine.specs.Work.{given_now, slot_trial}
+use Rattle.model_machine.specs.WorkSoFar.{given_now, slot_trial}
 use Rattle.system_types.specs.Definitions.{IsTransaction}
-use Rattle.system_types.specs.Valid.{IsSystem}
+use Rattle.system_types.specs.ValidSystem.{IsSystem}
 use Rattle.image_law.proofs.Bools.{first_of, same_bytes}
 use Rattle.image_law.proofs.Lists.{found_passes}
-use Rattle.image_law.specs.Standing.{Stands}
-use Rattle.image_law.specs.Sending.{is_receiver, is_sent_well, sent_bytes, ended_bytes}
+use Rattle.image_law.specs.StandingState.{StandsLasting}
+use Rattle.image_law.specs.SentMessages.{is_receiver, is_sent_well, sent_bytes, ended_bytes}
 use Rattle.image_law.proofs.Calls.{has_name, or_left}
 use Rattle.image_law.proofs.Jobs.{found_holds, job_found}
 use Rattle.image_law.proofs.Trials.{outputs_fit, outputs_go}
@@ -42,11 +42,11 @@ flag_by : (flag : Bool) (c : Option Conversation) → is_some (if flag then c el
 flag_by true c h = refl
 flag_by false c h = cc
 
-module _ (system : System) (valid : IsSystem system) (lasting : LastingState) (s : Stands system lasting) where
-  pub origin_known : (id : ℕ) (message : Message) → message_at lasting.messages id ≡ Some message → is_terminal system message.origin ≡ true
+module _ (system : System) (valid : IsSystem system) (lasting : LastingState) (s : StandsLasting system lasting) where
+  pub origin_known : (id : ℕ) (message : Message) → message_at lasting.messages id ≡ Some message → is_system_terminal system message.origin ≡ true
   origin_known id message found =
-      first_of (is_terminal system message.origin) (is_code system message.code)
-      (first_of (is_terminal system message.origin && is_code system message.code) _ (found_passes (is_known system lasting) (λ m. m.id == id) lasting.messages message s.known found))
+      first_of (is_system_terminal system message.origin) (is_system_code system message.code)
+      (first_of (is_system_terminal system message.origin && is_system_code system message.code) _ (found_passes (is_message_known system lasting) (λ m. m.id == id) lasting.messages message s.known found))
 
   trial_sends : (slot : Slot) (trial : Trial) → slot_trial system lasting slot ≡ Some trial → SendsWell system lasting slot.id trial
   trial_sends slot trial e = by_job (job_of system slot.code) refl e where
@@ -56,7 +56,7 @@ module _ (system : System) (valid : IsSystem system) (lasting : LastingState) (s
     by_message job f (Some message) g h =
         let its = job_found system slot.code job valid f in
         let from : is_receiver job.system message.origin ≡ true =
-        subst (λ (y : System). is_receiver y message.origin ≡ true) (sym its.same) (or_left (is_terminal system message.origin) _ (origin_known slot.id message g)) in
+        subst (λ (y : System). is_receiver y message.origin ≡ true) (sym its.same) (or_left (is_system_terminal system message.origin) _ (origin_known slot.id message g)) in
         record {
           bytes = outputs_fit job its.is_job lasting.rows (given_now lasting message) from slot.calls trial h;
           receivers = subst (λ (y : System). list_all (is_sent_well y) (outputs_of trial) ≡ true) its.same (outputs_go job its.is_job lasting.rows (given_now lasting message) from slot.calls trial h);
@@ -84,7 +84,7 @@ module _ (system : System) (valid : IsSystem system) (lasting : LastingState) (s
     by_job (Some job) g = by_trial job (slot_trial system lasting slot) refl g
 
   -- the line that an abend sends is short
-  code_short : (name : List ℕ) → is_code system name ≡ true → length name ≤ 8
+  code_short : (name : List ℕ) → is_system_code system name ≡ true → length name ≤ 8
   code_short name is = by (code_at system.codes name) refl is where
     by : (found : Option Code) → code_at system.codes name ≡ found → is_some found ≡ true → length name ≤ 8
     by None e some = cc
@@ -92,7 +92,7 @@ module _ (system : System) (valid : IsSystem system) (lasting : LastingState) (s
         let its = found_holds (λ c. IsTransaction c.transaction) (λ c. bytes_eq c.transaction.code name) system.codes code valid.transactions e in
         subst (λ (n : List ℕ). length n ≤ 8) (same_bytes code.transaction.code name (has_name system.codes name code e)) its.name
 
-  text_short : (code : List ℕ) (abend : AbendCode) → length code ≤ 8 → length (abend_text code abend) ≤ 100
+  text_short : (code : List ℕ) (abend : AbendCode) → length code ≤ 8 → length (dfs555i_text code abend) ≤ 100
   text_short code abend short =
       let first : List ℕ = codes "DFS555I TRAN " ++ code in
       let second : List ℕ = first ++ codes " ABEND U" in
@@ -100,11 +100,11 @@ module _ (system : System) (valid : IsSystem system) (lasting : LastingState) (s
 
   pub abend_fits : (id : ℕ) (message : Message) (abend : AbendCode) → message_at lasting.messages id ≡ Some message → sent_bytes (abend_outputs message abend) ≤ 65536
   abend_fits id message abend found =
-      let known = first_of (is_terminal system message.origin && is_code system message.code) _ (found_passes (is_known system lasting) (λ m. m.id == id) lasting.messages message s.known found) in
-      let text = abend_text message.code abend in
+      let known = first_of (is_system_terminal system message.origin && is_system_code system message.code) _ (found_passes (is_message_known system lasting) (λ m. m.id == id) lasting.messages message s.known found) in
+      let text = dfs555i_text message.code abend in
       omega (
         arith,
-        text_short message.code abend (code_short message.code (both_second (is_terminal system message.origin) (is_code system message.code) known)),
+        text_short message.code abend (code_short message.code (both_second (is_system_terminal system message.origin) (is_system_code system message.code) known)),
         sum_by-cons segment_length text [],
         sum_by-cons ended_bytes (record { to = message.origin; segments = text ∷ [] }) [],
       ) where

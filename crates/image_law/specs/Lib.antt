@@ -1,7 +1,7 @@
-pub mod Sound
-pub mod Standing
-pub mod Steps
+pub mod SoundState
+pub mod StandingState
+pub mod StepNeeds
 pub mod Records
-pub mod Counted
-pub mod Sending
-pub mod Rooms
+pub mod SegmentCounts
+pub mod SentMessages
+pub mod SoundMachine

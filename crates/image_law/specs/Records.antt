@@ -3,13 +3,13 @@ use Rattle.std.specs.Prelude.{zero, suc, Bool, true, false, not, List, filter}
 use Rattle.log_records.specs.declared.record.Record.{Record}
 use Rattle.log_records.specs.declared.record.Record.TheVariants.{Input, Reply, Completed, Change}
 
-abbrev pub is_change : Record → Bool
-is_change (Change unit database slot before after) = true
-is_change _ = false
+abbrev pub is_change_record : Record → Bool
+is_change_record (Change unit database slot before after) = true
+is_change_record _ = false
 
 -- all but the changes of slots
 abbrev pub without_changes : List Record → List Record
-without_changes records = filter (λ r. not (is_change r)) records
+without_changes records = filter (λ r. not (is_change_record r)) records
 
 -- a record that has no effect before its unit's sync point
 abbrev pub waits : Record → Bool

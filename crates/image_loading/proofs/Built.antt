@@ -9,9 +9,9 @@ use Rattle.model_data.specs.declared.row.Row.{Row}
 use Rattle.model_data.specs.Path.{root_of}
 use Rattle.model_data.specs.Record.{record_root}
 use Rattle.model_data.proofs.Prefixes.{record_root_is}
-use Rattle.seg_store.specs.Slots.{is_free, image_root, has_root, slot_of, place_of, free_slots, IsSlot}
+use Rattle.seg_store.specs.Slots.{is_slot_free, image_root, has_root, slot_of_root, place_of, free_slots, IsSlot}
 use Rattle.seg_store.proofs.SlotRows.{same_key, set_itself}
-use Rattle.image_loading.specs.Building.{has_same_root, shared_at, apart, is_there, with_new}
+use Rattle.image_loading.specs.SharedRoots.{has_same_root, shared_at, apart, is_root_there, with_new}
 
 -- a slot without a root has no record
 pub no_root : (dbd : Dbd) (image : List Row) → IsSlot dbd image → record_root image ≡ None → image ≡ []
@@ -20,7 +20,7 @@ no_root dbd image h e =
     (λ r. let clash : None ≡ Some (image_root image) = sym e ∙ record_root_is dbd.types (image_root image) image r.whole in absurd (cc)) h
 
 -- which root a slot has
-pub some_root : (dbd : Dbd) (image : List Row) (root : List ℕ) → IsSlot dbd image → record_root image ≡ Some root → (is_free image ≡ false) × (image_root image ≡ root)
+pub some_root : (dbd : Dbd) (image : List Row) (root : List ℕ) → IsSlot dbd image → record_root image ≡ Some root → (is_slot_free image ≡ false) × (image_root image ≡ root)
 some_root dbd [] root h e = let clash : None ≡ Some root = e in absurd (cc)
 some_root dbd (row ∷ rows) root h e =
     ⊎_elim (λ none. let clash : row ∷ rows ≡ [] = none in absurd (cc))
@@ -66,7 +66,7 @@ none_same : (xs : List (List Row)) → list_any (has_same_root []) xs ≡ false
 none_same [] = refl
 none_same (x ∷ xs) = none_same xs
 
-pub there_is : (image : List Row) (n : ℕ) (later : List (List Row)) → is_there image (free_slots n ++ apart later) ≡ list_any (has_same_root image) later
+pub there_is : (image : List Row) (n : ℕ) (later : List (List Row)) → is_root_there image (free_slots n ++ apart later) ≡ list_any (has_same_root image) later
 there_is [] n later = sym (none_same later)
 there_is (row ∷ rows) n later =
     place_any (has_root (root_of row.path)) (free_slots n ++ apart later)
@@ -97,7 +97,7 @@ slots_more k image later =
     by true = free_last k (apart later)
     by false = ap (λ ys. set ys k image) (free_last k (apart later)) ∙ set_last k [] image (apart later)
 
-pub found_more : (first k : ℕ) (image : List Row) (later : List (List Row)) → cond (is_there image (free_slots (suc k) ++ apart later)) (Some (first + k)) (shared_at (first + suc k) later) ≡ shared_at (first + k) (image ∷ later)
+pub found_more : (first k : ℕ) (image : List Row) (later : List (List Row)) → cond (is_root_there image (free_slots (suc k) ++ apart later)) (Some (first + k)) (shared_at (first + suc k) later) ≡ shared_at (first + k) (image ∷ later)
 found_more first k image later =
     let next : first + suc k ≡ first + k + 1 = omega arith in
     ap (λ b. cond b (Some (first + k)) (shared_at (first + suc k) later)) (there_is image (suc k) later)
@@ -117,9 +117,9 @@ all_apart at (image ∷ images) e = by (list_any (has_same_root image) images) r
 pub none_new : (number : ℕ) (image : List Row) (slots : List (List Row)) → slice_get slots number ≡ Some [] → image ≡ [] → slots ≡ with_new number image slots
 none_new number image slots free none = sym (ap (λ im. with_new number im slots) none ∙ set_itself slots number [] free)
 
-pub new_there : (number : ℕ) (image : List Row) (slots : List (List Row)) (root : List ℕ) (b : Bool) → (is_free image ≡ false) × (image_root image ≡ root) → b ≡ is_some (slot_of root slots) → is_there image slots ≡ b
+pub new_there : (number : ℕ) (image : List Row) (slots : List (List Row)) (root : List ℕ) (b : Bool) → (is_slot_free image ≡ false) × (image_root image ≡ root) → b ≡ is_some (slot_of_root root slots) → is_root_there image slots ≡ b
 new_there number image slots root b s e =
-    ap (λ f. not f && is_some (slot_of (image_root image) slots)) s.0 ∙ (ap (λ k. is_some (slot_of k slots)) s.1 ∙ sym e)
+    ap (λ f. not f && is_some (slot_of_root (image_root image) slots)) s.0 ∙ (ap (λ k. is_some (slot_of_root k slots)) s.1 ∙ sym e)
 
 -- what is popped stands behind the others
 pub popped : (before items later : List (List Row)) (image : List Row) (all : List (List Row)) → before ≡ items ++ image ∷ [] → before ++ later ≡ all → later ≡ drop (length before) all

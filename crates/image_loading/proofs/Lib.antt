@@ -3,7 +3,7 @@ pub mod Spelled
 mod Slotted
 mod SlotsRead
 mod Built
-mod SlotLoadingLoaded
+mod StoreLoaded
 pub mod Held
 mod Copying
 pub mod Lowest

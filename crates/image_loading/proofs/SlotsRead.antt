@@ -12,14 +12,14 @@ use Rattle.std.proofs.lemmas.Cmp.{ranked}
 use Rattle.tm_types.specs.declared.dbd.Dbd.{Dbd}
 use Rattle.tm_types.specs.SegTypes.{IsHierarchy}
 use Rattle.model_data.specs.declared.row.Row.{Row}
-use Rattle.model_image.specs.Slots.{Slot, Source, Named, Spelled, source_of, slots_by, rows_of_bytes, is_image, is_wrong_length, has_wrong_length, has_no_record, rows_in}
+use Rattle.model_image.specs.Slots.{SlotOnImage, Source, Named, Spelled, source_of, slots_by, rows_of_bytes, is_image, is_wrong_length, has_wrong_length, has_no_record, slot_rows}
 use Rattle.seg_store.specs.Slots.{IsSlot}
 use Rattle.seg_store.proofs.SlotRows.{record_image_root}
 use Rattle.tm_disk.specs.Disk.{Image, sector_at}
-use Rattle.image_loading.specs.Loading.{given_to, slot_from, slots_in}
+use Rattle.image_loading.specs.LoadedStore.{given_to, slot_from, image_slots_in}
 use Rattle.image_loading.specs.declared.fault.LoadFault.{LoadFault}
 use Rattle.image_loading.specs.declared.fault.LoadFault.TheVariants as faults
-use Rattle.image_loading.specs.Reading.{IsSlotRows, MaySlot, TellsSlot, TellsRead, head_given, behind, place_of}
+use Rattle.image_loading.specs.ReadSlots.{IsSlotRows, MaySlot, TellsSlot, TellsRead, head_given, given_behind, slot_place_of}
 use Rattle.image_loading.proofs.Slotted.{Ascends}
 use Rattle.image_loading.proofs.Spelled.{rows_spell}
 
@@ -79,7 +79,7 @@ ahead_head number given (s ∷ rest) h = h.same number (omega arith) ∙ by (eqb
         ∙ (not_given number rest (weaker (suc number) (suc s.0) rest (omega (arith, more)) parts.0)
         ∙ sym (ap (λ b. cond b (Some s.1) None) q))
 
-pub ahead_next : (number : ℕ) (given rest : List (ℕ × List ℕ)) → IsAhead number given rest → IsAhead (number + 1) given (behind number rest)
+pub ahead_next : (number : ℕ) (given rest : List (ℕ × List ℕ)) → IsAhead number given rest → IsAhead (number + 1) given (given_behind number rest)
 ahead_next number given [] h = record { same = λ m le. h.same m (omega (arith, le)); from = tt; ascends = h.ascends }
 ahead_next number given (s ∷ rest) h = by (eqb s.0 number) refl
   where
@@ -105,7 +105,7 @@ ahead_next number given (s ∷ rest) h = by (eqb s.0 number) refl
         })
 
 -- all that holds of the given ones holds of those behind
-pub behind_all : (P : ℕ × List ℕ → Type 0) (number : ℕ) (rest : List (ℕ × List ℕ)) → AllByRecursion P rest → AllByRecursion P (behind number rest)
+pub behind_all : (P : ℕ × List ℕ → Type 0) (number : ℕ) (rest : List (ℕ × List ℕ)) → AllByRecursion P rest → AllByRecursion P (given_behind number rest)
 behind_all P number [] h = tt
 behind_all P number (s ∷ rest) h =
     elim (eqb s.0 number) as (λ b. AllByRecursion P (cond b rest (s ∷ rest))) [
@@ -123,46 +123,46 @@ head_image P number (s ∷ rest) h =
     ]
 
 -- the slots from one on
-pub left_next : (f : ℕ → Slot) (roots number : ℕ) → number < roots → slots_by f (roots - number) number ≡ f number ∷ slots_by f (roots - (number + 1)) (number + 1)
+pub left_next : (f : ℕ → SlotOnImage) (roots number : ℕ) → number < roots → slots_by f (roots - number) number ≡ f number ∷ slots_by f (roots - (number + 1)) (number + 1)
 left_next f roots number lt = ap (λ n. slots_by f n number) count
   where
     count : roots - number ≡ suc (roots - (number + 1))
     count = omega (arith, lt)
 
-pub left_none : (f : ℕ → Slot) (roots number : ℕ) → roots ≤ number → slots_by f (roots - number) number ≡ []
+pub left_none : (f : ℕ → SlotOnImage) (roots number : ℕ) → roots ≤ number → slots_by f (roots - number) number ≡ []
 left_none f roots number le = ap (λ n. slots_by f n number) count
   where
     count : roots - number ≡ 0
     count = omega (arith, le)
 
 -- what is read so far, and what the slots still to come add
-pub record IsReadTo (all left : List Slot) (images : List (List Row)) (broken : Option ℕ) : Type 0 where
+pub record IsReadTo (all left : List SlotOnImage) (images : List (List Row)) (broken : Option ℕ) : Type 0 where
   pub right : find has_wrong_length all ≡ find has_wrong_length left
-  pub no_record : place_of (find has_no_record all) ≡ option_or broken (place_of (find has_no_record left))
-  pub each : map rows_in all ≡ images ++ map rows_in left
+  pub no_record : slot_place_of (find has_no_record all) ≡ option_or broken (slot_place_of (find has_no_record left))
+  pub each : map slot_rows all ≡ images ++ map slot_rows left
 
-pub read_begins : (all : List Slot) → IsReadTo all all [] None
+pub read_begins : (all : List SlotOnImage) → IsReadTo all all [] None
 read_begins all = record { right = refl; no_record = refl; each = refl }
 
-pub read_more : (all left : List Slot) (slot : Slot) (images : List (List Row)) (broken : Option ℕ) (rows : Option (List Row)) → IsReadTo all (slot ∷ left) images broken
+pub read_more : (all left : List SlotOnImage) (slot : SlotOnImage) (images : List (List Row)) (broken : Option ℕ) (rows : Option (List Row)) → IsReadTo all (slot ∷ left) images broken
     → IsSlotRows slot.dbd slot.source rows → IsReadTo all left (images ++ unwrap_or rows [] ∷ []) (option_or broken (cond (is_some rows) None (Some slot.place)))
 read_more all left slot images broken rows h s = record {
   right = h.right ∙ ap (λ b. cond b (Some slot) (find has_wrong_length left)) s.right;
-  no_record = h.no_record ∙ (ap (λ b. option_or broken (place_of (cond b (Some slot) (find has_no_record left)))) s.none ∙ by broken rows);
-  each = h.each ∙ (ap (λ o. images ++ unwrap_or o [] ∷ map rows_in left) s.spelled ∙ sym (append_assoc images (unwrap_or rows [] ∷ []) (map rows_in left)));
+  no_record = h.no_record ∙ (ap (λ b. option_or broken (slot_place_of (cond b (Some slot) (find has_no_record left)))) s.none ∙ by broken rows);
+  each = h.each ∙ (ap (λ o. images ++ unwrap_or o [] ∷ map slot_rows left) s.spelled ∙ sym (append_assoc images (unwrap_or rows [] ∷ []) (map slot_rows left)));
 }
   where
-    by : (b : Option ℕ) (r : Option (List Row)) → option_or b (place_of (cond (not (is_some r)) (Some slot) (find has_no_record left)))
-        ≡ option_or (option_or b (cond (is_some r) None (Some slot.place))) (place_of (find has_no_record left))
+    by : (b : Option ℕ) (r : Option (List Row)) → option_or b (slot_place_of (cond (not (is_some r)) (Some slot) (find has_no_record left)))
+        ≡ option_or (option_or b (cond (is_some r) None (Some slot.place))) (slot_place_of (find has_no_record left))
     by None None = refl
     by None (Some rs) = refl
     by (Some p) None = refl
     by (Some p) (Some rs) = refl
 
 -- a slot of the wrong length is the first
-pub read_wrong : (all left : List Slot) (slot : Slot) (images : List (List Row)) (broken : Option ℕ) → IsReadTo all (slot ∷ left) images broken → has_wrong_length slot ≡ true
-    → place_of (find has_wrong_length all) ≡ Some slot.place
-read_wrong all left slot images broken h e = ap place_of (h.right ∙ ap (λ b. cond b (Some slot) (find has_wrong_length left)) e)
+pub read_wrong : (all left : List SlotOnImage) (slot : SlotOnImage) (images : List (List Row)) (broken : Option ℕ) → IsReadTo all (slot ∷ left) images broken → has_wrong_length slot ≡ true
+    → slot_place_of (find has_wrong_length all) ≡ Some slot.place
+read_wrong all left slot images broken h e = ap slot_place_of (h.right ∙ ap (λ b. cond b (Some slot) (find has_wrong_length left)) e)
 
 -- what is given is of the right length, and a record or none
 pub named_rows : (dbd : Dbd) (bytes : List ℕ) (rows : Option (List Row)) → rows ≡ rows_of_bytes dbd bytes → IsTrue (is_image dbd bytes) → IsSlotRows dbd (Named bytes) rows
@@ -172,7 +172,7 @@ named_rows dbd bytes rows e image = record { right = refl; none = by rows (ap is
     by None f = absurd (false≢true f)
     by (Some rs) f = refl
 
-pub spelled_rows : (dbd : Dbd) (sector : List ℕ) (bytes : List ℕ) (rows : Option (List Row)) → rows ≡ rows_of_bytes dbd bytes → bytes ≡ Rattle.model_image.specs.Slots.bytes_in sector
+pub spelled_rows : (dbd : Dbd) (sector : List ℕ) (bytes : List ℕ) (rows : Option (List Row)) → rows ≡ rows_of_bytes dbd bytes → bytes ≡ Rattle.model_image.specs.Slots.slot_bytes_in sector
     → is_wrong_length (Spelled sector) ≡ false → IsSlotRows dbd (Spelled sector) rows
 spelled_rows dbd sector bytes rows e b right = record {
   right = right;
@@ -181,8 +181,8 @@ spelled_rows dbd sector bytes rows e b right = record {
 }
 
 -- before the first slot
-pub read_starts : (image : Image) (dbd : Dbd) (first : ℕ) (given : List (ℕ × List ℕ)) → IsReadTo (slots_in image dbd first given) (slots_by (slot_from image dbd first given) (dbd.roots - 0) 0) [] None
-unfolding slots_in
+pub read_starts : (image : Image) (dbd : Dbd) (first : ℕ) (given : List (ℕ × List ℕ)) → IsReadTo (image_slots_in image dbd first given) (slots_by (slot_from image dbd first given) (dbd.roots - 0) 0) [] None
+unfolding image_slots_in
 read_starts image dbd first given =
     subst (λ n. IsReadTo (slots_by (slot_from image dbd first given) dbd.roots 0) (slots_by (slot_from image dbd first given) n 0) [] None) count
     (read_begins (slots_by (slot_from image dbd first given) dbd.roots 0))
@@ -191,7 +191,7 @@ read_starts image dbd first given =
     count = omega arith
 
 -- behind the last
-pub read_ends : (all : List Slot) (f : ℕ → Slot) (roots number : ℕ) (images : List (List Row)) (broken : Option ℕ) → roots ≤ number → IsReadTo all (slots_by f (roots - number) number) images broken → IsReadTo all [] images broken
+pub read_ends : (all : List SlotOnImage) (f : ℕ → SlotOnImage) (roots number : ℕ) (images : List (List Row)) (broken : Option ℕ) → roots ≤ number → IsReadTo all (slots_by f (roots - number) number) images broken → IsReadTo all [] images broken
 read_ends all f roots number images broken le h = subst (λ left. IsReadTo all left images broken) (left_none f roots number le) h
 
 -- the source of a slot that is read
@@ -202,7 +202,7 @@ module _ (old mid : Image) (dbd : Dbd) (first number at : ℕ) (given rest : Lis
   pub rows_here : (rows : Option (List Row)) → IsSlotRows dbd (source_of bytes (sector_at mid at)) rows → IsSlotRows dbd (slot_from old dbd first given number).source rows
   rows_here rows h = subst (λ (s : Source). IsSlotRows dbd s rows) source_is h
 
-  pub wrong_here : (fault : LoadFault) (all left : List Slot) (images : List (List Row)) (broken : Option ℕ) → TellsSlot (Err fault) dbd (source_of bytes (sector_at mid at)) at
+  pub wrong_here : (fault : LoadFault) (all left : List SlotOnImage) (images : List (List Row)) (broken : Option ℕ) → TellsSlot (Err fault) dbd (source_of bytes (sector_at mid at)) at
       → IsReadTo all (slot_from old dbd first given number ∷ left) images broken → TellsRead (Err fault) all
   wrong_here (faults.Bad rule sector) all left images broken t h =
       (read_wrong all left (slot_from old dbd first given number) images broken h (ap is_wrong_length (sym source_is) ∙ t.0) ∙ ap Some (sym (t.2 ∙ place)), t.1)
@@ -213,7 +213,7 @@ pub slot_or : (dbd : Dbd) (rows : Option (List Row)) → MaySlot dbd rows → Is
 slot_or dbd None h = inl refl
 slot_or dbd (Some rows) h = h
 
-pub read_next : (all left : List Slot) (slot : Slot) (images : List (List Row)) (broken : Option ℕ) (rows : Option (List Row)) → IsReadTo all (slot ∷ left) images broken → IsSlotRows slot.dbd slot.source rows
+pub read_next : (all left : List SlotOnImage) (slot : SlotOnImage) (images : List (List Row)) (broken : Option ℕ) (rows : Option (List Row)) → IsReadTo all (slot ∷ left) images broken → IsSlotRows slot.dbd slot.source rows
     → (image : List Row) (images' : List (List Row)) (broken' : Option ℕ) → images' ≡ images ++ image ∷ [] → image ≡ unwrap_or rows [] → broken' ≡ option_or broken (cond (is_some rows) None (Some slot.place))
     → IsReadTo all left images' broken'
 read_next all left slot images broken rows h s image images' broken' pushed image_is broken_is =

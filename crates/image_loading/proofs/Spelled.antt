@@ -8,8 +8,8 @@ use Rattle.tm_types.specs.declared.dbd.Dbd.{Dbd}
 use Rattle.tm_types.specs.SegTypes.{IsHierarchy}
 use Rattle.model_data.specs.declared.row.Row.{Row}
 use Rattle.model_data.specs.Path.{root_of}
-use Rattle.model_data.specs.Record.{IsUnder, Spells, SpellsRecord, spelling, row_spelling, record_limit}
-use Rattle.model_data.specs.Reading.{last_path, next_row}
+use Rattle.model_data.specs.Record.{IsUnder, Spells, SpellsRecord, rows_spelling, row_spelling, record_limit}
+use Rattle.model_data.specs.RowsOfBytes.{last_path, next_row}
 use Rattle.model_data.proofs.Under.{last_path_push}
 use Rattle.model_data.proofs.NextRow.{row_known}
 use Rattle.model_data.proofs.Prefixes.{next_under, none_under, row_spelled, length_spelling, length_row}
@@ -17,31 +17,31 @@ use Rattle.model_image.specs.Slots.{from_row, rows_by, rows_of_bytes}
 
 module _ (types : List SegType) (all : IsHierarchy types) where
   -- rows of a record are read from their spelling
-  read_all : (more front : List Row) (root : List ℕ) → IsUnder types root (front ++ more) → (n : ℕ) → length (spelling more) ≤ n → rows_by n types (last_path front) (spelling more) ≡ Some more
+  read_all : (more front : List Row) (root : List ℕ) → IsUnder types root (front ++ more) → (n : ℕ) → length (rows_spelling more) ≤ n → rows_by n types (last_path front) (rows_spelling more) ≡ Some more
   read_all [] front root under zero fits = refl
   read_all [] front root under (suc n) fits = refl
   read_all (row ∷ more) front root under zero fits = absurd (omega (arith, fits, length_spelling row more, length_row row))
   read_all (row ∷ more) front root under (suc n) fits =
-      let next : next_row types (last_path front) (spelling (row ∷ more)) ≡ Some row = row_known types all front more row root under (spelling more) in
+      let next : next_row types (last_path front) (rows_spelling (row ∷ more)) ≡ Some row = row_known types all front more row root under (rows_spelling more) in
       let last : last_path (front ++ row ∷ []) ≡ row.path = last_path_push front row in
       let joined : (front ++ row ∷ []) ++ more ≡ front ++ row ∷ more = append_assoc front (row ∷ []) more in
-      let rest : rows_by n types row.path (spelling more) ≡ Some more =
-      ap (λ path. rows_by n types path (spelling more)) (sym last)
+      let rest : rows_by n types row.path (rows_spelling more) ≡ Some more =
+      ap (λ path. rows_by n types path (rows_spelling more)) (sym last)
       ∙ read_all more (front ++ row ∷ []) root (subst (IsUnder types root) (sym joined) under) n (omega (arith, fits, length_spelling row more, length_row row)) in
-      ap (from_row (rows_by n types) (row.bytes ++ spelling more)) next
-      ∙ ap (option_map (λ rows. row ∷ rows)) (ap (rows_by n types row.path) (drop_at row.bytes (spelling more) (length row.bytes) refl) ∙ rest)
+      ap (from_row (rows_by n types) (row.bytes ++ rows_spelling more)) next
+      ∙ ap (option_map (λ rows. row ∷ rows)) (ap (rows_by n types row.path) (drop_at row.bytes (rows_spelling more) (length row.bytes) refl) ∙ rest)
 
   -- what is read so far
   record IsRead (front rows : List Row) (bytes : List ℕ) : Type 0 where
     pub root : List ℕ
     pub under : IsUnder types root (front ++ rows)
-    pub spelled : spelling rows ≡ bytes
+    pub spelled : rows_spelling rows ≡ bytes
 
   read_none : (front : List Row) (root : List ℕ) → IsUnder types root front → (rows : List Row) → rows ≡ [] → IsRead front rows []
   read_none front root under rows none = record {
     root = root;
     under = subst (λ rs. IsUnder types root rs) (sym (append-nil front) ∙ ap (λ rs. front ++ rs) (sym none)) under;
-    spelled = ap spelling none;
+    spelled = ap rows_spelling none;
   }
 
   -- and what is read is spelled so
@@ -111,7 +111,7 @@ rows_spell dbd all bytes rows e = by (leb (length bytes) (record_limit dbd)) ref
             };
             spelled = r.spelled;
           };
-          none = λ none. sym r.spelled ∙ ap spelling none;
+          none = λ none. sym r.spelled ∙ ap rows_spelling none;
         }
 
 -- bytes that spell no record are none

@@ -6,23 +6,23 @@ use Rattle.tm_disk.specs.Disk.{Image}
 use Rattle.model_system.specs.System.{System}
 use Rattle.model_image.specs.Areas.{data_first}
 use Rattle.model_image.specs.Faults.{Fault}
-use Rattle.model_image.specs.Slots.{Slot, is_image}
-use Rattle.image_loading.specs.Loading.{slots_in}
+use Rattle.model_image.specs.Slots.{SlotOnImage, is_image}
+use Rattle.image_loading.specs.LoadedStore.{image_slots_in}
 
 -- the slots of the databases from one on, which has this place, each with those that are given bytes
-abbrev pub databases_in : System → Image → List (List (ℕ × List ℕ)) → ℕ → List Dbd → List (List Slot)
-databases_in system image [] place dbds = []
-databases_in system image (slots ∷ given) place [] = []
-databases_in system image (slots ∷ given) place (dbd ∷ dbds) = slots_in image dbd (data_first system place) slots ∷ databases_in system image given (place + 1) dbds
+abbrev pub slots_of_databases : System → Image → List (List (ℕ × List ℕ)) → ℕ → List Dbd → List (List SlotOnImage)
+slots_of_databases system image [] place dbds = []
+slots_of_databases system image (slots ∷ given) place [] = []
+slots_of_databases system image (slots ∷ given) place (dbd ∷ dbds) = image_slots_in image dbd (data_first system place) slots ∷ slots_of_databases system image given (place + 1) dbds
 
 -- the lower rule of two; of one rule the first
-abbrev pub lower_of : Fault → Fault → Fault
-lower_of one other = if nat_le one.0 other.0 then one else other
+abbrev pub lower_fault : Fault → Fault → Fault
+lower_fault one other = if nat_le one.0 other.0 then one else other
 
-abbrev pub lowest : Option Fault → Option Fault → Option Fault
-lowest None other = other
-lowest (Some one) None = Some one
-lowest (Some one) (Some other) = Some (lower_of one other)
+abbrev pub lowest_fault : Option Fault → Option Fault → Option Fault
+lowest_fault None other = other
+lowest_fault (Some one) None = Some one
+lowest_fault (Some one) (Some other) = Some (lower_fault one other)
 
 -- what each slot is given spells a record of its database or none
 abbrev pub AreImages : System → List (List (ℕ × List ℕ)) → Type 0

@@ -1,5 +1,5 @@
-pub mod Loading
-pub mod Reading
-pub mod Building
+pub mod LoadedStore
+pub mod ReadSlots
+pub mod SharedRoots
 pub mod Databases
-pub mod ImageLoadingLoading
+pub mod LoadedStores

@@ -2,8 +2,8 @@
 ghost use Rattle.std.specs.Prelude.{◌≡◌, ◌+◌, ◌<◌, ◌^◌, [], IfOk, IfErr, OnOk, None, Some, length, if◌then◌else◌, slice_get};
 ghost use Rattle.std.specs.List.{AllByRecursion};
 ghost use Rattle.seg_store.specs.Slots.{AreSlots, IsSlot};
-ghost use Rattle.image_loading.specs.Loading.{IsMade};
-ghost use Rattle.image_loading.specs.Building.{shared_at, is_there, with_new, SharesRoot};
+ghost use Rattle.image_loading.specs.LoadedStore.{IsStoreMade};
+ghost use Rattle.image_loading.specs.SharedRoots.{shared_at, is_root_there, with_new, SharesRoot};
 
 use crate::LoadFault;
 use seg_rows::RecordImage;
@@ -21,7 +21,7 @@ pub fn build(
     requires count { length images.items ≡ dbd.now.roots }
     requires each { AllByRecursion (IsSlot dbd.now) images.items }
     requires fits { first + dbd.now.roots < 2 ^ 32 }
-    ensures made { IfOk result (IsMade dbd.now) }
+    ensures made { IfOk result (IsStoreMade dbd.now) }
     ensures slots { IfOk result (λ store. store.slots ≡ images.items) }
     ensures alone { OnOk result (shared_at first images.items ≡ None) }
     ensures shared { IfErr result (SharesRoot first images.items) }
@@ -58,7 +58,7 @@ fn add(
     requires free { slice_get store.old.slots number ≡ Some [] }
     requires valid { AreSlots store.old.dbd store.old.slots }
     ensures slots { store.new.slots ≡ with_new number image store.old.slots }
-    ensures found { result ≡ (if is_there image store.old.slots then Some (first + number) else found) }
+    ensures found { result ≡ (if is_root_there image store.old.slots then Some (first + number) else found) }
     ensures valid { AreSlots store.new.dbd store.new.slots }
     ensures database { store.new.dbd ≡ store.old.dbd }
 {

@@ -1,6 +1,6 @@
 //! What a slot's bytes and a data sector spell.
 ghost use Rattle.std.specs.Prelude.{◌≡◌, true, false, length, IfOk, MatchOption};
-ghost use Rattle.model_image.specs.Slots.{Spelled, bytes_in, is_wrong_length, rows_of_bytes, used_in};
+ghost use Rattle.model_image.specs.Slots.{Spelled, slot_bytes_in, is_wrong_length, rows_of_bytes, used_in};
 
 use restart_data::all_zero;
 use seg_rows::{DecodeFault, RecordImage, decode_record};
@@ -28,7 +28,7 @@ pub fn image_of(alloc: Global, dbd: &Dbd, bytes: &[u8]) -> Result<Option<RecordI
 /// The bytes of a record in a data sector; None exactly where it says that there are more than 4,000, or where other bytes
 /// than zeros stand behind them.
 pub fn bytes_in(sector: &Sector) -> Option<&[u8]>
-    ensures { MatchOption result (is_wrong_length (Spelled sector.now) ≡ true) (λ bytes. (bytes.now ≡ bytes_in sector.now) × (is_wrong_length (Spelled sector.now) ≡ false)) }
+    ensures { MatchOption result (is_wrong_length (Spelled sector.now) ≡ true) (λ bytes. (bytes.now ≡ slot_bytes_in sector.now) × (is_wrong_length (Spelled sector.now) ≡ false)) }
 {
     let bytes = sector.bytes();
     let used = used(bytes);

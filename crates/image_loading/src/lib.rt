@@ -13,8 +13,8 @@
 #![tactic(auto)]
 
 mod building;
+mod databases;
 mod fault;
-mod image_loading_loading;
 mod judging;
 mod loading;
 mod reading;
@@ -25,8 +25,8 @@ mod writing;
 ghost use Rattle.std.specs.Prelude.{◌≡◌, ◌≤◌, length, sum_by};
 ghost use Rattle.model_image.specs.Areas as areas;
 
+pub use databases::{Loaded, load_all};
 pub use fault::LoadFault;
-pub use image_loading_loading::{Loaded, load_all};
 pub use judging::{bytes_in, image_of};
 pub use loading::{load, load_store};
 pub use slots::Slots;

@@ -4,7 +4,7 @@ ghost use Rattle.std.specs.List.{AllByRecursion};
 ghost use Rattle.tm_disk.specs.Disk.{Keeps};
 ghost use Rattle.model_image.specs.Slots.{is_image};
 ghost use Rattle.seg_store.specs.Slots.{rows_of_slots};
-ghost use Rattle.image_loading.specs.Loading.{slots_in, store_in, IsMade, TellsSlots, LoadCause};
+ghost use Rattle.image_loading.specs.LoadedStore.{image_slots_in, store_in, IsStoreMade, TellsSlots, LoadCause};
 
 use crate::building::build;
 use crate::reading::read_slots;
@@ -28,9 +28,9 @@ pub fn load_store<D: Disk>(
     requires area { first + dbd.now.roots ≤ (D.state disk.old).size }
     requires given { AllByRecursion (λ s. IsTrue (is_image dbd.now s.1)) given.now }
     // A store of the database.
-    ensures made { IfOk result (IsMade dbd.now) }
+    ensures made { IfOk result (IsStoreMade dbd.now) }
     // It has the slots as the disk reads.
-    ensures value { IsTrue (D.state disk.old).tells → TellsSlots result (slots_in (D.state disk.old).shown dbd.now first given.now) }
+    ensures value { IsTrue (D.state disk.old).tells → TellsSlots result (image_slots_in (D.state disk.old).shown dbd.now first given.now) }
     ensures keeps { Keeps (D.state disk.old) (D.state disk.new) }
     ensures until_stop { (D.state disk.new).until_stop ≡ (D.state disk.old).until_stop }
     ensures cause { LoadCause result (D.state disk.old) (D.state disk.new) }
@@ -55,10 +55,10 @@ pub fn load<D: Disk>(
 ) -> Result<(Store, PlainRows), LoadFault>
     requires area { first + dbd.now.roots ≤ (D.state disk.old).size }
     requires given { AllByRecursion (λ s. IsTrue (is_image dbd.now s.1)) given.now }
-    ensures made { IfOk result (λ loaded. IsMade dbd.now loaded.0) }
+    ensures made { IfOk result (λ loaded. IsStoreMade dbd.now loaded.0) }
     ensures rows_database { IfOk result (λ loaded. loaded.1.dbd ≡ dbd.now) }
     ensures all_rows { IfOk result (λ loaded. loaded.1.rows ≡ rows_of_slots loaded.0.slots) }
-    ensures value { IsTrue (D.state disk.old).tells → TellsSlots (store_in result) (slots_in (D.state disk.old).shown dbd.now first given.now) }
+    ensures value { IsTrue (D.state disk.old).tells → TellsSlots (store_in result) (image_slots_in (D.state disk.old).shown dbd.now first given.now) }
     ensures keeps { Keeps (D.state disk.old) (D.state disk.new) }
     ensures until_stop { (D.state disk.new).until_stop ≡ (D.state disk.old).until_stop }
     ensures cause { LoadCause result (D.state disk.old) (D.state disk.new) }

@@ -8,9 +8,9 @@ ghost use Rattle.std.specs.Ordering.{nat_cmp};
 ghost use Rattle.tm_disk.specs.Disk.{Keeps, sector_at};
 ghost use Rattle.model_image.specs.Slots.{Spelled, is_image, rows_of_bytes, source_of};
 ghost use Rattle.seg_store.specs.Slots.{IsSlot};
-ghost use Rattle.image_loading.specs.Loading.{slots_in, LoadCause};
+ghost use Rattle.image_loading.specs.LoadedStore.{image_slots_in, LoadCause};
 ghost use Rattle.image_loading.specs.declared.fault.LoadFault.TheVariants.{Memory as memory};
-ghost use Rattle.image_loading.specs.Reading.{TellsSlot, TellsRead, MaySlot, head_given, behind};
+ghost use Rattle.image_loading.specs.ReadSlots.{TellsSlot, TellsRead, MaySlot, head_given, given_behind};
 
 use crate::LoadFault;
 use crate::judging::{bytes_in, image_of};
@@ -39,7 +39,7 @@ pub fn read_slots<D: Disk>(
     requires given { AllByRecursion (λ s. IsTrue (is_image dbd.now s.1)) given.now }
     ensures count { IfOk result (λ read. length read.images.items ≡ dbd.now.roots) }
     ensures each { IfOk result (λ read. AllByRecursion (IsSlot dbd.now) read.images.items) }
-    ensures value { IsTrue (D.state disk.old).tells → TellsRead result (slots_in (D.state disk.old).shown dbd.now first given.now) }
+    ensures value { IsTrue (D.state disk.old).tells → TellsRead result (image_slots_in (D.state disk.old).shown dbd.now first given.now) }
     ensures keeps { Keeps (D.state disk.old) (D.state disk.new) }
     ensures until_stop { (D.state disk.new).until_stop ≡ (D.state disk.old).until_stop }
     ensures cause { LoadCause result (D.state disk.old) (D.state disk.new) }
@@ -134,7 +134,7 @@ fn head_given(rest: &[(u16, Bytes)], number: u16) -> Option<&[u8]>
 }
 
 fn behind(rest: &[(u16, Bytes)], number: u16) -> &[(u16, Bytes)]
-    ensures { result.now ≡ behind number rest.now }
+    ensures { result.now ≡ given_behind number rest.now }
 {
     match rest {
         [slot, others @ ..] if slot.0 == number => others,

@@ -1,7 +1,7 @@
 //! All rows of a store.
 ghost use Rattle.std.specs.Prelude.{◌≡◌, [], IfOk, OnOk, get_or};
 ghost use Rattle.seg_store.specs.Slots.{IsSlot, rows_of_slots, with_rows};
-ghost use Rattle.image_loading.specs.Loading.{IsMade};
+ghost use Rattle.image_loading.specs.LoadedStore.{IsStoreMade};
 
 use seg_rows::{PlainRows, RecordImage, Rows};
 use seg_store::Store;
@@ -10,7 +10,7 @@ use tm_types::{Dbd, Memory};
 
 /// All rows of a store of this database, copied.
 pub fn all_rows(alloc: Global, dbd: &Dbd, store: &Store) -> Result<PlainRows, Memory>
-    requires { IsMade dbd.now store.now }
+    requires { IsStoreMade dbd.now store.now }
     ensures database { IfOk result (λ rows. rows.dbd ≡ dbd.now) }
     ensures rows { IfOk result (λ rows. rows.rows ≡ rows_of_slots store.now.slots) }
 {

@@ -2,9 +2,9 @@
 use Rattle.std.proofs.Common.{◌≡◌, ℕ, zero, suc, ◌+◌, ◌-◌, ◌<◌, ◌^◌, Bool, false, List, length, refl, sym, ◌∙◌, ap, subst, arith, Some, None, IsSome}
 use Rattle.std.specs.Prelude.{Option, if◌then◌else◌}
 use Rattle.tm_disk.specs.Disk.{Image, sector_at}
-use Rattle.log_sectors.specs.Sealed.{opened}
+use Rattle.log_sectors.specs.SealedSector.{opened_payload}
 use Rattle.log_sectors.specs.Chain.{before, chain}
-use Rattle.model_image.specs.Recovered.{is_later, first_later}
+use Rattle.model_image.specs.RecoveredState.{is_later, first_later}
 use Rattle.model_image.proofs.Readings.{opened_not_later}
 
 some_is : (o : Option (List ℕ)) (bytes : List ℕ) → o ≡ Some bytes → IsSome o
@@ -22,19 +22,19 @@ later_on n at k image epoch not behind =
     ∙ ap (λ m. first_later (suc n - suc k) image m epoch) place
 
 by_sector : (n : ℕ) (image : Image) (first sequence epoch : ℕ) → epoch < 2 ^ 64 → (rest : List (List ℕ)) → first_later n image (first + 1) epoch ≡ first_later (n - length rest) image (first + 1 + length rest) epoch
-    → (o : Option (List ℕ)) → opened epoch sequence (sector_at image first) ≡ o → first_later (suc n) image first epoch ≡ first_later (suc n - length (before o rest)) image (first + length (before o rest)) epoch
+    → (o : Option (List ℕ)) → opened_payload epoch sequence (sector_at image first) ≡ o → first_later (suc n) image first epoch ≡ first_later (suc n - length (before o rest)) image (first + length (before o rest)) epoch
 by_sector n image first sequence epoch small rest behind None is =
     let left : suc n ≡ suc n - 0 = omega arith in
     let place : first ≡ first + 0 = omega arith in
     ap (λ m. first_later m image first epoch) left ∙ ap (λ m. first_later (suc n - 0) image m epoch) place
 by_sector n image first sequence epoch small rest behind (Some bytes) is =
-    later_on n first (length rest) image epoch (opened_not_later epoch sequence (sector_at image first) small (some_is (opened epoch sequence (sector_at image first)) bytes is)) behind
+    later_on n first (length rest) image epoch (opened_not_later epoch sequence (sector_at image first) small (some_is (opened_payload epoch sequence (sector_at image first)) bytes is)) behind
 
 -- those of the chain are of no later epoch
 behind_chain : (count : ℕ) (image : Image) (first sequence epoch : ℕ) → epoch < 2 ^ 64 → first_later count image first epoch ≡ first_later (count - length (chain count image first sequence epoch)) image (first + length (chain count image first sequence epoch)) epoch
 behind_chain zero image first sequence epoch small = refl
 behind_chain (suc n) image first sequence epoch small =
-    by_sector n image first sequence epoch small (chain n image (first + 1) (sequence + 1) epoch) (behind_chain n image (first + 1) (sequence + 1) epoch small) (opened epoch sequence (sector_at image first)) refl
+    by_sector n image first sequence epoch small (chain n image (first + 1) (sequence + 1) epoch) (behind_chain n image (first + 1) (sequence + 1) epoch small) (opened_payload epoch sequence (sector_at image first)) refl
 
 module _ (count : ℕ) (image : Image) (first sequence epoch place : ℕ) (small : epoch < 2 ^ 64) (is : place ≡ length (chain count image first sequence epoch)) where
   pub later_behind : first_later (count - place) image (first + place) epoch ≡ first_later count image first epoch

@@ -8,23 +8,24 @@ use Rattle.tm_types.specs.Name.{IsName}
 use Rattle.model_messages.specs.declared.conversation.PadChange.TheVariants.{Stays, New, Ends}
 use Rattle.log_records.specs.declared.record.Record.{Record}
 use Rattle.log_records.specs.declared.record.Record.TheVariants.{Input, Command, Reply, Discarded, Completed, Acknowledged, SyncPoint, Checkpoint, Terminal, Code, Change}
-use Rattle.log_records.specs.Spelling.{number1, number2, number8, flag, name, text, segs, content, record_length, spelling, IsByte, IsNumber, IsAbend, AreSegments, AreInRange, IsRecord}
+use Rattle.log_records.specs.RecordSpelling.{number1, number2, number8, flag, name, text, segs, record_content, record_length, record_spelling, IsByte, IsNumber, IsAbend, AreSegments, AreInRange, IsLogRecord}
 use Rattle.log_records.proofs.Takes.{IsBytes, IsBytes-rest}
 use Rattle.log_records.proofs.Lengths.{eight, text_length, is_record}
-use Rattle.model_image.specs.Cut.{IsCutOff}
+use Rattle.model_image.specs.CutRecords.{IsRecordCutOff}
 use Rattle.image_reading.specs.declared.parts.Part.{Part}
 use Rattle.image_reading.specs.declared.parts.Part.TheVariants.{Exactly, Flag, Any, Abend, Name, Text, Segments}
-use Rattle.image_reading.specs.Parts.{is_front}
-use Rattle.image_reading.specs.Layouts as layouts
-use Rattle.image_reading.specs.Layouts.{messages, answers, tables, is_front_in, is_front_of_any}
+use Rattle.image_reading.specs.RecordParts.{is_front}
+use Rattle.image_reading.specs.RecordLayouts as layouts
+use Rattle.image_reading.specs.RecordLayouts.{messages, answers, tables, is_front_in, is_front_of_any}
 use Rattle.image_reading.proofs.Fronts.{AreParts, is_text, Missing, front_of, is_front_of, bytes_both, bytes_cons}
 use Rattle.image_reading.proofs.Shapes.{AnyFlag, IsTwo, Front, Lays, both, behind_byte, eight_lays, two_lays, one_lays, flag_lays, name_lays, abend_lays, text_lays, segs_lay, TwoBytes, two_bytes, two_is}
+use Rattle.log_records.proofs.LayoutLaws.{small80, small4000, command_values}
 
 -- a record of this content
 pub record Content (bytes : List ℕ) : Type 0 where
   pub whole : Record
   pub fits : AreInRange whole
-  pub is : content whole ≡ bytes
+  pub is : record_content whole ≡ bytes
 
 -- Each text of the layout is the content of a record.
 pub record HasRecords (layout : List Part) : Type 0 where
@@ -36,7 +37,7 @@ whole_is [] is = refl
 whole_is (b ∷ rest) is = absurd cc
 
 -- a layout of fields, of which records are made
-record_from : {A : Type 0} (layout : List Part) (spell : A → List ℕ) (Fits : A → Type 0) (make : A → Record) → Lays layout A spell Fits → ((v : A) → Fits v → content (make v) ≡ spell v) → ((v : A) → Fits v → AreInRange (make v))
+record_from : {A : Type 0} (layout : List Part) (spell : A → List ℕ) (Fits : A → Type 0) (make : A → Record) → Lays layout A spell Fits → ((v : A) → Fits v → record_content (make v) ≡ spell v) → ((v : A) → Fits v → AreInRange (make v))
     → (bytes : List ℕ) → IsBytes bytes → is_text (layout ++ []) bytes ≡ true → Content bytes
 record_from {A = A} layout spell Fits make lays same fit bytes are is = by (lays.back [] bytes are is) where
   by : Front A spell Fits [] bytes → Content bytes
@@ -49,12 +50,6 @@ record_from {A = A} layout spell Fits make lays same fit bytes are is = by (lays
 -- and the content of each such record is a text of it
 text_from : {A : Type 0} (layout : List Part) (spell : A → List ℕ) (Fits : A → Type 0) → Lays layout A spell Fits → (v : A) → Fits v → is_text (layout ++ []) (spell v) ≡ true
 text_from layout spell Fits lays v fits = ap (is_text (layout ++ [])) (sym (append-nil (spell v))) ∙ lays.goes v [] [] fits
-
-small80 : 80 < 2 ^ 16
-small80 = omega arith
-
-small4000 : 4000 < 2 ^ 16
-small4000 = omega arith
 
 small0 : 0 < 2 ^ 16
 small0 = omega arith
@@ -84,9 +79,6 @@ input_has = record {
   valid = (omega arith, (tt, (tt, (tt, (tt, (tt, (tt, (tt, tt))))))));
   each = record_from layouts.input input_spelled input_fit (λ v. Input v.0 v.1.0 v.1.1.0 v.1.1.1.0 v.1.1.1.1.0 v.1.1.1.1.1.0 v.1.1.1.1.1.1) input_lays (λ v h. refl) (λ v h. h);
 }
-
-abbrev command_values : Type 0
-command_values = List ℕ
 
 abbrev command_spelled : command_values → List ℕ
 command_spelled v = 2 ∷ (text v)
@@ -166,13 +158,13 @@ acknowledged_spelled v = 54 ∷ (1 ∷ (name v.0 ++ (number8 v.1)))
 abbrev acknowledged_fit : acknowledged_values → Type 0
 acknowledged_fit v = (IsName v.0) × (IsNumber v.1)
 
-acknowledged_lays : Lays layouts.acknowledged acknowledged_values acknowledged_spelled acknowledged_fit
+acknowledged_lays : Lays layouts.acknowledged_layout acknowledged_values acknowledged_spelled acknowledged_fit
 acknowledged_lays = behind_byte {A = (List ℕ) × (ℕ)} 54 (Exactly 1 ∷ Name ∷ Any 7 ∷ []) (λ v. 1 ∷ (name v.0 ++ (number8 v.1))) (λ v. (IsName v.0) × (IsNumber v.1)) (behind_byte {A = (List ℕ) × (ℕ)} 1 (Name ∷ Any 7 ∷ []) (λ v. name v.0 ++ (number8 v.1)) (λ v. (IsName v.0) × (IsNumber v.1)) (both {A = List ℕ} {B = ℕ} (Name ∷ []) (Any 7 ∷ []) name (λ v. number8 v) IsName (λ v. IsNumber v) (name_lays) (eight_lays)))
 
-acknowledged_has : HasRecords layouts.acknowledged
+acknowledged_has : HasRecords layouts.acknowledged_layout
 acknowledged_has = record {
   valid = (omega arith, (omega arith, (tt, (tt, tt))));
-  each = record_from layouts.acknowledged acknowledged_spelled acknowledged_fit (λ v. Acknowledged v.0 v.1) acknowledged_lays (λ v h. refl) (λ v h. h);
+  each = record_from layouts.acknowledged_layout acknowledged_spelled acknowledged_fit (λ v. Acknowledged v.0 v.1) acknowledged_lays (λ v h. refl) (λ v h. h);
 }
 
 abbrev pad_stays_values : Type 0
@@ -399,48 +391,48 @@ module _ (n : ℕ) (bytes : List ℕ) where
 front_at : (bytes missing : List ℕ) (layout : List Part) (whole : List ℕ) → whole ≡ bytes ++ missing → is_text layout whole ≡ true → is_front (length missing) layout bytes ≡ true
 front_at bytes missing layout whole same is = is_front_of layout bytes missing (ap (is_text layout) (sym same) ∙ is)
 
-pub content_front : (r : Record) (bytes missing : List ℕ) → AreInRange r → content r ≡ bytes ++ missing → is_front_of_any (length missing) bytes ≡ true
+pub content_front : (r : Record) (bytes missing : List ℕ) → AreInRange r → record_content r ≡ bytes ++ missing → is_front_of_any (length missing) bytes ≡ true
 content_front (Input unit id origin code number conversation segments) bytes missing h same =
-    in_messages (length missing) bytes (in_place (length missing) bytes messages 0 layouts.input refl (front_at bytes missing layouts.input (content (Input unit id origin code number conversation segments)) same
+    in_messages (length missing) bytes (in_place (length missing) bytes messages 0 layouts.input refl (front_at bytes missing layouts.input (record_content (Input unit id origin code number conversation segments)) same
     (text_from layouts.input input_spelled input_fit input_lays (unit, (id, (origin, (code, (number, (conversation, segments)))))) h)))
 content_front (Command words) bytes missing h same =
-    in_messages (length missing) bytes (in_place (length missing) bytes messages 1 layouts.command refl (front_at bytes missing layouts.command (content (Command words)) same
+    in_messages (length missing) bytes (in_place (length missing) bytes messages 1 layouts.command refl (front_at bytes missing layouts.command (record_content (Command words)) same
     (text_from layouts.command command_spelled command_fit command_lays words h)))
 content_front (Reply unit terminal number segments) bytes missing h same =
-    in_messages (length missing) bytes (in_place (length missing) bytes messages 2 layouts.reply refl (front_at bytes missing layouts.reply (content (Reply unit terminal number segments)) same
+    in_messages (length missing) bytes (in_place (length missing) bytes messages 2 layouts.reply refl (front_at bytes missing layouts.reply (record_content (Reply unit terminal number segments)) same
     (text_from layouts.reply reply_spelled reply_fit reply_lays (unit, (terminal, (number, segments))) h)))
 content_front (Discarded unit id abend number) bytes missing h same =
-    in_messages (length missing) bytes (in_place (length missing) bytes messages 3 layouts.discarded refl (front_at bytes missing layouts.discarded (content (Discarded unit id abend number)) same
+    in_messages (length missing) bytes (in_place (length missing) bytes messages 3 layouts.discarded refl (front_at bytes missing layouts.discarded (record_content (Discarded unit id abend number)) same
     (text_from layouts.discarded discarded_spelled discarded_fit discarded_lays (unit, (id, (abend.number, number))) h)))
 content_front (Completed unit id) bytes missing h same =
-    in_answers (length missing) bytes (in_place (length missing) bytes answers 0 layouts.completed refl (front_at bytes missing layouts.completed (content (Completed unit id)) same
+    in_answers (length missing) bytes (in_place (length missing) bytes answers 0 layouts.completed refl (front_at bytes missing layouts.completed (record_content (Completed unit id)) same
     (text_from layouts.completed completed_spelled completed_fit completed_lays (unit, id) h)))
 content_front (Acknowledged terminal number) bytes missing h same =
-    in_answers (length missing) bytes (in_place (length missing) bytes answers 1 layouts.acknowledged refl (front_at bytes missing layouts.acknowledged (content (Acknowledged terminal number)) same
-    (text_from layouts.acknowledged acknowledged_spelled acknowledged_fit acknowledged_lays (terminal, number) h)))
+    in_answers (length missing) bytes (in_place (length missing) bytes answers 1 layouts.acknowledged_layout refl (front_at bytes missing layouts.acknowledged_layout (record_content (Acknowledged terminal number)) same
+    (text_from layouts.acknowledged_layout acknowledged_spelled acknowledged_fit acknowledged_lays (terminal, number) h)))
 content_front (SyncPoint unit Stays) bytes missing h same =
-    in_answers (length missing) bytes (in_place (length missing) bytes answers 2 layouts.pad_stays refl (front_at bytes missing layouts.pad_stays (content (SyncPoint unit Stays)) same
+    in_answers (length missing) bytes (in_place (length missing) bytes answers 2 layouts.pad_stays refl (front_at bytes missing layouts.pad_stays (record_content (SyncPoint unit Stays)) same
     (text_from layouts.pad_stays pad_stays_spelled pad_stays_fit pad_stays_lays (unit, []) (h.0, omega arith))))
 content_front (SyncPoint unit (New pad)) bytes missing h same =
-    in_answers (length missing) bytes (in_place (length missing) bytes answers 3 layouts.pad_new refl (front_at bytes missing layouts.pad_new (content (SyncPoint unit (New pad))) same
+    in_answers (length missing) bytes (in_place (length missing) bytes answers 3 layouts.pad_new refl (front_at bytes missing layouts.pad_new (record_content (SyncPoint unit (New pad))) same
     (text_from layouts.pad_new pad_new_spelled pad_new_fit pad_new_lays (unit, pad) (h.0, omega (arith, h.1)))))
 content_front (SyncPoint unit Ends) bytes missing h same =
-    in_answers (length missing) bytes (in_place (length missing) bytes answers 4 layouts.pad_ends refl (front_at bytes missing layouts.pad_ends (content (SyncPoint unit Ends)) same
+    in_answers (length missing) bytes (in_place (length missing) bytes answers 4 layouts.pad_ends refl (front_at bytes missing layouts.pad_ends (record_content (SyncPoint unit Ends)) same
     (text_from layouts.pad_ends pad_ends_spelled pad_ends_fit pad_ends_lays (unit, []) (h.0, omega arith))))
 content_front (Checkpoint checkpoint next_id next_unit steps) bytes missing h same =
-    in_tables (length missing) bytes (in_place (length missing) bytes tables 0 layouts.checkpoint refl (front_at bytes missing layouts.checkpoint (content (Checkpoint checkpoint next_id next_unit steps)) same
+    in_tables (length missing) bytes (in_place (length missing) bytes tables 0 layouts.checkpoint refl (front_at bytes missing layouts.checkpoint (record_content (Checkpoint checkpoint next_id next_unit steps)) same
     (text_from layouts.checkpoint checkpoint_spelled checkpoint_fit checkpoint_lays (checkpoint, (next_id, (next_unit, steps))) h)))
 content_front (Terminal terminal last next stopped None) bytes missing h same =
-    in_tables (length missing) bytes (in_place (length missing) bytes tables 1 layouts.idle_terminal refl (front_at bytes missing layouts.idle_terminal (content (Terminal terminal last next stopped None)) same
+    in_tables (length missing) bytes (in_place (length missing) bytes tables 1 layouts.idle_terminal refl (front_at bytes missing layouts.idle_terminal (record_content (Terminal terminal last next stopped None)) same
     (text_from layouts.idle_terminal idle_terminal_spelled idle_terminal_fit idle_terminal_lays (terminal, (last, (next, (stopped, [])))) (h.0, (h.1.0, (h.1.1.0, (tt, omega arith)))))))
 content_front (Terminal terminal last next stopped (Some c)) bytes missing h same =
-    in_tables (length missing) bytes (in_place (length missing) bytes tables 2 layouts.conversing_terminal refl (front_at bytes missing layouts.conversing_terminal (content (Terminal terminal last next stopped (Some c))) same
+    in_tables (length missing) bytes (in_place (length missing) bytes tables 2 layouts.conversing_terminal refl (front_at bytes missing layouts.conversing_terminal (record_content (Terminal terminal last next stopped (Some c))) same
     (text_from layouts.conversing_terminal conversing_terminal_spelled conversing_terminal_fit conversing_terminal_lays (terminal, (last, (next, (stopped, (c.code, c.pad))))) (h.0, (h.1.0, (h.1.1.0, (tt, (h.1.1.1.1.0, omega (arith, h.1.1.1.1.1)))))))))
 content_front (Code code stopped class priority) bytes missing h same =
-    in_tables (length missing) bytes (in_place (length missing) bytes tables 3 layouts.code refl (front_at bytes missing layouts.code (content (Code code stopped class priority)) same
+    in_tables (length missing) bytes (in_place (length missing) bytes tables 3 layouts.code refl (front_at bytes missing layouts.code (record_content (Code code stopped class priority)) same
     (text_from layouts.code code_spelled code_fit code_lays (code, (stopped, (class, priority))) h)))
 content_front (Change unit database slot before after) bytes missing h same =
-    in_change (length missing) bytes (front_at bytes missing layouts.change (content (Change unit database slot before after)) same
+    in_change (length missing) bytes (front_at bytes missing layouts.change (record_content (Change unit database slot before after)) same
     (text_from layouts.change change_spelled change_fit change_lays (unit, (database, (slot, (before, after)))) h))
 
 -- ---- with the length in front
@@ -449,7 +441,7 @@ content_front (Change unit database slot before after) bytes missing h same =
 cons_is : (x h : ℕ) (xs hs : List ℕ) → x ∷ xs ≡ h ∷ hs → (x ≡ h) × (xs ≡ hs)
 cons_is x h xs hs e = (cc, cc)
 
-cut_from : (high low : ℕ) (tail : List ℕ) (size : ℕ) (r : Record) (missing : List ℕ) → high < 256 → low < 256 → size ≡ 256 * high + low → 0 < length missing → size ≡ 2 + length tail + length missing → AreInRange r → content r ≡ tail ++ missing → IsCutOff (high ∷ low ∷ tail)
+cut_from : (high low : ℕ) (tail : List ℕ) (size : ℕ) (r : Record) (missing : List ℕ) → high < 256 → low < 256 → size ≡ 256 * high + low → 0 < length missing → size ≡ 2 + length tail + length missing → AreInRange r → record_content r ≡ tail ++ missing → IsRecordCutOff (high ∷ low ∷ tail)
 cut_from high low tail size r missing h l named some whole fits same =
     let long : record_length r ≡ 256 * high + low = omega (arith, ap (length {A = ℕ}) same, length-append tail missing, whole, named) in
     record {
@@ -457,32 +449,32 @@ cut_from high low tail size r missing h l named some whole fits same =
       is_record = record { fields = fits; short = omega (arith, long, h, l) };
       missing = missing;
       some = some;
-      begins = ap (λ n. number2 n ++ content r) long ∙ ap (λ (t : List ℕ). t ++ content r) (two_is high low h l) ∙ ap (λ (t : List ℕ). high ∷ low ∷ t) same;
+      begins = ap (λ n. number2 n ++ record_content r) long ∙ ap (λ (t : List ℕ). t ++ record_content r) (two_is high low h l) ∙ ap (λ (t : List ℕ). high ∷ low ∷ t) same;
     }
 
-pub cut_where : (high low : ℕ) (tail : List ℕ) (size : ℕ) → IsBytes (high ∷ low ∷ tail) → size ≡ 256 * high + low → 2 + length tail < size → is_front_of_any (size - (2 + length tail)) tail ≡ true → IsCutOff (high ∷ low ∷ tail)
+pub cut_where : (high low : ℕ) (tail : List ℕ) (size : ℕ) → IsBytes (high ∷ low ∷ tail) → size ≡ 256 * high + low → 2 + length tail < size → is_front_of_any (size - (2 + length tail)) tail ≡ true → IsRecordCutOff (high ∷ low ∷ tail)
 cut_where high low tail size are named more is = by (fitting n tail is) where
   n : ℕ
   n = size - (2 + length tail)
 
-  made : (f : Fitting n tail) (m : Missing f.layout tail n) → IsBytes (tail ++ m.missing) → IsCutOff (high ∷ low ∷ tail)
+  made : (f : Fitting n tail) (m : Missing f.layout tail n) → IsBytes (tail ++ m.missing) → IsRecordCutOff (high ∷ low ∷ tail)
   made f m bytes =
       let c = f.has.each (tail ++ m.missing) bytes m.is in
       cut_from high low tail size c.whole m.missing (are 0) (are 1) named (omega (arith, m.size, more)) (omega (arith, m.size, more)) c.fits c.is
 
-  by : Fitting n tail → IsCutOff (high ∷ low ∷ tail)
+  by : Fitting n tail → IsRecordCutOff (high ∷ low ∷ tail)
   by f =
       let m = front_of n f.layout tail f.has.valid f.is in
       made f m (bytes_both tail m.missing (IsBytes-rest low tail (IsBytes-rest high (low ∷ tail) are)) m.are_bytes)
 
-fronts_same : (high low : ℕ) (tail missing : List ℕ) (r : Record) (b : TwoBytes (record_length r)) → spelling r ≡ high ∷ low ∷ (tail ++ missing) → (b.high ≡ high) × (b.low ≡ low) × (content r ≡ tail ++ missing)
+fronts_same : (high low : ℕ) (tail missing : List ℕ) (r : Record) (b : TwoBytes (record_length r)) → record_spelling r ≡ high ∷ low ∷ (tail ++ missing) → (b.high ≡ high) × (b.low ≡ low) × (record_content r ≡ tail ++ missing)
 fronts_same high low tail missing r b same =
-    let whole : b.high ∷ b.low ∷ content r ≡ high ∷ low ∷ (tail ++ missing) = ap (λ (t : List ℕ). t ++ content r) (sym b.is) ∙ same in
-    let first = cons_is b.high high (b.low ∷ content r) (low ∷ (tail ++ missing)) whole in
-    let second = cons_is b.low low (content r) (tail ++ missing) first.1 in
+    let whole : b.high ∷ b.low ∷ record_content r ≡ high ∷ low ∷ (tail ++ missing) = ap (λ (t : List ℕ). t ++ record_content r) (sym b.is) ∙ same in
+    let first = cons_is b.high high (b.low ∷ record_content r) (low ∷ (tail ++ missing)) whole in
+    let second = cons_is b.low low (record_content r) (tail ++ missing) first.1 in
     (first.0, second.0, second.1)
 
-pub where_cut : (high low : ℕ) (tail : List ℕ) (size : ℕ) → size ≡ 256 * high + low → IsCutOff (high ∷ low ∷ tail) → (2 + length tail < size) × (is_front_of_any (size - (2 + length tail)) tail ≡ true)
+pub where_cut : (high low : ℕ) (tail : List ℕ) (size : ℕ) → size ≡ 256 * high + low → IsRecordCutOff (high ∷ low ∷ tail) → (2 + length tail < size) × (is_front_of_any (size - (2 + length tail)) tail ≡ true)
 where_cut high low tail size named c =
     let b = two_bytes (record_length c.whole) c.is_record.short in
     let same = fronts_same high low tail c.missing c.whole b c.begins in
@@ -502,29 +494,29 @@ pad_length high =
     let size : length pad ≡ 256 * high = length-replicate {A = ℕ} (256 * high) 32 in
     omega (arith, size, eight 0 (1 ∷ text pad), text_length pad)
 
-pad_is_record : (high : ℕ) → high < 256 → IsRecord (pad_record high)
+pad_is_record : (high : ℕ) → high < 256 → IsLogRecord (pad_record high)
 pad_is_record high lt =
     let size : length (replicate (256 * high) 32) ≡ 256 * high = length-replicate {A = ℕ} (256 * high) 32 in
     is_record (pad_record high) (omega arith, omega (arith, size, lt)) (omega (arith, pad_length high, lt))
 
-pad_spelled : (high : ℕ) → high < 256 → spelling (pad_record high) ≡ high ∷ 14 ∷ content (pad_record high)
-pad_spelled high lt = ap (λ n. number2 n ++ content (pad_record high)) (pad_length high) ∙ ap (λ (t : List ℕ). t ++ content (pad_record high)) (two_is high 14 lt (omega arith))
+pad_spelled : (high : ℕ) → high < 256 → record_spelling (pad_record high) ≡ high ∷ 14 ∷ record_content (pad_record high)
+pad_spelled high lt = ap (λ n. number2 n ++ record_content (pad_record high)) (pad_length high) ∙ ap (λ (t : List ℕ). t ++ record_content (pad_record high)) (two_is high 14 lt (omega arith))
 
-pub none_cut : IsCutOff []
-none_cut = record { whole = pad_record 0; is_record = pad_is_record 0 (omega arith); missing = spelling (pad_record 0); some = omega (arith, ap (length {A = ℕ}) (pad_spelled 0 (omega arith))); begins = refl }
+pub none_cut : IsRecordCutOff []
+none_cut = record { whole = pad_record 0; is_record = pad_is_record 0 (omega arith); missing = record_spelling (pad_record 0); some = omega (arith, ap (length {A = ℕ}) (pad_spelled 0 (omega arith))); begins = refl }
 
-pub one_cut : (high : ℕ) → high < 256 → IsCutOff (high ∷ [])
-one_cut high lt = record { whole = pad_record high; is_record = pad_is_record high lt; missing = 14 ∷ content (pad_record high); some = omega arith; begins = pad_spelled high lt }
+pub one_cut : (high : ℕ) → high < 256 → IsRecordCutOff (high ∷ [])
+one_cut high lt = record { whole = pad_record high; is_record = pad_is_record high lt; missing = 14 ∷ record_content (pad_record high); some = omega arith; begins = pad_spelled high lt }
 
-pub short_cut : (rest : List ℕ) → IsBytes rest → length rest < 2 → IsCutOff rest
+pub short_cut : (rest : List ℕ) → IsBytes rest → length rest < 2 → IsRecordCutOff rest
 short_cut [] are short = none_cut
 short_cut (b ∷ []) are short = one_cut b (are 0)
 short_cut (b ∷ c ∷ rest) are short = absurd (omega (arith, short))
 
 -- what is decided behind the length
-pub decided : (high low : ℕ) (tail : List ℕ) (size : ℕ) → IsBytes tail → high < 256 → low < 256 → size ≡ 256 * high + low → 2 + length tail < size → (b : Bool) → b ≡ is_front_of_any (size - (2 + length tail)) tail → Decides b (IsCutOff (high ∷ low ∷ tail))
+pub decided : (high low : ℕ) (tail : List ℕ) (size : ℕ) → IsBytes tail → high < 256 → low < 256 → size ≡ 256 * high + low → 2 + length tail < size → (b : Bool) → b ≡ is_front_of_any (size - (2 + length tail)) tail → Decides b (IsRecordCutOff (high ∷ low ∷ tail))
 decided high low tail size are h l named more b is =
     (λ e. cut_where high low tail size (bytes_cons high (low ∷ tail) h (bytes_cons low tail l are)) named more (sym is ∙ e), λ c. is ∙ (where_cut high low tail size named c).1)
 
-pub decided_not : (high low : ℕ) (tail : List ℕ) (size : ℕ) → size ≡ 256 * high + low → size ≤ 2 + length tail → Decides false (IsCutOff (high ∷ low ∷ tail))
+pub decided_not : (high low : ℕ) (tail : List ℕ) (size : ℕ) → size ≡ 256 * high + low → size ≤ 2 + length tail → Decides false (IsRecordCutOff (high ∷ low ∷ tail))
 decided_not high low tail size named few = (λ e. absurd cc, λ c. let w = where_cut high low tail size named c in absurd (omega (arith, w.0, few)))

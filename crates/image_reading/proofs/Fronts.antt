@@ -5,7 +5,7 @@ use Rattle.std.proofs.lemmas.Bool.{cases_lt, leb-true, le-leb, and_parts, and_fr
 use Rattle.log_records.proofs.Takes.{IsBytes, IsBytes-rest}
 use Rattle.image_reading.specs.declared.parts.Part.{Part}
 use Rattle.image_reading.specs.declared.parts.Part.TheVariants.{Exactly, Flag, Positive, Any, Names, Abend, Name, Text, TextLow, Segments, Segment, SegmentLow, SegmentBytes}
-use Rattle.image_reading.specs.Parts.{step, least, most, leasts, mosts, left_before, goes_on, is_front}
+use Rattle.image_reading.specs.RecordParts.{part_step, least, most, leasts, mosts, left_before, layout_goes_on, is_front}
 use Rattle.image_reading.proofs.Ranges.{IsPart, IsLeft, least_left, most_left, step_behind, Leads, wide}
 
 abbrev pub AreParts : List Part → Type 0
@@ -76,7 +76,7 @@ parts_before : (left : Option Part) (parts : List Part) → IsLeft left → AreP
 parts_before None parts is are = are
 parts_before (Some part) parts is are = (is, are)
 
-pub goes_before : (further : List Part → Bool) (parts : List Part) (left : Option Part) → goes_on further parts (Some left) ≡ further (left_before left parts)
+pub goes_before : (further : List Part → Bool) (parts : List Part) (left : Option Part) → layout_goes_on further parts (Some left) ≡ further (left_before left parts)
 goes_before further parts None = refl
 goes_before further parts (Some part) = refl
 
@@ -104,7 +104,7 @@ some_text (suc n) (part ∷ parts) are few many =
             bytes = l.byte ∷ later.bytes;
             size = omega (arith, later.size);
             are_bytes = bytes_cons l.byte later.bytes l.is_byte later.are_bytes;
-            is = ap (goes_on (λ further. is_text further later.bytes) parts) l.steps ∙ goes_before (λ further. is_text further later.bytes) parts l.left ∙ later.is;
+            is = ap (layout_goes_on (λ further. is_text further later.bytes) parts) l.steps ∙ goes_before (λ further. is_text further later.bytes) parts l.left ∙ later.is;
           }
 
       lead : (first : ℕ) → least part ≤ suc first → suc first ≤ most part → first + leasts parts ≤ n → n ≤ first + mosts parts →
@@ -127,8 +127,8 @@ text_within parts [] is =
     (leb-true (leasts parts) 0 tests.0, omega arith)
 text_within [] (b ∷ bytes) is = absurd cc
 text_within (part ∷ parts) (b ∷ bytes) is =
-    by_step (step part b) refl is (λ others. text_within others bytes) where
-      by_step : (found : Option (Option Part)) → step part b ≡ found → goes_on (λ further. is_text further bytes) parts found ≡ true →
+    by_step (part_step part b) refl is (λ others. text_within others bytes) where
+      by_step : (found : Option (Option Part)) → part_step part b ≡ found → layout_goes_on (λ further. is_text further bytes) parts found ≡ true →
           ((others : List Part) → is_text others bytes ≡ true → (leasts others ≤ length bytes) × (length bytes ≤ mosts others)) → (least part + leasts parts ≤ suc (length bytes)) × (suc (length bytes) ≤ most part + mosts parts)
       by_step None at is rest = absurd cc
       by_step (Some left) at is rest =
@@ -158,8 +158,8 @@ front_of n parts [] valid is =
     record { missing = t.bytes; size = t.size; are_bytes = t.are_bytes; is = t.is }
 front_of n [] (b ∷ bytes) valid is = absurd cc
 front_of n (part ∷ parts) (b ∷ bytes) valid is =
-    by_step (step part b) refl is (λ others valid_others. front_of n others bytes valid_others) where
-      by_step : (found : Option (Option Part)) → step part b ≡ found → goes_on (λ further. is_front n further bytes) parts found ≡ true →
+    by_step (part_step part b) refl is (λ others valid_others. front_of n others bytes valid_others) where
+      by_step : (found : Option (Option Part)) → part_step part b ≡ found → layout_goes_on (λ further. is_front n further bytes) parts found ≡ true →
           ((others : List Part) → AreParts others → is_front n others bytes ≡ true → Missing others bytes n) → Missing (part ∷ parts) (b ∷ bytes) n
       by_step None at is rest = absurd cc
       by_step (Some left) at is rest =
@@ -169,7 +169,7 @@ front_of n (part ∷ parts) (b ∷ bytes) valid is =
             missing = m.missing;
             size = m.size;
             are_bytes = m.are_bytes;
-            is = ap (goes_on (λ further. is_text further (bytes ++ m.missing)) parts) at ∙ goes_before (λ further. is_text further (bytes ++ m.missing)) parts left ∙ m.is;
+            is = ap (layout_goes_on (λ further. is_text further (bytes ++ m.missing)) parts) at ∙ goes_before (λ further. is_text further (bytes ++ m.missing)) parts left ∙ m.is;
           }
 
 pub is_front_of : (parts : List Part) (bytes missing : List ℕ) → is_text parts (bytes ++ missing) ≡ true → is_front (length missing) parts bytes ≡ true
@@ -178,9 +178,9 @@ is_front_of parts [] missing is =
     and_from (nat_le (leasts parts) (length missing)) (nat_le (length missing) (mosts parts)) (le-leb (leasts parts) (length missing) w.0) (le-leb (length missing) (mosts parts) w.1)
 is_front_of [] (b ∷ bytes) missing is = absurd cc
 is_front_of (part ∷ parts) (b ∷ bytes) missing is =
-    by_step (step part b) is (λ others. is_front_of others bytes missing) where
-      by_step : (found : Option (Option Part)) → goes_on (λ further. is_text further (bytes ++ missing)) parts found ≡ true →
-          ((others : List Part) → is_text others (bytes ++ missing) ≡ true → is_front (length missing) others bytes ≡ true) → goes_on (λ further. is_front (length missing) further bytes) parts found ≡ true
+    by_step (part_step part b) is (λ others. is_front_of others bytes missing) where
+      by_step : (found : Option (Option Part)) → layout_goes_on (λ further. is_text further (bytes ++ missing)) parts found ≡ true →
+          ((others : List Part) → is_text others (bytes ++ missing) ≡ true → is_front (length missing) others bytes ≡ true) → layout_goes_on (λ further. is_front (length missing) further bytes) parts found ≡ true
       by_step None is rest = absurd cc
       by_step (Some left) is rest =
           goes_before (λ further. is_front (length missing) further bytes) parts left

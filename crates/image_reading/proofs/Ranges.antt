@@ -6,7 +6,7 @@ use Rattle.tm_types.specs.Name.{is_name_byte}
 use Rattle.tm_types.specs.Segment.{is_printable}
 use Rattle.image_reading.specs.declared.parts.Part.{Part}
 use Rattle.image_reading.specs.declared.parts.Part.TheVariants.{Exactly, Flag, Positive, Any, Names, Abend, Name, Text, TextLow, Segments, Segment, SegmentLow, SegmentBytes}
-use Rattle.image_reading.specs.Parts.{any_left, names_left, segments_left, segment_left, if_so, step, least, most}
+use Rattle.image_reading.specs.RecordParts.{any_left, names_left, segments_left, segment_left, if_so, part_step, least, most}
 
 abbrev pub least_left : Option Part → ℕ
 least_left None = 0
@@ -76,7 +76,7 @@ abend_behind : (b : ℕ) (c : Bool) → Behind Abend (if c then Some Positive el
 abend_behind b true = record { few = omega arith; many = omega arith; valid = tt }
 abend_behind b false = record { few = omega arith; many = omega arith; valid = tt }
 
-within : (low high b : ℕ) → nat_le low b && nat_le b high ≡ true → (low ≤ b) × (b ≤ high)
+pub within : (low high b : ℕ) → nat_le low b && nat_le b high ≡ true → (low ≤ b) × (b ≤ high)
 within low high b e = let p = and_parts (nat_le low b) (nat_le b high) e in (leb-true low b p.0, leb-true b high p.1)
 
 -- the low byte of a length
@@ -86,7 +86,7 @@ low_tests b n limit e = let p = and_parts (nat_le b 255) (nat_le n limit) e in (
 pub are_low : (b n limit : ℕ) → b ≤ 255 → n ≤ limit → nat_le b 255 && nat_le n limit ≡ true
 are_low b n limit l h = and_from (nat_le b 255) (nat_le n limit) (le-leb b 255 l) (le-leb n limit h)
 
-pub step_behind : (part : Part) (b : ℕ) (left : Option Part) → step part b ≡ Some left → Behind part left
+pub step_behind : (part : Part) (b : ℕ) (left : Option Part) → part_step part b ≡ Some left → Behind part left
 step_behind (Exactly byte) b left e = behind (Exactly byte) 0 0 None left none_spans (so (b == byte) None left e).1 (omega arith) (omega arith)
 step_behind Flag b left e = behind Flag 0 0 None left none_spans (so (nat_le b 1) None left e).1 (omega arith) (omega arith)
 step_behind Positive b left e = behind Positive 0 0 None left none_spans (so (nat_le 1 b) None left e).1 (omega arith) (omega arith)
@@ -129,7 +129,7 @@ pub record Leads (part : Part) (n : ℕ) : Type 0 where
   pub byte : ℕ
   pub is_byte : byte < 256
   pub left : Option Part
-  pub steps : step part byte ≡ Some left
+  pub steps : part_step part byte ≡ Some left
   pub few : least_left left ≤ n
   pub many : n ≤ most_left left
 
@@ -154,7 +154,7 @@ segment_exact : (more n : ℕ) → Exact (n + 2 * more) (n + 1998 * more) (segme
 segment_exact more zero = let s = segments_exact more in record { few = omega (arith, s.few); many = omega (arith, s.many) }
 segment_exact more (suc n) = record { few = omega arith; many = omega arith }
 
-leads : (part : Part) (n b : ℕ) (few many : ℕ) (left : Option Part) → b < 256 → step part b ≡ Some left → Exact few many left → few ≤ n → n ≤ many → Leads part n
+leads : (part : Part) (n b : ℕ) (few many : ℕ) (left : Option Part) → b < 256 → part_step part b ≡ Some left → Exact few many left → few ≤ n → n ≤ many → Leads part n
 leads part n b few many left lt is s low high =
     record { byte = b; is_byte = lt; left = left; steps = is; few = omega (arith, s.few, low); many = omega (arith, s.many, high) }
 

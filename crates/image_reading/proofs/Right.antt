@@ -12,24 +12,24 @@ use Rattle.tm_types.specs.declared.dbd.Dbd.{Dbd}
 use Rattle.model_system.specs.System.{System}
 use Rattle.model_image.specs.Slots.{is_image, dbd_at}
 use Rattle.image_records.specs.declared.slots.NamedSlot.{NamedSlot}
-use Rattle.image_records.specs.NamedSlots.{Ascend, is_slot_by, is_slot_of}
-use Rattle.image_reading.specs.Giving.{of_database}
+use Rattle.image_records.specs.NamedSlots.{NamedSlotsAscend, is_slot_by, is_slot_of}
+use Rattle.image_reading.specs.NamedBytes.{of_database}
 use Rattle.image_reading.proofs.Given.{before_on, ascend_rest, lower_slot}
 
 -- ---- in order
 
-without_second : (a b : NamedSlot) (xs : List NamedSlot) → Ascend (a ∷ b ∷ xs) → Ascend (a ∷ xs)
+without_second : (a b : NamedSlot) (xs : List NamedSlot) → NamedSlotsAscend (a ∷ b ∷ xs) → NamedSlotsAscend (a ∷ xs)
 without_second a b [] is = tt
 without_second a b (c ∷ xs) is = (before_on a b c is.0 is.1.0, is.1.1)
 
-less_all : (a : NamedSlot) (d : ℕ) (xs : List NamedSlot) → a.database ≡ d → Ascend (a ∷ xs) → AllByRecursion (λ m. nat_cmp a.slot m ≡ Less) (keys_of (of_database d xs))
+less_all : (a : NamedSlot) (d : ℕ) (xs : List NamedSlot) → a.database ≡ d → NamedSlotsAscend (a ∷ xs) → AllByRecursion (λ m. nat_cmp a.slot m ≡ Less) (keys_of (of_database d xs))
 less_all a d [] here is = tt
 less_all a d (b ∷ xs) here is = by (b.database == d) refl (less_all a d xs here (without_second a b xs is)) where
   by : (e : Bool) → b.database == d ≡ e → AllByRecursion (λ m. nat_cmp a.slot m ≡ Less) (keys_of (of_database d xs)) → AllByRecursion (λ m. nat_cmp a.slot m ≡ Less) (keys_of (if e then (b.slot, b.bytes) ∷ of_database d xs else of_database d xs))
   by true same rest = (sym (nat_cmp_is a.slot b.slot Less (lower_slot a b d here (eqb-true b.database d same) is.0)), rest)
   by false same rest = rest
 
-pub in_order : (d : ℕ) (xs : List NamedSlot) → Ascend xs → IsStrictlySortedBy nat_cmp (keys_of (of_database d xs))
+pub in_order : (d : ℕ) (xs : List NamedSlot) → NamedSlotsAscend xs → IsStrictlySortedBy nat_cmp (keys_of (of_database d xs))
 unfolding IsStrictlySortedBy
 in_order d [] is = tt
 in_order d (a ∷ xs) is = by (a.database == d) refl (in_order d xs (ascend_rest a xs is)) where

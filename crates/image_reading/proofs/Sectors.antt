@@ -2,7 +2,7 @@
 use Rattle.std.proofs.Common.{◌≡◌, ℕ, zero, suc, ◌+◌, ◌-◌, ◌<◌, ◌≤◌, Bool, true, false, refl, sym, ◌∙◌, ap, arith, Some, None}
 use Rattle.std.specs.Prelude.{Option, if◌then◌else◌}
 use Rattle.tm_disk.specs.Disk.{Image, sector_at}
-use Rattle.model_image.specs.Recovered.{is_later, first_later}
+use Rattle.model_image.specs.RecoveredState.{is_later, first_later}
 
 -- ---- later epochs
 

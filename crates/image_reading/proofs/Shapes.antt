@@ -7,13 +7,13 @@ use Rattle.std.proofs.lemmas.Bool.{leb-true, le-leb, eq-eqb, eqb-true, eqb-false
 use Rattle.std.proofs.lemmas.List.Concat.{flat_map-cons}
 use Rattle.tm_types.specs.Name.{IsName, is_name_byte}
 use Rattle.tm_types.specs.Segment.{IsSegmentText, is_printable}
-use Rattle.log_records.specs.Spelling.{number1, number2, number8, flag, name, text, segs, IsByte, IsNumber, IsAbend, AreSegments}
+use Rattle.log_records.specs.RecordSpelling.{number1, number2, number8, flag, name, text, segs, IsByte, IsNumber, IsAbend, AreSegments}
 use Rattle.log_records.proofs.Takes.{IsBytes, IsBytes-rest}
 use Rattle.log_records.proofs.FieldLaws.{wide16, wide64, number2_length, number8_length}
 use Rattle.image_reading.specs.declared.parts.Part.{Part}
 use Rattle.image_reading.specs.declared.parts.Part.TheVariants.{Exactly, Flag, Positive, Any, Names, Abend, Name, Text, TextLow, Segments, Segment, SegmentLow, SegmentBytes}
-use Rattle.image_reading.specs.Parts.{any_left, names_left, segments_left, segment_left, if_so, left_before, goes_on}
-use Rattle.image_reading.proofs.Ranges.{Split, split, low_tests, are_low}
+use Rattle.image_reading.specs.RecordParts.{any_left, names_left, segments_left, segment_left, if_so, left_before, layout_goes_on}
+use Rattle.image_reading.proofs.Ranges.{Split, split, low_tests, are_low, within}
 use Rattle.image_reading.proofs.Fronts.{is_text, bytes_nil, bytes_cons, goes_before, not_empty}
 
 -- a text, and what stands behind it
@@ -60,10 +60,10 @@ both {A = A} {B = B} p q sa sb FA FB f g = record {
 pub behind_byte : {A : Type 0} (b : ℕ) (p : List Part) (sa : A → List ℕ) (FA : A → Type 0) → Lays p A sa FA → Lays (Exactly b ∷ p) A (λ v. b ∷ sa v) FA
 behind_byte {A = A} b p sa FA f = record {
   goes = λ v others bytes fits.
-      ap (λ t. goes_on (λ further. is_text further (sa v ++ bytes)) (p ++ others) (if_so t None)) (eq-eqb b b refl) ∙ f.goes v others bytes fits;
+      ap (λ t. layout_goes_on (λ further. is_text further (sa v ++ bytes)) (p ++ others) (if_so t None)) (eq-eqb b b refl) ∙ f.goes v others bytes fits;
   back = λ others bytes are is. after_byte others bytes are is;
 } where
-  one : (others : List Part) (x : ℕ) (bytes : List ℕ) (t : Bool) → x == b ≡ t → IsBytes (x ∷ bytes) → goes_on (λ further. is_text further bytes) (p ++ others) (if_so t None) ≡ true → Front A (λ v. b ∷ sa v) FA others (x ∷ bytes)
+  one : (others : List Part) (x : ℕ) (bytes : List ℕ) (t : Bool) → x == b ≡ t → IsBytes (x ∷ bytes) → layout_goes_on (λ further. is_text further bytes) (p ++ others) (if_so t None) ≡ true → Front A (λ v. b ∷ sa v) FA others (x ∷ bytes)
   one others x bytes false same are is = absurd cc
   one others x bytes true same are is =
       let y = f.back others bytes (IsBytes-rest x bytes are) is in
@@ -177,22 +177,19 @@ flag_lays = record {
   found others (zero ∷ bytes) are is = record { value = false; fits = tt; rest = bytes; parts = refl; are_bytes = IsBytes-rest 0 bytes are; is = is }
   found others (suc zero ∷ bytes) are is = record { value = true; fits = tt; rest = bytes; parts = refl; are_bytes = IsBytes-rest 1 bytes are; is = is }
   found others (suc (suc x) ∷ bytes) are is = absurd (not_two (nat_le (suc (suc x)) 1) refl is) where
-    not_two : (t : Bool) → nat_le (suc (suc x)) 1 ≡ t → goes_on (λ further. is_text further bytes) others (if_so t None) ≡ true → ⊥
+    not_two : (t : Bool) → nat_le (suc (suc x)) 1 ≡ t → layout_goes_on (λ further. is_text further bytes) others (if_so t None) ≡ true → ⊥
     not_two true small is = let i : suc (suc x) ≤ 1 = leb-true (suc (suc x)) 1 small in omega (arith, i)
     not_two false small is = absurd cc
 
 -- ---- tests
 
-so_goes : (c : Bool) (left : Option Part) (others : List Part) (bytes : List ℕ) → c ≡ true → goes_on (λ further. is_text further bytes) others (if_so c left) ≡ is_text (left_before left others) bytes
+so_goes : (c : Bool) (left : Option Part) (others : List Part) (bytes : List ℕ) → c ≡ true → layout_goes_on (λ further. is_text further bytes) others (if_so c left) ≡ is_text (left_before left others) bytes
 so_goes true left others bytes is = goes_before (λ further. is_text further bytes) others left
 so_goes false left others bytes is = cc
 
-so_back : (c : Bool) (left : Option Part) (others : List Part) (bytes : List ℕ) → goes_on (λ further. is_text further bytes) others (if_so c left) ≡ true → (c ≡ true) × (is_text (left_before left others) bytes ≡ true)
+so_back : (c : Bool) (left : Option Part) (others : List Part) (bytes : List ℕ) → layout_goes_on (λ further. is_text further bytes) others (if_so c left) ≡ true → (c ≡ true) × (is_text (left_before left others) bytes ≡ true)
 so_back true left others bytes is = (refl, sym (goes_before (λ further. is_text further bytes) others left) ∙ is)
 so_back false left others bytes is = absurd cc
-
-within : (low high b : ℕ) → nat_le low b && nat_le b high ≡ true → (low ≤ b) × (b ≤ high)
-within low high b e = let p = and_parts (nat_le low b) (nat_le b high) e in (leb-true low b p.0, leb-true b high p.1)
 
 is_within : (low high n : ℕ) → low ≤ n → n ≤ high → nat_le low n && nat_le n high ≡ true
 is_within low high n l h = and_from (nat_le low n) (nat_le n high) (le-leb low n l) (le-leb n high h)

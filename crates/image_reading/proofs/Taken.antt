@@ -1,15 +1,8 @@
 -- One element more.
-use Rattle.std.proofs.Common.{◌≡◌, ℕ, zero, suc, ◌+◌, List, [], ◌∷◌, ◌++◌, length, take, refl, ◌∙◌, ap, subst, sym, arith, Some}
+use Rattle.std.proofs.Common.{◌≡◌, ℕ, zero, suc, ◌+◌, List, [], ◌∷◌, ◌++◌, length, refl, ◌∙◌, ap, subst, sym, arith, Some}
 use Rattle.std.specs.Prelude.{slice_get}
 use Rattle.image_records.specs.declared.slots.NamedSlot.{NamedSlot}
-use Rattle.image_reading.specs.Giving.{of_database, AreNamedBytes}
-
-pub take_next : {X : Type 0} (xs : List X) (i : ℕ) (x : X) → slice_get xs i ≡ Some x → take (i + 1) xs ≡ take i xs ++ x ∷ []
-take_next {X = X} xs i x found = let next : i + 1 ≡ suc i = omega arith in ap (λ k. take k xs) next ∙ by xs i found where
-  by : (ys : List X) (k : ℕ) → slice_get ys k ≡ Some x → take (suc k) ys ≡ take k ys ++ x ∷ []
-  by [] k e = cc
-  by (y ∷ ys) zero e = let same : y ≡ x = cc in ap (λ z. z ∷ []) same
-  by (y ∷ ys) (suc k) e = ap (λ l. y ∷ l) (by ys k e)
+use Rattle.image_reading.specs.NamedBytes.{of_database, AreNamedBytes}
 
 -- an element of a list with one more is one before, or the last
 at_last : {X : Type 0} (P : ℕ → X → Type 0) (xs : List X) (x : X) → ((i : ℕ) (y : X) → slice_get xs i ≡ Some y → P i y) → P (length xs) x → (i : ℕ) (y : X) → slice_get (xs ++ x ∷ []) i ≡ Some y → P i y

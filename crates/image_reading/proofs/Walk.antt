@@ -4,7 +4,7 @@ use Rattle.std.specs.Option.{option_map, option_and_then}
 use Rattle.image_reading.proofs.Fronts.{goes_before}
 use Rattle.std.specs.Prelude.{Option, slice_get}
 use Rattle.image_reading.specs.declared.parts.Part.{Part}
-use Rattle.image_reading.specs.Parts.{step, left_before, next_part, advanced, goes_on, is_front}
+use Rattle.image_reading.specs.RecordParts.{part_step, left_before, next_part, advanced, layout_goes_on, is_front}
 
 -- what is to be decided is whether the bytes that are left are a front of what is left of the layout
 pub record Walks (missing : ℕ) (layout : List Part) (bytes : List ℕ) (current : Option Part) (place : ℕ) (left : List ℕ) : Type 0 where
@@ -78,19 +78,19 @@ module _ (missing : ℕ) (layout : List Part) (bytes : List ℕ) (current : Opti
   no_part none =
       ap (λ (l : List ℕ). is_front missing [] l) (sym here) ∙ ap (λ (ps : List Part). is_front missing ps (drop i bytes)) (sym (none_next current layout place none)) ∙ w.same
 
-  stepped : (part : Part) (next : ℕ) (found : Option (Option Part)) → next_part current layout place ≡ part_at part next → step part (get_or bytes i 0) ≡ found →
-      goes_on (λ further. is_front missing further (drop (suc i) bytes)) (drop next layout) found ≡ is_front missing layout bytes
+  stepped : (part : Part) (next : ℕ) (found : Option (Option Part)) → next_part current layout place ≡ part_at part next → part_step part (get_or bytes i 0) ≡ found →
+      layout_goes_on (λ further. is_front missing further (drop (suc i) bytes)) (drop next layout) found ≡ is_front missing layout bytes
   stepped part next found at is =
       let n = next_is current layout place part next w.within at in
-      ap (goes_on (λ further. is_front missing further (drop (suc i) bytes)) (drop next layout)) (sym is)
+      ap (layout_goes_on (λ further. is_front missing further (drop (suc i) bytes)) (drop next layout)) (sym is)
       ∙ ap (λ (l : List ℕ). is_front missing (part ∷ drop next layout) l) (sym here)
       ∙ ap (λ (ps : List Part). is_front missing ps (drop i bytes)) (sym n.parts)
       ∙ w.same
 
-  pub no_step : (part : Part) (next : ℕ) → next_part current layout place ≡ part_at part next → step part (get_or bytes i 0) ≡ None → false ≡ is_front missing layout bytes
+  pub no_step : (part : Part) (next : ℕ) → next_part current layout place ≡ part_at part next → part_step part (get_or bytes i 0) ≡ None → false ≡ is_front missing layout bytes
   no_step part next at none = stepped part next None at none
 
-  pub walks_on : (part : Part) (next : ℕ) (left : Option Part) → next_part current layout place ≡ part_at part next → step part (get_or bytes i 0) ≡ Some left → Walks missing layout bytes left next (drop (i + 1) bytes)
+  pub walks_on : (part : Part) (next : ℕ) (left : Option Part) → next_part current layout place ≡ part_at part next → part_step part (get_or bytes i 0) ≡ Some left → Walks missing layout bytes left next (drop (i + 1) bytes)
   walks_on part next left at is =
       let n = next_is current layout place part next w.within at in
       let one : i + 1 ≡ suc i = omega arith in
@@ -104,17 +104,17 @@ module _ (missing : ℕ) (layout : List Part) (bytes : List ℕ) (current : Opti
 
   pub stops : None ≡ advanced current layout place (get_or bytes i 0) → false ≡ is_front missing layout bytes
   stops none = by (next_part current layout place) refl none where
-    with_step : (part : Part) (next : ℕ) (found : Option (Option Part)) → next_part current layout place ≡ part_at part next → step part (get_or bytes i 0) ≡ found → None ≡ option_map {U = Option Part × ℕ} (λ left. (left, next)) found → false ≡ is_front missing layout bytes
+    with_step : (part : Part) (next : ℕ) (found : Option (Option Part)) → next_part current layout place ≡ part_at part next → part_step part (get_or bytes i 0) ≡ found → None ≡ option_map {U = Option Part × ℕ} (λ left. (left, next)) found → false ≡ is_front missing layout bytes
     with_step part next None at is none = no_step part next at is
     with_step part next (Some left) at is none = absurd cc
 
-    by : (o : Option (Part × ℕ)) → next_part current layout place ≡ o → None ≡ option_and_then (λ (next : Part × ℕ). option_map {U = Option Part × ℕ} (λ left. (left, next.1)) (step next.0 (get_or bytes i 0))) o → false ≡ is_front missing layout bytes
+    by : (o : Option (Part × ℕ)) → next_part current layout place ≡ o → None ≡ option_and_then (λ (next : Part × ℕ). option_map {U = Option Part × ℕ} (λ left. (left, next.1)) (part_step next.0 (get_or bytes i 0))) o → false ≡ is_front missing layout bytes
     by None at none = no_part at
-    by (Some x) at none = with_step x.0 x.1 (step x.0 (get_or bytes i 0)) at refl none
+    by (Some x) at none = with_step x.0 x.1 (part_step x.0 (get_or bytes i 0)) at refl none
 
   pub goes_further : (left : Option Part) (behind : ℕ) → found_part left behind ≡ advanced current layout place (get_or bytes i 0) → Walks missing layout bytes left behind (drop (i + 1) bytes)
   goes_further left behind is = by (next_part current layout place) refl is where
-    with_step : (part : Part) (next : ℕ) (found : Option (Option Part)) → next_part current layout place ≡ part_at part next → step part (get_or bytes i 0) ≡ found → found_part left behind ≡ option_map {U = Option Part × ℕ} (λ left. (left, next)) found → Walks missing layout bytes left behind (drop (i + 1) bytes)
+    with_step : (part : Part) (next : ℕ) (found : Option (Option Part)) → next_part current layout place ≡ part_at part next → part_step part (get_or bytes i 0) ≡ found → found_part left behind ≡ option_map {U = Option Part × ℕ} (λ left. (left, next)) found → Walks missing layout bytes left behind (drop (i + 1) bytes)
     with_step part next None at is e = absurd cc
     with_step part next (Some l) at is e =
         let both = found_is (left, behind) (l, next) e in
@@ -122,6 +122,6 @@ module _ (missing : ℕ) (layout : List Part) (bytes : List ℕ) (current : Opti
         let place_same : next ≡ behind = ap (λ (x : Option Part × ℕ). x.1) (sym both) in
         walks_on part behind left (at ∙ ap (λ k. part_at part k) place_same) (is ∙ ap (λ (x : Option Part). Some x) same)
 
-    by : (o : Option (Part × ℕ)) → next_part current layout place ≡ o → found_part left behind ≡ option_and_then (λ (next : Part × ℕ). option_map {U = Option Part × ℕ} (λ left. (left, next.1)) (step next.0 (get_or bytes i 0))) o → Walks missing layout bytes left behind (drop (i + 1) bytes)
+    by : (o : Option (Part × ℕ)) → next_part current layout place ≡ o → found_part left behind ≡ option_and_then (λ (next : Part × ℕ). option_map {U = Option Part × ℕ} (λ left. (left, next.1)) (part_step next.0 (get_or bytes i 0))) o → Walks missing layout bytes left behind (drop (i + 1) bytes)
     by None at e = absurd cc
-    by (Some x) at e = with_step x.0 x.1 (step x.0 (get_or bytes i 0)) at refl e
+    by (Some x) at e = with_step x.0 x.1 (part_step x.0 (get_or bytes i 0)) at refl e

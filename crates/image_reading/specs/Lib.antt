@@ -1,5 +1,5 @@
-pub mod Reading
-pub mod Parts
-pub mod Layouts
-pub mod SnapshotReadingReading
-pub mod Giving
+pub mod ReadLog
+pub mod RecordParts
+pub mod RecordLayouts
+pub mod ReadSnapshot
+pub mod NamedBytes

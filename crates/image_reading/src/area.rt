@@ -1,7 +1,7 @@
 //! A log area, each sector of which is read once.
 ghost use Rattle.std.specs.Prelude.{◌≡◌, ◌+◌, ◌<◌, ◌≤◌, ◌^◌, IsTrue, IfOk};
 ghost use Rattle.tm_disk.specs.Disk.{Keeps};
-ghost use Rattle.image_reading.specs.Reading.{IsAreaOf, LogCause};
+ghost use Rattle.image_reading.specs.ReadLog.{IsAreaOf, LogCause};
 
 use crate::first_later_from;
 use crate::reading::LogFault;

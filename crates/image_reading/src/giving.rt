@@ -1,8 +1,8 @@
 //! Slots by database.
 ghost use Rattle.std.specs.Prelude.{◌≡◌, ◌<◌, ◌++◌, ◌∷◌, [], IfOk, OnOk};
 ghost use Rattle.std.specs.List.{AllByRecursion};
-ghost use Rattle.image_records.specs.NamedSlots.{Ascend};
-ghost use Rattle.image_reading.specs.Giving.{of_database, AreNamedBytes};
+ghost use Rattle.image_records.specs.NamedSlots.{NamedSlotsAscend};
+ghost use Rattle.image_reading.specs.NamedBytes.{of_database, AreNamedBytes};
 
 use image_loading::Slots;
 use image_records::NamedSlot;
@@ -23,7 +23,7 @@ fn add(slots: &mut Slots, database: u8, slot: &NamedSlot) -> Result<(), Memory>
 
 // The slots of this database.
 fn slots_of(alloc: Global, database: u8, named: &[NamedSlot]) -> Result<Slots, Memory>
-    requires { Ascend named.now }
+    requires { NamedSlotsAscend named.now }
     ensures { IfOk result (λ slots. slots ≡ of_database database named.now) }
 {
     let mut slots = Slots::new(alloc);
@@ -38,7 +38,7 @@ fn slots_of(alloc: Global, database: u8, named: &[NamedSlot]) -> Result<Slots, M
 /// The slots of each of so many databases, in their order, with the bytes that the list has for them.
 pub fn given_of(alloc: Global, count: u8, named: &[NamedSlot]) -> Result<Vec<Slots>, Memory>
     requires few { count < 255 }
-    requires ascending { Ascend named.now }
+    requires ascending { NamedSlotsAscend named.now }
     ensures { IfOk result (λ given. AreNamedBytes count named.now given.items) }
 {
     let mut given = Vec::new(alloc);

@@ -1,7 +1,7 @@
 //! Log sectors of a later life.
 ghost use Rattle.std.specs.Prelude.{◌≡◌, ◌+◌, ◌<◌, ◌≤◌, length, IsTrue, IfOk, OnOk, OnErr};
 ghost use Rattle.tm_disk.specs.Disk.{Keeps, FailedSince, sector_at};
-ghost use Rattle.model_image.specs.Recovered as recovered;
+ghost use Rattle.model_image.specs.RecoveredState as recovered;
 
 use restart_data::number8;
 use tm_disk::{Disk, DiskFault, Sector};

@@ -22,7 +22,7 @@ mod later;
 mod parts;
 mod reading;
 mod rest;
-mod snapshot_reading_reading;
+mod snapshot;
 mod text;
 
 pub use area::{LogArea, read_area};
@@ -31,5 +31,5 @@ pub use giving::given_of;
 pub use later::{first_later, first_later_from};
 pub use reading::{LogFault, ReadLog, read_log};
 pub use rest::is_cut_off;
-pub use snapshot_reading_reading::read_told;
+pub use snapshot::read_told;
 pub use text::text_difference;

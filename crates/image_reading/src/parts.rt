@@ -1,7 +1,7 @@
 //! The parts of a record's layout, byte by byte.
 ghost use Rattle.std.specs.Prelude.{◌≡◌, ◌+◌, ◌*◌, ◌==◌, if◌then◌else◌};
 ghost use Rattle.image_reading.specs.declared.parts.Part.TheVariants.{Positive, Any, TextLow, SegmentLow};
-ghost use Rattle.image_reading.specs.Parts.{any_left, names_left, segments_left, segment_left, if_so, step, least, most};
+ghost use Rattle.image_reading.specs.RecordParts.{any_left, names_left, segments_left, segment_left, if_so, part_step, least, most};
 
 use tm_types::{is_name_byte, is_printable};
 
@@ -101,7 +101,7 @@ fn number(high: u8, low: u8) -> u16
 
 /// The bytes of a text behind its length.
 fn text_left(limit: u16, high: u8, low: u8) -> Option<Option<Part>>
-    ensures { result ≡ step (TextLow limit high) low }
+    ensures { result ≡ part_step (TextLow limit high) low }
 {
     let length = number(high, low);
     if_so(low <= 255 && length <= limit, any_left(length))
@@ -109,7 +109,7 @@ fn text_left(limit: u16, high: u8, low: u8) -> Option<Option<Part>>
 
 /// The bytes of a segment behind its length, and then so many segments.
 fn length_left(more: u16, high: u8, low: u8) -> Option<Option<Part>>
-    ensures { result ≡ step (SegmentLow more high) low }
+    ensures { result ≡ part_step (SegmentLow more high) low }
 {
     let length = number(high, low);
     if_so(low <= 255 && length <= 1996, segment_left(more, length))
@@ -117,7 +117,7 @@ fn length_left(more: u16, high: u8, low: u8) -> Option<Option<Part>>
 
 /// What is left of a part behind its first byte: None, where the byte isn't one of it.
 pub fn step(part: Part, byte: u8) -> Option<Option<Part>>
-    ensures { result ≡ step part byte }
+    ensures { result ≡ part_step part byte }
 {
     match part {
         Part::Exactly(wanted) => if_so(byte == wanted, None),

@@ -2,10 +2,10 @@
 ghost use Rattle.std.specs.Prelude.{◌≡◌, ◌+◌, ◌≤◌, length, Decides, IsTrue, IfOk};
 ghost use Rattle.log_records.proofs.Takes.{IsBytes};
 ghost use Rattle.tm_disk.specs.Disk.{Keeps};
-ghost use Rattle.restart_data.specs.Images.{IsValid};
+ghost use Rattle.restart_data.specs.WrittenSectors.{IsValid};
 ghost use Rattle.model_image.specs.Areas.{snapshot_area, data_first};
-ghost use Rattle.model_image.specs.Cut.{cut_of, IsCutOff};
-ghost use Rattle.image_reading.specs.Reading.{ComesFromBytes, IsLogOf, LogCause};
+ghost use Rattle.model_image.specs.CutRecords.{cut_of, IsRecordCutOff};
+ghost use Rattle.image_reading.specs.ReadLog.{ComesFromBytes, IsLogOf, LogCause};
 
 use crate::area::read_area;
 use crate::is_cut_off;
@@ -45,7 +45,7 @@ pub enum LogFault {
 // The records of a log's bytes, and whether what is left behind them is cut off.
 fn cut_log(alloc: Global, bytes: &[u8]) -> Result<(Vec<Record>, bool), Memory>
     ensures records { IfOk result (λ log. log.0.items ≡ (cut_of bytes.now).records) }
-    ensures decided { IfOk result (λ log. Decides log.1 (IsCutOff (cut_of bytes.now).rest)) }
+    ensures decided { IfOk result (λ log. Decides log.1 (IsRecordCutOff (cut_of bytes.now).rest)) }
     ensures bytes { IfOk result (λ log. IsBytes bytes.now) }
 {
     let cut = cut(alloc, bytes)?;

@@ -1,15 +1,15 @@
 //! The rest of a log.
 ghost use Rattle.std.specs.Prelude.{◌≡◌, ◌∷◌, nat_le, Decides};
-ghost use Rattle.model_image.specs.Cut.{IsCutOff};
-ghost use Rattle.image_reading.specs.Parts.{leasts, mosts, left_before, next_part, advanced, have_room, is_front};
-ghost use Rattle.image_reading.specs.Layouts.{messages, answers, tables, change, idle_terminal, conversing_terminal, is_front_in, is_front_of_any};
+ghost use Rattle.model_image.specs.CutRecords.{IsRecordCutOff};
+ghost use Rattle.image_reading.specs.RecordParts.{leasts, mosts, left_before, next_part, advanced, have_room, is_front};
+ghost use Rattle.image_reading.specs.RecordLayouts.{messages, answers, tables, change, idle_terminal, conversing_terminal, is_front_in, is_front_of_any};
 
 use crate::parts::{Part, least, most, step};
 
 /// Whether what is left of a log's bytes behind its last record is a front of a record, without its end.
 #[tactic(auto, using(crate::proofs::CutOff::cut_where, crate::proofs::CutOff::where_cut, crate::proofs::CutOff::short_cut))]
 pub fn is_cut_off(rest: &[u8]) -> bool
-    ensures { Decides result (IsCutOff rest.now) }
+    ensures { Decides result (IsRecordCutOff rest.now) }
 {
     match rest {
         [high, low, tail @ ..] => is_cut_behind(*high, *low, tail),
@@ -19,7 +19,7 @@ pub fn is_cut_off(rest: &[u8]) -> bool
 
 /// The same behind the two bytes of its length.
 fn is_cut_behind(high: u8, low: u8, tail: &[u8]) -> bool
-    ensures { Decides result (IsCutOff (high ∷ low ∷ tail.now)) }
+    ensures { Decides result (IsRecordCutOff (high ∷ low ∷ tail.now)) }
 {
     let size = 256 * high as usize + low as usize;
     if size <= 2 + tail.len() {

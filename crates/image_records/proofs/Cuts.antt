@@ -1,27 +1,24 @@
 -- Bytes are cut behind their first record as they are cut there alone.
 use Rattle.std.proofs.Common.{◌≡◌, ℕ, zero, suc, ◌+◌, ◌-◌, ◌≤◌, List, [], ◌∷◌, ◌++◌, length, take, drop, refl, sym, ◌∙◌, ap, subst, arith, Ok, Err, Some, None, append_assoc}
 use Rattle.std.specs.Prelude.{Result}
-use Rattle.std.proofs.lemmas.List.{length-append, length-take, length-drop, take-append-drop, append-nil, drop-drop}
+use Rattle.std.proofs.lemmas.List.{length-take, length-drop, take-append-drop, append-nil, drop-drop}
 use Rattle.std.proofs.Math.ListN.{drop_of_length-le}
 use Rattle.log_records.specs.declared.record.Record.{Record}
-use Rattle.log_records.specs.Spelling.{Spells, spelling, record_length, content, number2}
-use Rattle.log_records.specs.Reading.{record_at, number_at}
+use Rattle.log_records.specs.RecordSpelling.{SpellsLogRecord, record_length}
+use Rattle.log_records.specs.RecordReader.{record_at, read_number}
 use Rattle.log_records.proofs.Takes.{IsBytes, IsBytes-drop}
 use Rattle.log_records.proofs.Laws.{record_takes, record_again}
-use Rattle.log_records.proofs.FieldLaws.{number2_length}
-use Rattle.model_image.specs.Cut.{Cut, none_of, and_others, from_first, cut_by, cut_of}
-use Rattle.image_records.specs.Cutting.{Begins}
-
-length_spelling : (r : Record) → length (spelling r) ≡ record_length r
-length_spelling r = length-append (number2 (record_length r)) (content r) ∙ ap (λ n. n + length (content r)) (number2_length (record_length r))
+use Rattle.model_image.specs.CutRecords.{Cut, none_of, and_others, from_first, cut_by, cut_of}
+use Rattle.image_records.specs.CutRecords.{BeginsWithRecord}
+use Rattle.model_image.proofs.Cutting.{length_spelling}
 
 -- how long a record is
-sizes : (bytes : List ℕ) (r : Record) (n : ℕ) → n ≤ length bytes → Spells (take n bytes) r → n ≡ record_length r
+sizes : (bytes : List ℕ) (r : Record) (n : ℕ) → n ≤ length bytes → SpellsLogRecord (take n bytes) r → n ≡ record_length r
 sizes bytes r n within spells =
     omega (arith, within, length-take n bytes, ap (length {A = ℕ}) spells.same, length_spelling r)
 
 nothing : record_at [] ≡ Err (1, 0)
-unfolding record_at number_at
+unfolding record_at read_number
 nothing = refl
 
 empty : (n : ℕ) → cut_by n [] ≡ none_of []
@@ -48,7 +45,7 @@ same_fuel (suc f) (suc g) bytes are few more =
           (omega (arith, few, takes.0, size, length-drop x.1 bytes)) (omega (arith, more, takes.0, size, length-drop x.1 bytes)))
 
 -- what is read is cut off first
-pub begins : (bytes : List ℕ) (x : Record × ℕ) → IsBytes bytes → (x.1 ≤ length bytes) × Spells (take x.1 bytes) x.0 → Begins bytes (Some x)
+pub begins : (bytes : List ℕ) (x : Record × ℕ) → IsBytes bytes → (x.1 ≤ length bytes) × SpellsLogRecord (take x.1 bytes) x.0 → BeginsWithRecord bytes (Some x)
 unfolding cut_of
 begins bytes x are takes =
     let size = sizes bytes x.0 x.1 takes.0 takes.1 in
@@ -66,7 +63,7 @@ begins bytes x are takes =
           ∙ ap (and_others x.0) (same_fuel n (length rest) rest (IsBytes-drop x.1 bytes are) (omega (arith, takes.0, size, length-drop x.1 bytes)) (omega arith)),
     )
 
-pub begins_none : (bytes : List ℕ) (fault : ℕ × ℕ) → record_at bytes ≡ Err fault → Begins bytes None
+pub begins_none : (bytes : List ℕ) (fault : ℕ × ℕ) → record_at bytes ≡ Err fault → BeginsWithRecord bytes None
 unfolding cut_of
 begins_none bytes fault is = stops (length bytes) where
   stops : (n : ℕ) → cut_by n bytes ≡ none_of bytes
@@ -87,7 +84,7 @@ pub record IsCut (bytes : List ℕ) (records : List Record) (at : ℕ) : Type 0 
 pub cut_none : (bytes : List ℕ) → IsCut bytes [] 0
 cut_none bytes = record { within = omega arith; all = refl; rest = refl }
 
-pub cut_more : (bytes : List ℕ) (records : List Record) (at : ℕ) (x : Record × ℕ) → IsCut bytes records at → Begins (drop at bytes) (Some x) → IsCut bytes (records ++ x.0 ∷ []) (at + x.1)
+pub cut_more : (bytes : List ℕ) (records : List Record) (at : ℕ) (x : Record × ℕ) → IsCut bytes records at → BeginsWithRecord (drop at bytes) (Some x) → IsCut bytes (records ++ x.0 ∷ []) (at + x.1)
 cut_more bytes records at x cut begins =
     let next : drop (at + x.1) bytes ≡ drop x.1 (drop at bytes) = sym (drop-drop x.1 at bytes) in
     record {
@@ -100,11 +97,11 @@ cut_more bytes records at x cut begins =
       rest = ap (λ (l : List ℕ). (cut_of l).rest) next ∙ ap (λ (c : Cut). c.rest) (sym begins.2) ∙ cut.rest;
     }
 
-pub cut_stops : (bytes : List ℕ) (records : List Record) (at : ℕ) → IsCut bytes records at → Begins (drop at bytes) None → (records ≡ (cut_of bytes).records) × (drop at bytes ≡ (cut_of bytes).rest)
+pub cut_stops : (bytes : List ℕ) (records : List Record) (at : ℕ) → IsCut bytes records at → BeginsWithRecord (drop at bytes) None → (records ≡ (cut_of bytes).records) × (drop at bytes ≡ (cut_of bytes).rest)
 cut_stops bytes records at cut none =
     (sym (append-nil records) ∙ ap (λ (c : Cut). records ++ c.records) (sym none) ∙ cut.all, ap (λ (c : Cut). c.rest) (sym none) ∙ cut.rest)
 
 pub cut_ends : (bytes : List ℕ) (records : List Record) (at : ℕ) → IsCut bytes records at → length bytes ≤ at → (records ≡ (cut_of bytes).records) × (drop at bytes ≡ (cut_of bytes).rest)
 cut_ends bytes records at cut past =
     let none : drop at bytes ≡ [] = drop_of_length-le bytes past in
-    cut_stops bytes records at cut (subst (λ (l : List ℕ). Begins l None) (sym none) empty_cut)
+    cut_stops bytes records at cut (subst (λ (l : List ℕ). BeginsWithRecord l None) (sym none) empty_cut)

@@ -8,7 +8,7 @@ use Rattle.tm_types.specs.declared.message.Message.{Message}
 use Rattle.model_messages.specs.Queue.{QueuesState, IsNewId, messages_of, with_message}
 use Rattle.model_messages.specs.Room.{message_bytes, messages_bytes}
 use Rattle.model_image.specs.States.{ascend_below}
-use Rattle.image_records.specs.Kept.{free_message}
+use Rattle.image_records.specs.KeptState.{free_message}
 
 -- these are those that were added, and those that are still to be
 pub record IsFilled (limit : ℕ) (all rest : List Message) (queues : QueuesState) : Type 0 where

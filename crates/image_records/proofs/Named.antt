@@ -1,10 +1,8 @@
 -- The terminals and codes of a state stand in the order of the definition, so a name has the same place in all lists.
-use Rattle.std.proofs.Common.{◌≡◌, ℕ, zero, suc, ◌+◌, ◌<◌, Bool, true, false, List, [], ◌∷◌, length, get_or, map, refl, sym, ◌∙◌, ap, subst, arith, Some, None, cond, nat_lt}
+use Rattle.std.proofs.Common.{◌≡◌, ℕ, zero, suc, ◌<◌, Bool, true, false, List, [], ◌∷◌, length, get_or, map, refl, sym, ◌∙◌, ap, subst, arith, Some, None, cond}
 use Rattle.std.specs.Prelude.{Option, slice_get, slice_set, position}
 use Rattle.std.specs.Option.{option_map, option_map_or}
-use Rattle.std.specs.List.{position_or_len}
 use Rattle.std.specs.Str.{bytes_eq}
-use Rattle.std.proofs.lemmas.Bool.Decides.{nat_tests}
 use Rattle.std.proofs.lemmas.Option.{slice_get-get_or}
 use Rattle.model_messages.specs.declared.conversation.TerminalConversation.{TerminalConversation}
 use Rattle.model_messages.specs.Terminals as conversations
@@ -19,25 +17,11 @@ use Rattle.model_machine.specs.declared.lasting.CodeSetting.{CodeSetting}
 use Rattle.model_machine.specs.Machine.{LastingState, terminal_place, empty_state, first_setting, fresh_terminal_state}
 use Rattle.log_records.specs.declared.record.Record.{Record}
 use Rattle.log_records.specs.declared.record.Record.TheVariants.{Input, Command, Reply, Discarded, Completed, Acknowledged, SyncPoint, Checkpoint, Terminal, Code as CodeRecord, Change}
-use Rattle.model_image.specs.Snapshot.{code_names, told, with_kept}
-use Rattle.image_records.specs.Telling.{AreNamed, of_state, of_output, of_conversation, of_setting}
+use Rattle.model_image.specs.Snapshot.{code_names, with_record_told, with_kept}
+use Rattle.image_records.specs.ChangeRecords.{AreNamesKept, of_state, of_output, of_conversation, of_setting}
+use Rattle.tm_types.proofs.Positions.{found, position_more}
 
 -- ---- places
-
-less_more : (k n : ℕ) → nat_lt (1 + k) (suc n) ≡ nat_lt k n
-less_more k n = grind (arith, nat_tests)
-
-zero_less : (n : ℕ) → nat_lt 0 (suc n) ≡ true
-zero_less n = grind (arith, nat_tests)
-
-found : (a b : Bool) (k : ℕ) → a ≡ b → cond a (Some (1 + k)) None ≡ option_map (λ n. suc n) (cond b (Some k) None)
-found a true k is = ap (λ (t : Bool). cond t (Some (1 + k)) None) is ∙ ap (λ (n : ℕ). Some n) (omega arith)
-found a false k is = ap (λ (t : Bool). cond t (Some (1 + k)) None) is
-
-position_more : {X : Type 0} (p : X → Bool) (x : X) (xs : List X) (b : Bool) → p x ≡ b → position p (x ∷ xs) ≡ cond b (Some 0) (option_map (λ n. suc n) (position p xs))
-position_more {X} p x xs true h = rw (h) (ap (λ (t : Bool). cond t (Some 0) None) (zero_less (length xs)))
-position_more {X} p x xs false h =
-    rw (h) (found (nat_lt (1 + position_or_len p xs) (suc (length xs))) (nat_lt (position_or_len p xs) (length xs)) (position_or_len p xs) (less_more (position_or_len p xs) (length xs)))
 
 mapped : {X : Type 0} (name : X → List ℕ) (n : List ℕ) (x : X) (xs : List X) (b : Bool) → bytes_eq (name x) n ≡ b → position (λ y. bytes_eq (name y) n) xs ≡ position (λ m. bytes_eq m n) (map name xs)
     → position (λ y. bytes_eq (name y) n) (x ∷ xs) ≡ position (λ m. bytes_eq m n) (map name (x ∷ xs))
@@ -101,7 +85,7 @@ change_names {X} name f same xs (Some k) = by (slice_get xs k) refl where
 
 pub output_names : (n : List ℕ) (f : TerminalReplies → TerminalReplies) → ((t : TerminalReplies) → of_output (f t) ≡ of_output t) → (ts : List TerminalReplies) → map of_output (outputs.with_terminal n f ts) ≡ map of_output ts
 output_names n f same [] = refl
-output_names n f same (t ∷ ts) = by (outputs.is_of n t) (output_names n f same ts) where
+output_names n f same (t ∷ ts) = by (outputs.are_replies_of n t) (output_names n f same ts) where
   by : (b : Bool) → map of_output (outputs.with_terminal n f ts) ≡ map of_output ts → map of_output (cond b (f t ∷ ts) (t ∷ outputs.with_terminal n f ts)) ≡ map of_output (t ∷ ts)
   by true rec = ap (λ (m : List ℕ). m ∷ map of_output ts) (same t)
   by false rec = ap (λ (l : List (List ℕ)). of_output t ∷ l) rec
@@ -109,13 +93,13 @@ output_names n f same (t ∷ ts) = by (outputs.is_of n t) (output_names n f same
 pub conversation_names : (n : List ℕ) (f : TerminalConversation → TerminalConversation) → ((t : TerminalConversation) → of_conversation (f t) ≡ of_conversation t) → (ts : List TerminalConversation)
     → map of_conversation (conversations.with_terminal n f ts) ≡ map of_conversation ts
 conversation_names n f same [] = refl
-conversation_names n f same (t ∷ ts) = by (conversations.is_of n t) (conversation_names n f same ts) where
+conversation_names n f same (t ∷ ts) = by (conversations.is_conversation_of n t) (conversation_names n f same ts) where
   by : (b : Bool) → map of_conversation (conversations.with_terminal n f ts) ≡ map of_conversation ts → map of_conversation (cond b (f t ∷ ts) (t ∷ conversations.with_terminal n f ts)) ≡ map of_conversation (t ∷ ts)
   by true rec = ap (λ (m : List ℕ). m ∷ map of_conversation ts) (same t)
   by false rec = ap (λ (l : List (List ℕ)). of_conversation t ∷ l) rec
 
-same_named : (system : System) (old new : LastingState) → AreNamed system old → map of_state new.terminals ≡ map of_state old.terminals → map of_output new.outputs ≡ map of_output old.outputs
-    → map of_conversation new.conversations ≡ map of_conversation old.conversations → map of_setting new.codes ≡ map of_setting old.codes → AreNamed system new
+same_named : (system : System) (old new : LastingState) → AreNamesKept system old → map of_state new.terminals ≡ map of_state old.terminals → map of_output new.outputs ≡ map of_output old.outputs
+    → map of_conversation new.conversations ≡ map of_conversation old.conversations → map of_setting new.codes ≡ map of_setting old.codes → AreNamesKept system new
 same_named system old new named terminals outputs conversations codes = record {
   terminals = terminals ∙ named.terminals;
   outputs = outputs ∙ named.outputs;
@@ -123,22 +107,22 @@ same_named system old new named terminals outputs conversations codes = record {
   codes = codes ∙ named.codes;
 }
 
-pub told_named : (system : System) (r : Record) (old : LastingState) → AreNamed system old → AreNamed system (told r old)
+pub told_named : (system : System) (r : Record) (old : LastingState) → AreNamesKept system old → AreNamesKept system (with_record_told r old)
 told_named system (Checkpoint checkpoint next_id next_unit steps) old named =
-    same_named system old (told (Checkpoint checkpoint next_id next_unit steps) old) named refl refl refl refl
+    same_named system old (with_record_told (Checkpoint checkpoint next_id next_unit steps) old) named refl refl refl refl
 told_named system (Terminal name last next stopped conversation) old named =
-    same_named system old (told (Terminal name last next stopped conversation) old) named
+    same_named system old (with_record_told (Terminal name last next stopped conversation) old) named
     (change_names of_state (λ t. record t { last = last; stopped = stopped }) (λ t. refl) old.terminals (terminal_place old.terminals name))
     (output_names name (λ t. record t { next = next }) (λ t. refl) old.outputs)
     (conversation_names name (conversations.with_conversation conversation) (λ t. refl) old.conversations)
     refl
 told_named system (CodeRecord name stopped class priority) old named =
-    same_named system old (told (CodeRecord name stopped class priority) old) named refl refl refl
+    same_named system old (with_record_told (CodeRecord name stopped class priority) old) named refl refl refl
     (change_names of_setting (λ c. record c { stopped = stopped; class = class; priority = priority }) (λ c. refl) old.codes (position (λ code. bytes_eq code.code name) old.codes))
 told_named system (Input unit id origin code number conversation segments) old named =
-    same_named system old (told (Input unit id origin code number conversation segments) old) named refl refl refl refl
+    same_named system old (with_record_told (Input unit id origin code number conversation segments) old) named refl refl refl refl
 told_named system (Reply unit terminal number segments) old named =
-    same_named system old (told (Reply unit terminal number segments) old) named refl
+    same_named system old (with_record_told (Reply unit terminal number segments) old) named refl
     (output_names terminal (with_kept number segments) (λ t. refl) old.outputs) refl refl
 told_named system (Command text) old named = named
 told_named system (Discarded unit id abend number) old named = named
@@ -147,8 +131,8 @@ told_named system (Acknowledged terminal number) old named = named
 told_named system (SyncPoint unit pad) old named = named
 told_named system (Change unit database slot before after) old named = named
 
-pub named_told : (system : System) (r : Record) (old new : LastingState) → AreNamed system old → new ≡ told r old → AreNamed system new
-named_told system r old new named is = subst (AreNamed system) (sym is) (told_named system r old named)
+pub named_told : (system : System) (r : Record) (old new : LastingState) → AreNamesKept system old → new ≡ with_record_told r old → AreNamesKept system new
+named_told system r old new named is = subst (AreNamesKept system) (sym is) (told_named system r old named)
 
 -- ---- the empty state
 
@@ -160,7 +144,7 @@ codes_again : (codes : List Code) → map of_setting (map first_setting codes) �
 codes_again [] = refl
 codes_again (c ∷ codes) = ap (λ (l : List (List ℕ)). c.transaction.code ∷ l) (codes_again codes)
 
-pub empty_named : (system : System) → AreNamed system (empty_state system)
+pub empty_named : (system : System) → AreNamesKept system (empty_state system)
 empty_named system = record {
   terminals = again of_state fresh_terminal_state (λ n. refl) system.terminals;
   outputs = again of_output outputs.fresh_terminal (λ n. refl) system.terminals;
@@ -168,5 +152,5 @@ empty_named system = record {
   codes = codes_again system.codes;
 }
 
-pub named_empty : (system : System) (lasting : LastingState) → lasting ≡ empty_state system → AreNamed system lasting
-named_empty system lasting is = subst (AreNamed system) (sym is) (empty_named system)
+pub named_empty : (system : System) (lasting : LastingState) → lasting ≡ empty_state system → AreNamesKept system lasting
+named_empty system lasting is = subst (AreNamesKept system) (sym is) (empty_named system)

@@ -7,22 +7,22 @@ use Rattle.model_system.specs.System.{System}
 use Rattle.model_machine.specs.Machine.{LastingState}
 use Rattle.log_records.specs.declared.record.Record.{Record}
 use Rattle.log_records.specs.declared.record.Record.TheVariants.{Input, Command, Reply, Discarded, Completed, Acknowledged, SyncPoint, Checkpoint, Terminal, Code, Change}
-use Rattle.restart_data.specs.Rules.{first_broken, unless_broken}
+use Rattle.restart_data.specs.Rules.{first_broken, unless_rule_broken}
 use Rattle.image_records.specs.declared.telling.Told.{Told}
-use Rattle.model_image.specs.Cut.{cut_of, records_of, where_none_left}
+use Rattle.model_image.specs.CutRecords.{cut_of, records_cut, where_none_left}
 use Rattle.model_image.specs.Counters.{told_unit}
 use Rattle.model_image.specs.Snapshot.{out_of_order, missing_or_twice, reply_of_none, wrong_changes, snapshot_rules}
 use Rattle.model_image.specs.States.{breaks_a_rule, wrong_values, wrong_ids, unknown_messages, wrong_replies, over_full}
 use Rattle.image_records.specs.declared.fault.RecordsFault.{RecordsFault}
 use Rattle.image_records.specs.declared.fault.RecordsFault.TheVariants.{Bad, Memory}
 use Rattle.image_records.specs.declared.reading.RecordRules.{RecordRules}
-use Rattle.image_records.specs.Kept.{Keeps}
-use Rattle.image_records.specs.Answers.{SnapshotState, Tells, TellsRecords, judged, snapshot_of}
-use Rattle.image_records.specs.Judging.{AreRecordRules, IsToldBy, KeepsTold, rules_by}
+use Rattle.image_records.specs.KeptState.{KeepsState}
+use Rattle.image_records.specs.RecordAnswers.{SnapshotState, TellsSnapshotState, TellsRecords, judged_records, snapshot_of}
+use Rattle.image_records.specs.SnapshotRules.{AreRecordRules, IsToldByRecords, KeepsTold, rules_by}
 
 -- ---- bytes that are records
 
-left : (system : System) (rest : List ℕ) (records : List Record) → 0 < length rest → judged system (where_none_left rest records) ≡ Err 10
+left : (system : System) (rest : List ℕ) (records : List Record) → 0 < length rest → judged_records system (where_none_left rest records) ≡ Err 10
 left system [] records some = absurd (omega (arith, some))
 left system (b ∷ rest) records some = refl
 
@@ -31,16 +31,16 @@ left_over system bytes n rest more =
     left system (cut_of bytes).rest (cut_of bytes).records (omega (arith, ap (length {A = ℕ}) rest, length-drop n bytes, more))
 
 pub none_left : (system : System) (bytes : List ℕ) (n : ℕ) (records : List Record) (result : Result SnapshotState RecordsFault) →
-    records ≡ (cut_of bytes).records → drop n bytes ≡ (cut_of bytes).rest → length bytes ≤ n → Tells system records result → TellsRecords system bytes result
+    records ≡ (cut_of bytes).records → drop n bytes ≡ (cut_of bytes).rest → length bytes ≤ n → TellsSnapshotState system records result → TellsRecords system bytes result
 none_left system bytes n records result are rest past = by result where
-  is : records_of bytes ≡ Some records
+  is : records_cut bytes ≡ Some records
   is =
       ap (λ l. where_none_left l (cut_of bytes).records) (sym rest ∙ drop_of_length-le bytes past)
       ∙ ap (λ (l : List Record). Some l) (sym are)
 
-  by : (result : Result SnapshotState RecordsFault) → Tells system records result → TellsRecords system bytes result
-  by (Ok snapshot) t = (records, ap (judged system) is ∙ t.0, t.1)
-  by (Err (Bad rule)) t = ap (judged system) is ∙ t
+  by : (result : Result SnapshotState RecordsFault) → TellsSnapshotState system records result → TellsRecords system bytes result
+  by (Ok snapshot) t = (records, ap (judged_records system) is ∙ t.0, t.1)
+  by (Err (Bad rule)) t = ap (judged_records system) is ∙ t
   by (Err Memory) t = tt
 
 pub ruleset read_steps = (left_over, none_left)
@@ -73,7 +73,7 @@ rules_with system order names replies changes lasting =
     ∷ (17, changes)
     ∷ []
 
-same_rules : (system : System) (records : List Record) (broken : RecordRules) (told : Told) → AreRecordRules system records broken → IsToldBy system records told
+same_rules : (system : System) (records : List Record) (broken : RecordRules) (told : Told) → AreRecordRules system records broken → IsToldByRecords system records told
     → rules_by system broken told.lasting ≡ snapshot_rules system records
 same_rules system records broken told are is =
     ap (λ (b : Bool). rules_with system b broken.names broken.replies broken.changes told.lasting) are.order
@@ -82,10 +82,10 @@ same_rules system records broken told are is =
     ∙ ap (λ (b : Bool). rules_with system (out_of_order system records) (missing_or_twice system records) (reply_of_none system records) b told.lasting) are.changes
     ∙ ap (λ (l : LastingState). rules_with system (out_of_order system records) (missing_or_twice system records) (reply_of_none system records) (wrong_changes system records) l) is.lasting
 
-pub stops : (system : System) (records : List Record) (broken : RecordRules) (told : Told) (rule : ℕ) → AreRecordRules system records broken → IsToldBy system records told
-    → Some rule ≡ first_broken (rules_by system broken told.lasting) → judged system (Some records) ≡ Err rule
+pub stops : (system : System) (records : List Record) (broken : RecordRules) (told : Told) (rule : ℕ) → AreRecordRules system records broken → IsToldByRecords system records told
+    → Some rule ≡ first_broken (rules_by system broken told.lasting) → judged_records system (Some records) ≡ Err rule
 stops system records broken told rule are is first =
-    ap (λ found. unless_broken found records) (sym (first ∙ ap first_broken (same_rules system records broken told are is)))
+    ap (λ found. unless_rule_broken found records) (sym (first ∙ ap first_broken (same_rules system records broken told are is)))
 
 apart : (n : ℕ) → None ≡ Some n → ⊥
 apart n e = cc
@@ -106,13 +106,13 @@ sound system broken lasting =
     none_broken broken.order broken.names (wrong_values system lasting) (wrong_ids lasting) (unknown_messages system lasting) (wrong_replies lasting) broken.replies (over_full system lasting) broken.changes
 
 pub keeps : (system : System) (records : List Record) (broken : RecordRules) (told : Told) (unit : ℕ) (result : Result SnapshotState RecordsFault) →
-    AreRecordRules system records broken → IsToldBy system records told → unit ≡ told_unit records → None ≡ first_broken (rules_by system broken told.lasting) → KeepsTold system told unit result → Tells system records result
+    AreRecordRules system records broken → IsToldByRecords system records told → unit ≡ told_unit records → None ≡ first_broken (rules_by system broken told.lasting) → KeepsTold system told unit result → TellsSnapshotState system records result
 keeps system records broken told unit result are is next none = by result where
-  whole : judged system (Some records) ≡ Ok records
-  whole = ap (λ found. unless_broken found records) (sym (none ∙ ap first_broken (same_rules system records broken told are is)))
+  whole : judged_records system (Some records) ≡ Ok records
+  whole = ap (λ found. unless_rule_broken found records) (sym (none ∙ ap first_broken (same_rules system records broken told are is)))
 
-  by : (result : Result SnapshotState RecordsFault) → KeepsTold system told unit result → Tells system records result
-  by (Ok snapshot) k = (whole, record { kept = subst (λ lasting. Keeps system lasting snapshot.kept) is.lasting k.kept; changes = k.changes ∙ is.changes; unit = k.next ∙ next })
+  by : (result : Result SnapshotState RecordsFault) → KeepsTold system told unit result → TellsSnapshotState system records result
+  by (Ok snapshot) k = (whole, record { kept = subst (λ lasting. KeepsState system lasting snapshot.kept) is.lasting k.kept; changes = k.changes ∙ is.changes; unit = k.next ∙ next })
   by (Err (Bad rule)) k = absurd k
   by (Err Memory) k = tt
 

@@ -1,7 +1,7 @@
-pub mod Telling
-pub mod Weighing
-pub mod Kept
-pub mod Cutting
+pub mod ChangeRecords
+pub mod CappedCounts
+pub mod KeptState
+pub mod CutRecords
 pub mod NamedSlots
-pub mod Answers
-pub mod Judging
+pub mod RecordAnswers
+pub mod SnapshotRules

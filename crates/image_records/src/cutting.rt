@@ -1,7 +1,7 @@
 //! Bytes, cut into records.
 ghost use Rattle.std.specs.Prelude.{◌≡◌, ◌≤◌, length, drop, IfOk};
-ghost use Rattle.model_image.specs.Cut.{cut_of};
-ghost use Rattle.image_records.specs.Cutting.{Begins};
+ghost use Rattle.model_image.specs.CutRecords.{cut_of};
+ghost use Rattle.image_records.specs.CutRecords.{BeginsWithRecord};
 
 use log_records::{DecodeFault, Record, decode};
 use std::alloc::{AllocError, Global};
@@ -34,7 +34,7 @@ pub fn cut(alloc: Global, bytes: &[u8]) -> Result<CutRecords, Memory>
 
 /// The record that bytes begin with, and its length, or None where they begin with none.
 fn first(alloc: Global, bytes: &[u8]) -> Result<Option<(Record, usize)>, Memory>
-    ensures { IfOk result (Begins bytes.now) }
+    ensures { IfOk result (BeginsWithRecord bytes.now) }
 {
     match decode(alloc, bytes) {
         Ok((record, size)) => Ok(Some((record, size))),

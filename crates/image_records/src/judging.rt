@@ -2,9 +2,9 @@
 ghost use Rattle.std.specs.Prelude.{◌≡◌, ◌==◌, ◌&&◌, ◌+◌, ◌<◌, false, nat_lt, not, length, slice_get, drop, bytes_eq};
 ghost use Rattle.std.specs.List.{list_all, list_any};
 ghost use Rattle.std.specs.Option.{option_map_or, option_copied};
-ghost use Rattle.model_messages.specs.Input.{is_conversing};
-ghost use Rattle.model_messages.specs.Terminals.{conversation_at, terminal_at, is_of};
-ghost use Rattle.model_image.specs.States.{is_small, is_next, is_setting, is_printable, is_pad_of, is_conversation, has_right_pad, wrong_values, ascend_below, wrong_ids, is_of_conversation, has_no_pad, is_known, are_alone, unknown_messages, run_up_to, wrong_replies};
+ghost use Rattle.model_messages.specs.ConversationInput.{is_conversing};
+ghost use Rattle.model_messages.specs.Terminals.{conversation_at, conversation_terminal, is_conversation_of};
+ghost use Rattle.model_image.specs.States.{is_small, is_next, is_setting, is_printable_byte, is_pad_of, is_conversation, has_right_pad, wrong_values, ascend_below, wrong_ids, is_of_conversation, has_no_pad, is_message_known, are_alone, unknown_messages, run_up_to, wrong_replies};
 
 use crate::order::{is_next, is_small};
 use crate::rules::{is_code, is_terminal};
@@ -89,7 +89,7 @@ fn is_pad_of(size: u16, conversation: &Conversation) -> bool
 
 #[tactic(auto, using(crate::proofs::Pads::back_is))]
 fn has_printable_work(bytes: &[u8]) -> bool
-    ensures { result ≡ list_all is_printable (drop 8 bytes.now) }
+    ensures { result ≡ list_all is_printable_byte (drop 8 bytes.now) }
 {
     let work = &bytes[bytes.len().min(8)..];
     are_printable(work)
@@ -131,7 +131,7 @@ pub fn unknown_messages(system: &System, lasting: &Lasting) -> bool
 }
 
 fn are_known(system: &System, lasting: &Lasting) -> bool
-    ensures { result ≡ list_all (is_known system.now lasting.now) lasting.now.messages }
+    ensures { result ≡ list_all (is_message_known system.now lasting.now) lasting.now.messages }
 {
     lasting
         .messages
@@ -140,7 +140,7 @@ fn are_known(system: &System, lasting: &Lasting) -> bool
 }
 
 fn is_known(system: &System, lasting: &Lasting, message: &Message) -> bool
-    ensures { result ≡ is_known system.now lasting.now message.now }
+    ensures { result ≡ is_message_known system.now lasting.now message.now }
 {
     if !(is_terminal(system, &message.origin) && is_code(system, &message.code)) {
         return false;
@@ -179,13 +179,13 @@ fn terminal_of<'a>(
     conversations: &'a [TerminalConversation],
     name: &Name,
 ) -> Option<&'a TerminalConversation>
-    ensures { option_copied result ≡ terminal_at name.now conversations.now }
+    ensures { option_copied result ≡ conversation_terminal name.now conversations.now }
 {
     conversations.iter().find(|terminal| is_of(name, terminal))
 }
 
 fn is_of(name: &Name, terminal: &TerminalConversation) -> bool
-    ensures { result ≡ is_of name.now terminal.now }
+    ensures { result ≡ is_conversation_of name.now terminal.now }
 {
     &terminal.terminal == name
 }

@@ -24,7 +24,7 @@ pub struct Kept {
 }
 
 impl Model for Kept {
-    ghost use Rattle.image_records.specs.Kept.{KeptState};
+    ghost use Rattle.image_records.specs.KeptState.{KeptState};
 
     ghost Value = { KeptState };
 

@@ -3,7 +3,7 @@ ghost use Rattle.std.specs.Prelude.{◌≡◌, ◌==◌, ◌&&◌, ◌||◌, nat
 ghost use Rattle.std.specs.Str.{bytes_eq};
 ghost use Rattle.model_image.specs.States.{is_small, is_next};
 ghost use Rattle.std.specs.List.{list_all, list_any};
-ghost use Rattle.model_image.specs.Snapshot.{rank, are_ranked, begins_with_counts, is_of_no_unit, terminal_name, code_name, reply_terminal, are_same, has_name, are_others_in_order, is_before, ascend, wrong_record};
+ghost use Rattle.model_image.specs.Snapshot.{rank, are_ranked, begins_with_counts, is_of_no_unit, terminal_name, code_name, reply_terminal, are_same, has_name, are_others_in_order, is_record_before, ascend, wrong_record};
 
 use log_records::Record;
 use std::alloc::Global;
@@ -178,7 +178,7 @@ pub fn ascend(records: &[Record]) -> bool
 }
 
 fn is_before(r: &Record, other: &Record) -> bool
-    ensures { result ≡ is_before r.now other.now }
+    ensures { result ≡ is_record_before r.now other.now }
 {
     match (r, other) {
         (

@@ -4,8 +4,8 @@ ghost use Rattle.restart_data.specs.Rules.{first_broken};
 ghost use Rattle.model_image.specs.Counters.{told_unit};
 ghost use Rattle.model_image.specs.Snapshot.{wrong_changes};
 ghost use Rattle.model_image.specs.States.{breaks_a_rule};
-ghost use Rattle.image_records.specs.Answers.{Tells, TellsRecords};
-ghost use Rattle.image_records.specs.Judging.{AreRecordRules, IsToldBy, KeepsTold, rules_by};
+ghost use Rattle.image_records.specs.RecordAnswers.{TellsSnapshotState, TellsRecords};
+ghost use Rattle.image_records.specs.SnapshotRules.{AreRecordRules, IsToldByRecords, KeepsTold, rules_by};
 
 use crate::cutting::cut;
 use crate::fault::RecordsFault;
@@ -49,7 +49,7 @@ pub fn read_records(alloc: Global, system: &System, bytes: &[u8]) -> Result<Snap
 /// What a snapshot of these records keeps.
 #[tactic(auto, using(crate::proofs::ReadBack::judge_steps))]
 fn judge(alloc: Global, system: &System, records: Vec<Record>) -> Result<Snapshot, RecordsFault>
-    ensures { Tells system.now records.items result }
+    ensures { TellsSnapshotState system.now records.items result }
 {
     let Ok(broken) = record_rules(alloc, system, &records) else {
         return Err(RecordsFault::Memory);
@@ -103,7 +103,7 @@ fn unit_told(r: &Record) -> u64
 }
 
 fn told_of(alloc: Global, system: &System, records: Vec<Record>) -> Result<Told, Memory>
-    ensures { IfOk result (IsToldBy system.now records.items) }
+    ensures { IfOk result (IsToldByRecords system.now records.items) }
 {
     tell_all(alloc, system, records)
 }

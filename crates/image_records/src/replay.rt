@@ -16,7 +16,7 @@ pub struct Replayed {
 }
 
 impl Model for Replayed {
-    ghost use Rattle.image_records.specs.Answers.{ReplayedState};
+    ghost use Rattle.image_records.specs.RecordAnswers.{ReplayedState};
 
     ghost Value = { ReplayedState };
 

@@ -3,8 +3,8 @@ ghost use Rattle.std.specs.Prelude.{◌≡◌, not, filter_map, map, position, I
 ghost use Rattle.std.specs.List.{list_all, list_any};
 ghost use Rattle.std.specs.Option.{is_some};
 ghost use Rattle.std.specs.Str.{bytes_eq};
-ghost use Rattle.model_image.specs.States.{is_terminal, is_code};
-ghost use Rattle.model_image.specs.Snapshot.{terminal_name, code_name, reply_terminal, code_names, ascend_places, follow, out_of_order, missing_or_twice, reply_of_none};
+ghost use Rattle.model_image.specs.States.{is_system_terminal, is_system_code};
+ghost use Rattle.model_image.specs.Snapshot.{terminal_name, code_name, reply_terminal, code_names, ascend_places, names_follow, out_of_order, missing_or_twice, reply_of_none};
 
 use crate::order;
 use log_records::Record;
@@ -57,7 +57,7 @@ pub fn reply_of_none(alloc: Global, system: &System, records: &[Record]) -> Resu
 }
 
 fn are_terminals(system: &System, names: &[Name]) -> bool
-    ensures { result ≡ list_all (is_terminal system.now) names.now }
+    ensures { result ≡ list_all (is_system_terminal system.now) names.now }
 {
     names.iter().all(|name| is_terminal(system, name))
 }
@@ -65,14 +65,14 @@ fn are_terminals(system: &System, names: &[Name]) -> bool
 /// Whether the system has a terminal of this name.
 #[tactic(auto, using(system_types::proofs::Indexed::place_is_there))]
 pub fn is_terminal(system: &System, name: &Name) -> bool
-    ensures { result ≡ is_terminal system.now name.now }
+    ensures { result ≡ is_system_terminal system.now name.now }
 {
     system.terminal_place(name).is_some()
 }
 
 /// Whether the system has a code of this name.
 pub fn is_code(system: &System, name: &Name) -> bool
-    ensures { result ≡ is_code system.now name.now }
+    ensures { result ≡ is_system_code system.now name.now }
 {
     match system.code(name) {
         Some(_) => true,
@@ -99,7 +99,7 @@ fn code_name(code: &Code) -> Name
 
 /// Names that stand in the order of the terminals, each as often as it likes.
 fn follow(alloc: Global, system: &System, names: &[Name]) -> Result<bool, Memory>
-    ensures { IfOk result (λ follows. follows ≡ follow system.now.terminals names.now) }
+    ensures { IfOk result (λ follows. follows ≡ names_follow system.now.terminals names.now) }
 {
     let places = places_of(alloc, system, names)?;
     Ok(ascend_places(0, &places))

@@ -14,7 +14,7 @@ pub struct Snapshot {
 }
 
 impl Model for Snapshot {
-    ghost use Rattle.image_records.specs.Answers.{SnapshotState};
+    ghost use Rattle.image_records.specs.RecordAnswers.{SnapshotState};
 
     ghost Value = { SnapshotState };
 

@@ -5,7 +5,7 @@ ghost use Rattle.model_messages.specs.Queue.{IsNewId, messages_of, with_message}
 ghost use Rattle.model_messages.specs.Room.{message_bytes, messages_bytes};
 ghost use Rattle.model_messages.specs.Outputs.{outputs_bytes};
 ghost use Rattle.model_image.specs.States.{ascend_below, breaks_a_rule, run_up_to};
-ghost use Rattle.image_records.specs.Kept.{Keeps, free_message};
+ghost use Rattle.image_records.specs.KeptState.{KeepsState, free_message};
 
 use crate::kept::Kept;
 use crate::replies_content;
@@ -22,7 +22,7 @@ use tm_types::{Memory, Message};
 #[tactic(auto, using(crate::proofs::Sound::sound_steps))]
 pub fn tables_of(alloc: Global, system: &System, lasting: Lasting) -> Result<Kept, Memory>
     requires { breaks_a_rule system.now lasting ≡ false }
-    ensures { IfOk result (Keeps system.now lasting) }
+    ensures { IfOk result (KeepsState system.now lasting) }
 {
     let limit = system.qbytes();
     let queues = free_queues(alloc, limit, lasting.next_id, lasting.messages)?;

@@ -2,8 +2,8 @@
 ghost use Rattle.std.specs.Prelude.{◌≡◌, ◌++◌, ◌∷◌, [], true, false, filter, position, IfOk, OnOk};
 ghost use Rattle.std.specs.Str.{bytes_eq};
 ghost use Rattle.model_system.specs.Lists.{change_at};
-ghost use Rattle.model_image.specs.Snapshot.{snapshot_state, told, told_by};
-ghost use Rattle.image_records.specs.Telling.{AreNamed, is_change, with_setting};
+ghost use Rattle.model_image.specs.Snapshot.{snapshot_state, with_record_told, with_records_told};
+ghost use Rattle.image_records.specs.ChangeRecords.{AreNamesKept, tells_change, with_setting};
 
 use crate::terminals::{add_reply, set_code, set_conversation, set_input, set_next};
 use lasting_changes::empty_lasting;
@@ -25,7 +25,7 @@ pub struct Told {
 /// What these records, which are taken over, tell of behind the empty state. `Memory` is the only refusal.
 pub fn tell_all(alloc: Global, system: &System, records: Vec<Record>) -> Result<Told, Memory>
     ensures lasting { IfOk result (λ told. told.lasting ≡ snapshot_state system.now records.items) }
-    ensures changes { IfOk result (λ told. told.changes.items ≡ filter is_change records.items) }
+    ensures changes { IfOk result (λ told. told.changes.items ≡ filter tells_change records.items) }
 {
     let empty = empty_lasting(alloc, system)?;
     tell_behind(alloc, system, empty, records)
@@ -39,9 +39,9 @@ fn tell_behind(
     lasting: Lasting,
     records: Vec<Record>,
 ) -> Result<Told, Memory>
-    requires { AreNamed system.now lasting }
-    ensures lasting { IfOk result (λ told. told.lasting ≡ told_by records.items lasting) }
-    ensures changes { IfOk result (λ told. told.changes.items ≡ filter is_change records.items) }
+    requires { AreNamesKept system.now lasting }
+    ensures lasting { IfOk result (λ told. told.lasting ≡ with_records_told records.items lasting) }
+    ensures changes { IfOk result (λ told. told.changes.items ≡ filter tells_change records.items) }
 {
     let mut lasting = lasting;
     let mut changes = Vec::new(alloc);
@@ -58,10 +58,10 @@ fn take_over(
     changes: &mut Vec<Record>,
     r: Record,
 ) -> Result<(), Memory>
-    requires { AreNamed system.now lasting.old }
-    ensures lasting { OnOk result (lasting.new ≡ told r lasting.old) }
-    ensures changes { OnOk result (changes.new.items ≡ changes.old.items ++ filter is_change (r ∷ [])) }
-    ensures named { OnOk result (AreNamed system.now lasting.new) }
+    requires { AreNamesKept system.now lasting.old }
+    ensures lasting { OnOk result (lasting.new ≡ with_record_told r lasting.old) }
+    ensures changes { OnOk result (changes.new.items ≡ changes.old.items ++ filter tells_change (r ∷ [])) }
+    ensures named { OnOk result (AreNamesKept system.now lasting.new) }
 {
     if is_change(&r) {
         changes.push(r)?;
@@ -71,7 +71,7 @@ fn take_over(
 }
 
 fn is_change(r: &Record) -> bool
-    ensures { result ≡ is_change r.now }
+    ensures { result ≡ tells_change r.now }
 {
     match r {
         Record::Change { .. } => true,
@@ -81,8 +81,8 @@ fn is_change(r: &Record) -> bool
 
 /// A record tells of the state.
 fn tell(system: &System, lasting: &mut Lasting, r: Record) -> Result<(), Memory>
-    requires { AreNamed system.now lasting.old }
-    ensures { OnOk result (lasting.new ≡ told r lasting.old) }
+    requires { AreNamesKept system.now lasting.old }
+    ensures { OnOk result (lasting.new ≡ with_record_told r lasting.old) }
 {
     match r {
         Record::Checkpoint {
@@ -161,7 +161,7 @@ fn tell_code(
     class: u8,
     priority: u8,
 )
-    requires { AreNamed system.now lasting.old }
+    requires { AreNamesKept system.now lasting.old }
     ensures { lasting.new ≡ record lasting.old { codes = change_at lasting.old.codes (position (λ code. bytes_eq code.code name.now) lasting.old.codes) (with_setting stopped class priority) } }
 {
     set_code(system, &mut lasting.codes, name, stopped, class, priority);

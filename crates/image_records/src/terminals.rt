@@ -5,11 +5,11 @@ ghost use Rattle.std.specs.Prelude.{◌≡◌, map, position, OnOk};
 ghost use Rattle.std.specs.Str.{bytes_eq};
 ghost use Rattle.model_system.specs.Lists.{change_at};
 ghost use Rattle.model_machine.specs.Machine.{terminal_place};
-ghost use Rattle.model_machine.specs.Lasting.{conversing};
+ghost use Rattle.model_machine.specs.LastingSteps.{with_conversing};
 ghost use Rattle.model_messages.specs.Terminals.{with_conversation};
 ghost use Rattle.model_messages.specs.Outputs.{with_next, with_terminal};
 ghost use Rattle.model_image.specs.Snapshot.{code_names, with_kept};
-ghost use Rattle.image_records.specs.Telling.{of_conversation, of_output, of_setting, of_state, with_input, with_setting};
+ghost use Rattle.image_records.specs.ChangeRecords.{of_conversation, of_output, of_setting, of_state, with_input, with_setting};
 
 use model_machine::{CodeSetting, TerminalState};
 use model_messages::{Conversation, TerminalConversation, TerminalReplies};
@@ -77,7 +77,7 @@ pub fn set_conversation(
     conversation: Option<Conversation>,
 )
     requires { map of_conversation terminals.old.items ≡ system.now.terminals }
-    ensures { terminals.new.items ≡ conversing name.now conversation terminals.old.items }
+    ensures { terminals.new.items ≡ with_conversing name.now conversation terminals.old.items }
 {
     match system.terminal_place(name) {
         Some(place) => put_conversation(&mut terminals[place], conversation),

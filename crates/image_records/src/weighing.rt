@@ -6,7 +6,7 @@ ghost use Rattle.tm_types.specs.Segment.{counted_bytes, segment_length};
 ghost use Rattle.model_messages.specs.Room.{messages_bytes, replies_bytes};
 ghost use Rattle.model_messages.specs.Outputs.{outputs_bytes};
 ghost use Rattle.model_image.specs.States.{over_full};
-ghost use Rattle.image_records.specs.Weighing.{capped};
+ghost use Rattle.image_records.specs.CappedCounts.{capped_count};
 
 use model_machine::Lasting;
 use model_messages::{Replies, TerminalReplies};
@@ -35,7 +35,7 @@ pub fn replies_content(outputs: &[TerminalReplies]) -> u64
 /// This many bytes and those of the messages, as far as they can be counted.
 #[tactic(auto, using(crate::proofs::Capped::message_steps))]
 fn with_messages(start: u64, messages: &[Message]) -> u64
-    ensures { result ≡ capped (start + messages_bytes messages.now) }
+    ensures { result ≡ capped_count (start + messages_bytes messages.now) }
 {
     let mut content = start;
     for message in messages {
@@ -46,7 +46,7 @@ fn with_messages(start: u64, messages: &[Message]) -> u64
 
 #[tactic(auto, using(crate::proofs::Capped::terminal_steps))]
 fn with_outputs(start: u64, outputs: &[TerminalReplies]) -> u64
-    ensures { result ≡ capped (start + outputs_bytes outputs.now) }
+    ensures { result ≡ capped_count (start + outputs_bytes outputs.now) }
 {
     let mut content = start;
     for terminal in outputs {
@@ -57,7 +57,7 @@ fn with_outputs(start: u64, outputs: &[TerminalReplies]) -> u64
 
 #[tactic(auto, using(crate::proofs::Capped::reply_steps))]
 fn with_replies(start: u64, replies: &Replies) -> u64
-    ensures { result ≡ capped (start + replies_bytes replies.now) }
+    ensures { result ≡ capped_count (start + replies_bytes replies.now) }
 {
     let mut content = start;
     for place in 0..replies.items.len() {
@@ -68,14 +68,14 @@ fn with_replies(start: u64, replies: &Replies) -> u64
 
 #[tactic(auto, using(crate::proofs::Capped::counted_is))]
 fn with_segments(start: u64, segments: &Segments) -> u64
-    ensures { result ≡ capped (start + counted_bytes segments.now) }
+    ensures { result ≡ capped_count (start + counted_bytes segments.now) }
 {
     with_lengths(plus(start, 48), segments)
 }
 
 #[tactic(auto, using(crate::proofs::Capped::segment_steps))]
 fn with_lengths(start: u64, segments: &Segments) -> u64
-    ensures { result ≡ capped (start + sum_by segment_length segments.now) }
+    ensures { result ≡ capped_count (start + sum_by segment_length segments.now) }
 {
     let mut content = start;
     for place in 0..segments.len() {
@@ -94,7 +94,7 @@ fn length_at(segments: &Segments, place: usize) -> u64
 }
 
 fn plus(content: u64, more: u64) -> u64
-    ensures { result ≡ capped (content + more) }
+    ensures { result ≡ capped_count (content + more) }
 {
     content.saturating_add(more)
 }

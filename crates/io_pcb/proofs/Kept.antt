@@ -8,11 +8,11 @@ use Rattle.std.proofs.lemmas.Bool.{and_parts, ltb-true, ltb-false}
 use Rattle.std.proofs.lemmas.List.{length-append, length-replicate, length-take, take-append-le}
 use Rattle.std.proofs.lemmas.List.Folds.{list_all-append}
 use Rattle.tm_types.specs.Segment.{IsSegmentText, is_printable}
-use Rattle.model_messages.specs.Pads.{code_field, fitted, is_pad}
-use Rattle.model_messages.specs.Calls.{is_wrong_pad}
-use Rattle.io_pcb.specs.Pads.{AreKept, IsPadText, conversation_by}
+use Rattle.model_messages.specs.Pads.{code_field, fitted_pad, is_pad}
+use Rattle.model_messages.specs.MessageCalls.{is_wrong_pad}
+use Rattle.io_pcb.specs.Pads.{ArePadsKept, IsPadText, conversation_by}
 
-pub fitted_length : (n : ℕ) (text : List ℕ) → length (fitted n text) ≡ n
+pub fitted_length : (n : ℕ) (text : List ℕ) → length (fitted_pad n text) ≡ n
 fitted_length n text =
     let whole = length-append (take n text) (replicate (n - length text) 32) in
     omega (arith, whole, length-take n text, length-replicate {A = ℕ} (n - length text) 32)
@@ -29,7 +29,7 @@ front_printable (suc n) (x ∷ text) h =
     let parts = and_parts (is_printable x) (list_all is_printable text) h in
     (λ i. parts.0 i && front_printable n text parts.1 i)
 
-fitted_printable : (n : ℕ) (text : List ℕ) → list_all is_printable text ≡ true → list_all is_printable (fitted n text) ≡ true
+fitted_printable : (n : ℕ) (text : List ℕ) → list_all is_printable text ≡ true → list_all is_printable (fitted_pad n text) ≡ true
 fitted_printable n text h =
     list_all-append is_printable (take n text) (replicate (n - length text) 32)
     ∙ (λ i. front_printable n text h i && all_blank (n - length text) i)
@@ -41,7 +41,7 @@ take_front (suc k) zero text h = absurd (omega (arith, h))
 take_front (suc k) (suc n) [] h = refl
 take_front (suc k) (suc n) (x ∷ text) h = λ i. x ∷ take_front k n text (omega (arith, h)) i
 
-front_is : (n : ℕ) (text : List ℕ) → 8 ≤ n → 8 ≤ length text → take 8 (fitted n text) ≡ take 8 text
+front_is : (n : ℕ) (text : List ℕ) → 8 ≤ n → 8 ≤ length text → take 8 (fitted_pad n text) ≡ take 8 text
 front_is n text whole long =
     let size = length-take n text in
     let within : 8 ≤ length (take n text) = omega (arith, size, whole, long) in
@@ -57,13 +57,13 @@ long_pad code text h = by (nat_lt (length text) 8) refl h
     by true e g = cc
     by false e g = e
 
-fitted_good : (code text : List ℕ) (n : ℕ) → 8 ≤ n → is_pad code text ≡ true → is_pad code (fitted n text) ≡ true
+fitted_good : (code text : List ℕ) (n : ℕ) → 8 ≤ n → is_pad code text ≡ true → is_pad code (fitted_pad n text) ≡ true
 fitted_good code text n whole good =
     let long : nat_lt (length text) 8 ≡ false = long_pad code text good in
     let here = ltb-false (length text) 8 long in
-    let front : take 8 (fitted n text) ≡ take 8 text = front_is n text whole (omega (arith, here)) in
+    let front : take 8 (fitted_pad n text) ≡ take 8 text = front_is n text whole (omega (arith, here)) in
     let size = fitted_length n text in
-    let also : nat_lt (length (fitted n text)) 8 ≡ false = not_less (length (fitted n text)) (omega (arith, size, whole)) in
+    let also : nat_lt (length (fitted_pad n text)) 8 ≡ false = not_less (length (fitted_pad n text)) (omega (arith, size, whole)) in
     (λ i. if (also ∙ sym long) i then false else (if bytes_eq (front i) (replicate 8 32) then true else bytes_eq (front i) (code_field code))) ∙ good
   where
     not_less : (m : ℕ) → 8 ≤ m → nat_lt m 8 ≡ false
@@ -74,7 +74,7 @@ fitted_good code text n whole good =
         by false e = e
 
 -- ---- what is kept
-pad_text : (code pad : List ℕ) (had : Option (List ℕ)) → AreKept code (Some pad) had → IsPadText pad
+pad_text : (code pad : List ℕ) (had : Option (List ℕ)) → ArePadsKept code (Some pad) had → IsPadText pad
 pad_text code pad None kept = kept
 pad_text code pad (Some text) kept = kept.0
 
@@ -83,9 +83,9 @@ good_of true true e f = refl
 good_of true false e f = cc
 good_of false good e f = cc
 
-kept_so : (code pad text whole : List ℕ) (had : Option (List ℕ)) (gives : Bool) → AreKept code (Some pad) had → IsSegmentText text
-    → gives ≡ true → gives && not (is_pad code text) ≡ false → whole ≡ fitted (length pad) text
-    → AreKept code (Some pad) (Some whole)
+kept_so : (code pad text whole : List ℕ) (had : Option (List ℕ)) (gives : Bool) → ArePadsKept code (Some pad) had → IsSegmentText text
+    → gives ≡ true → gives && not (is_pad code text) ≡ false → whole ≡ fitted_pad (length pad) text
+    → ArePadsKept code (Some pad) (Some whole)
 kept_so code pad text whole had gives kept held does right same =
     let is : IsPadText pad = pad_text code pad had kept in
     let size : length whole ≡ length pad = ap length same ∙ fitted_length (length pad) text in (
@@ -97,15 +97,15 @@ kept_so code pad text whole had gives kept held does right same =
       },
     )
 
-pub back_is : (code : List ℕ) (pad had : Option (List ℕ)) (of text whole : List ℕ) (pcb : ℕ) → pad ≡ Some of → AreKept code pad had → IsSegmentText text
+pub back_is : (code : List ℕ) (pad had : Option (List ℕ)) (of text whole : List ℕ) (pcb : ℕ) → pad ≡ Some of → ArePadsKept code pad had → IsSegmentText text
     → ((pcb == 0) && is_some (conversation_by code pad) && not (is_some had)) ≡ true
     → ((pcb == 0) && is_some (conversation_by code pad) && not (is_some had)) && is_wrong_pad (conversation_by code pad) text ≡ false
-    → whole ≡ fitted (length of) text
-    → AreKept code pad (Some whole)
+    → whole ≡ fitted_pad (length of) text
+    → ArePadsKept code pad (Some whole)
 back_is code pad had of text whole pcb e kept held does right same =
-    subst (λ p. AreKept code p (Some whole)) (sym e)
+    subst (λ p. ArePadsKept code p (Some whole)) (sym e)
     (kept_so code of text whole had ((pcb == 0) && is_some (conversation_by code (Some of)) && not (is_some had))
-    (subst (λ p. AreKept code p had) e kept) held
+    (subst (λ p. ArePadsKept code p had) e kept) held
     (subst (λ p. ((pcb == 0) && is_some (conversation_by code p) && not (is_some had)) ≡ true) e does)
     (subst (λ p. ((pcb == 0) && is_some (conversation_by code p) && not (is_some had)) && is_wrong_pad (conversation_by code p) text ≡ false) e right)
     same)

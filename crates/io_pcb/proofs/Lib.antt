@@ -1,3 +1,2 @@
-pub mod Trimmed
 pub mod Changed
 pub mod Kept

@@ -1,3 +1,3 @@
-pub mod Shown
+pub mod ShownMessage
 pub mod Pads
-pub mod Starting
+pub mod StartedWork

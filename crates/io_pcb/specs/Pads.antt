@@ -6,8 +6,8 @@ use Rattle.model_messages.specs.declared.conversation.Conversation.{Conversation
 use Rattle.model_messages.specs.declared.conversation.PadChange.{PadChange}
 use Rattle.model_messages.specs.declared.conversation.PadChange.TheVariants.{Stays, New, Ends}
 use Rattle.model_messages.specs.Pads.{is_pad, pad_fault}
-use Rattle.model_messages.specs.Work.{MessageWork}
-use Rattle.model_messages.specs.Calls.{gives_back, is_wrong_pad}
+use Rattle.model_messages.specs.MessageWork.{MessageWork}
+use Rattle.model_messages.specs.MessageCalls.{gives_back, is_wrong_pad}
 use Rattle.io_pcb.specs.declared.pad.LentPad.{LentPad}
 use Rattle.io_pcb.specs.declared.pad.LentPad.TheVariants.{Stays as LentStays, New as LentNew, Ends as LentEnds}
 
@@ -25,16 +25,16 @@ conversation_by code pad = option_map (conversation_with code) pad
 
 -- What is kept of a conversation's pad: the pad, and the text that was given back, which is as long as the pad, has
 -- the conversation's code or blanks in front, and fits a segment.
-pub record IsBack (code pad text : List ℕ) : Type 0 where
+pub record IsPadBack (code pad text : List ℕ) : Type 0 where
   pub size : length text ≡ length pad
   pub good : is_pad code text ≡ true
   pub held : IsSegmentText text
 
-abbrev pub AreKept : List ℕ → Option (List ℕ) → Option (List ℕ) → Type 0
-AreKept code None None = ⊤
-AreKept code None (Some text) = ⊥
-AreKept code (Some pad) None = IsPadText pad
-AreKept code (Some pad) (Some text) = IsPadText pad × IsBack code pad text
+abbrev pub ArePadsKept : List ℕ → Option (List ℕ) → Option (List ℕ) → Type 0
+ArePadsKept code None None = ⊤
+ArePadsKept code None (Some text) = ⊥
+ArePadsKept code (Some pad) None = IsPadText pad
+ArePadsKept code (Some pad) (Some text) = IsPadText pad × IsPadBack code pad text
 
 -- the place of the text that is given next, by the one of the next segment: before the first text it is 0, and the pad
 -- has place 0

@@ -2,14 +2,14 @@
 ghost use Rattle.std.specs.Prelude.{◌≡◌, ◌+◌, ◌==◌, length, slice_get};
 ghost use Rattle.std.specs.List.{suffix_len};
 ghost use Rattle.std.specs.Option.{option_and_then};
-ghost use Rattle.model_messages.specs.Calls.{destination_named, switched_to, without_blanks};
+ghost use Rattle.model_messages.specs.MessageCalls.{destination_named, switched_to, without_blanks};
 
 use model_system::Code;
 use system_types::System;
 use tm_types::Name;
 
 /// The text without the blanks at its end.
-#[tactic(auto, using(crate::proofs::Trimmed::trimmed_at))]
+#[tactic(auto, using(tm_types::proofs::Parted::trimmed_at))]
 pub fn without_blanks(text: &[u8]) -> &[u8]
     ensures { result.now ≡ without_blanks text.now }
 {

@@ -1,7 +1,7 @@
 //! What is sent at the sync point.
 ghost use Rattle.std.specs.Prelude.{◌≡◌, ◌∷◌, ◌++◌, [], Some, OnOk};
 ghost use Rattle.std.specs.List.{flat_map};
-ghost use Rattle.model_messages.specs.Work.{ended_to, ended_by};
+ghost use Rattle.model_messages.specs.MessageWork.{ended_to, output_ended_by};
 
 use crate::pcbs::destination;
 use model_messages::{EndedMessage, OpenPcb};
@@ -34,7 +34,7 @@ fn add(message: &EndedMessage, outputs: &mut VecDeque<EndedMessage>) -> Result<(
 
 /// Adds a copy of each message under construction, in the order of the PCBs.
 pub fn add_each_open(pcbs: &[OpenPcb], outputs: &mut VecDeque<EndedMessage>) -> Result<(), Memory>
-    ensures { OnOk result (outputs.new.items ≡ outputs.old.items ++ flat_map ended_by pcbs.now) }
+    ensures { OnOk result (outputs.new.items ≡ outputs.old.items ++ flat_map output_ended_by pcbs.now) }
 {
     for opened in pcbs {
         add_open(opened, outputs)?;
@@ -43,7 +43,7 @@ pub fn add_each_open(pcbs: &[OpenPcb], outputs: &mut VecDeque<EndedMessage>) -> 
 }
 
 fn add_open(opened: &OpenPcb, outputs: &mut VecDeque<EndedMessage>) -> Result<(), Memory>
-    ensures { OnOk result (outputs.new.items ≡ outputs.old.items ++ ended_by opened.now) }
+    ensures { OnOk result (outputs.new.items ≡ outputs.old.items ++ output_ended_by opened.now) }
 {
     match destination(opened) {
         Some(to) => add_to(to, &opened.segments, outputs),

@@ -2,8 +2,8 @@
 ghost use Rattle.std.specs.Prelude.{◌≡◌, ◌+◌, ◌≤◌, ◌<◌, ◌++◌, Some, false, IsSome, IsTrue, IfOk, OnOk, OnErr, length, map, slice_get};
 ghost use Rattle.std.specs.Option.{option_map_or};
 ghost use Rattle.std.specs.Vec.{vec_capacity};
-ghost use Rattle.model_messages.specs.Work.{fresh_pcb, fresh_pcbs, destination_of, ended_to, ended_by, without_message};
-ghost use Rattle.model_messages.specs.Calls.{with_segment, with_chosen, can_change, reset_pcb, ended_at, destination_at};
+ghost use Rattle.model_messages.specs.MessageWork.{fresh_pcb, fresh_pcbs, destination_of, ended_to, output_ended_by, without_output};
+ghost use Rattle.model_messages.specs.MessageCalls.{with_output_segment, with_chosen, can_change, reset_pcb, ended_at, destination_at};
 ghost use Rattle.model_system.specs.Lists.{change_at};
 
 use model_messages::{EndedMessage, OpenPcb};
@@ -79,7 +79,7 @@ pub fn can_change_at(pcbs: &[OpenPcb], pcb: u8) -> bool
 
 /// Adds a segment to the message under construction.
 fn add_segment(opened: &mut OpenPcb, segment: Segment) -> Result<(), Memory>
-    ensures ok { OnOk result (opened.new ≡ with_segment segment opened.old) }
+    ensures ok { OnOk result (opened.new ≡ with_output_segment segment opened.old) }
     ensures err { OnErr result (opened.new ≡ opened.old) }
 {
     opened.segments.push(segment)
@@ -95,8 +95,8 @@ fn choose(opened: &mut OpenPcb, to: Name)
 /// Ends the message under construction, if there is one. There is room for it.
 fn end_message(alloc: Global, opened: &mut OpenPcb, ended: &mut Vec<EndedMessage>)
     requires { length ended.old.items < vec_capacity ended.old }
-    ensures pcb { opened.new ≡ without_message opened.old }
-    ensures ended { ended.new.items ≡ ended.old.items ++ ended_by opened.old }
+    ensures pcb { opened.new ≡ without_output opened.old }
+    ensures ended { ended.new.items ≡ ended.old.items ++ output_ended_by opened.old }
 {
     let to = destination(opened);
     let segments = mem::replace(&mut opened.segments, Segments::new(alloc));
@@ -120,7 +120,7 @@ fn add_ended(ended: &mut Vec<EndedMessage>, to: Option<Name>, segments: Segments
 #[tactic(auto, using(crate::proofs::Changed::changed_at))]
 pub fn add_at(pcbs: &mut Vec<OpenPcb>, pcb: u8, segment: Segment) -> Result<(), Memory>
     requires { pcb < length pcbs.old.items }
-    ensures ok { OnOk result (pcbs.new.items ≡ change_at pcbs.old.items (Some pcb) (with_segment segment)) }
+    ensures ok { OnOk result (pcbs.new.items ≡ change_at pcbs.old.items (Some pcb) (with_output_segment segment)) }
     ensures err { OnErr result (pcbs.new.items ≡ pcbs.old.items) }
 {
     add_segment(&mut pcbs[usize::from(pcb)], segment)
@@ -140,7 +140,7 @@ pub fn choose_at(pcbs: &mut Vec<OpenPcb>, pcb: u8, to: Name)
 pub fn end_at(alloc: Global, pcbs: &mut Vec<OpenPcb>, ended: &mut Vec<EndedMessage>, pcb: u8)
     requires pcb { pcb < length pcbs.old.items }
     requires room { length ended.old.items < vec_capacity ended.old }
-    ensures pcbs { pcbs.new.items ≡ change_at pcbs.old.items (Some pcb) without_message }
+    ensures pcbs { pcbs.new.items ≡ change_at pcbs.old.items (Some pcb) without_output }
     ensures ended { ended.new.items ≡ ended.old.items ++ ended_at pcbs.old.items pcb }
 {
     end_message(alloc, &mut pcbs[usize::from(pcb)], ended);

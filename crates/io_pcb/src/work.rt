@@ -2,14 +2,14 @@
 ghost use Rattle.std.specs.Prelude.{◌≡◌, true, false, IfOk, IfSome, IsSomeAnd, OnOk, OnErr, slice_get};
 ghost use Rattle.std.specs.Option.{option_copied, option_map};
 ghost use Rattle.tm_types.specs.Segment.{IsSegmentText};
-ghost use Rattle.model_messages.specs.Calls.{given};
-ghost use Rattle.model_messages.specs.Work.{message_start};
-ghost use Rattle.model_messages.specs.Calls.{unique_answer, unique_work, next_answer, next_work, insert_status, insert_work, purge_status, purge_work, change_status, change_work, reset_work, finish_work};
-ghost use Rattle.model_messages.specs.Calls.{texts_of, gives_back, segment_status, segment_work, pad_change};
-ghost use Rattle.io_pcb.specs.Shown.{shown};
+ghost use Rattle.model_messages.specs.MessageCalls.{given};
+ghost use Rattle.model_messages.specs.MessageWork.{message_start};
+ghost use Rattle.model_messages.specs.MessageCalls.{unique_answer, unique_work, next_answer, next_work, insert_status, insert_work, purge_status, purge_work, change_status, change_work, reset_work, finish_work};
+ghost use Rattle.model_messages.specs.MessageCalls.{work_texts, gives_back, segment_status, segment_work, pad_change};
+ghost use Rattle.io_pcb.specs.ShownMessage.{shown_output};
 ghost use Rattle.model_system.specs.Codes.{code_at};
 ghost use Rattle.model_system.specs.Jobs.{job_of};
-ghost use Rattle.io_pcb.specs.Starting.{IsPadFor, IsStartFor};
+ghost use Rattle.io_pcb.specs.StartedWork.{IsPadFor, IsStartFor};
 ghost use Rattle.io_pcb.specs.Pads.{IsPadText, Suits, conversation_by, gives_wrong, lent_pad};
 
 use crate::destinations::{destination_named, without_blanks};
@@ -58,14 +58,14 @@ pub struct Work {
 }
 
 impl Model for Work {
-    ghost use Rattle.model_messages.specs.Work.{MessageWork};
-    ghost use Rattle.io_pcb.specs.Pads.{AreKept, conversation_by, place_by};
+    ghost use Rattle.model_messages.specs.MessageWork.{MessageWork};
+    ghost use Rattle.io_pcb.specs.Pads.{ArePadsKept, conversation_by, place_by};
 
     ghost Value = { MessageWork };
 
     ghost view = { λ w. record { segments = w.segments; conversation = conversation_by w.code w.pad; returned = w.returned; begun = w.begun; place = place_by w.begun w.pad w.next; size_limit = w.size_limit; count_limit = w.count_limit; inserted = w.inserted; pcbs = w.pcbs.items; ended = w.ended.items } };
 
-    ghost invariant = { λ w. AreKept w.code w.pad w.returned };
+    ghost invariant = { λ w. ArePadsKept w.code w.pad w.returned };
 }
 
 impl Work {
@@ -119,7 +119,7 @@ impl Work {
 
     /// The first text, which a GU gives: the pad, or the first segment of a message without one.
     pub fn first(&self) -> Option<&Segment>
-        ensures { option_copied result ≡ slice_get (texts_of self.now) 0 }
+        ensures { option_copied result ≡ slice_get (work_texts self.now) 0 }
     {
         match &self.pad {
             Some(pad) => Some(pad),
@@ -317,7 +317,7 @@ impl Work {
 
     /// The ended message at this place, counted from 0; None exactly past the last.
     pub fn output(&self, place: u32) -> Option<Output<'_>>
-        ensures { option_map shown result ≡ slice_get self.now.ended place }
+        ensures { option_map shown_output result ≡ slice_get self.now.ended place }
     {
         match self.ended.get(place as usize) {
             Some(ended) => Some(Output {

@@ -13,21 +13,21 @@ use Rattle.model_machine.specs.declared.entry.Acked.{Acked}
 use Rattle.model_machine.specs.declared.entry.Acked.TheVariants.{Removed, Already as AckAlready}
 use Rattle.model_machine.specs.declared.entry.AckRefused.{AckRefused}
 use Rattle.model_machine.specs.Machine.{LastingState, Moment, Slot}
-use Rattle.model_machine.specs.Lasting.{KeptInput, LastingStep, applied, kept_input}
-use Rattle.model_machine.specs.Steps.{After, accepts, ack_answer, acknowledges, input_answer, lasting_step}
-use Rattle.model_image.specs.Recovered.{Recovers}
+use Rattle.model_machine.specs.LastingSteps.{KeptInput, LastingStep, applied, kept_input}
+use Rattle.model_machine.specs.MachineCalls.{After, accepted_step, ack_answer, acknowledged_step, input_answer, lasting_step}
+use Rattle.model_image.specs.RecoveredState.{Recovers}
 use Rattle.model_image.specs.States.{has_right_pad, is_small}
-use Rattle.log_records.specs.Spelling.{spelling}
-use Rattle.system_types.specs.Valid.{IsSystem}
-use Rattle.image_law.specs.Rooms.{StaysSound}
+use Rattle.log_records.specs.RecordSpelling.{record_spelling}
+use Rattle.system_types.specs.ValidSystem.{IsSystem}
+use Rattle.image_law.specs.SoundMachine.{StaysSound}
 use Rattle.image_law.proofs.Steps.{stays_sound}
 use Rattle.disk_law.specs.Life.{LifeOnDisk}
-use Rattle.disk_law.specs.Kept.{IsKept}
+use Rattle.disk_law.specs.KeptImages.{IsImageKept}
 use Rattle.disk_law.proofs.Front.{recovers}
-use Rattle.journal.specs.Counts.{AreUnspent}
-use Rattle.program_rows.specs.OnSlots.{SlotsState}
-use Rattle.journal.specs.Carried.{IsCarriedBy, IsLifeOf}
-use Rattle.journal.specs.Going.{GoesOn}
+use Rattle.journal.specs.UnspentCounts.{AreUnspent}
+use Rattle.program_rows.specs.SlotsState.{SlotsState}
+use Rattle.journal.specs.CarriedLife.{IsCarriedBy, IsLifeOf}
+use Rattle.journal.specs.LifeByCall.{LifeGoesOn}
 use Rattle.journal.proofs.Inputs.{HasRoom, has_terminals, accept_goes, acknowledge_goes}
 use Rattle.journal.proofs.Staying.{no_bytes}
 use Rattle.journal.proofs.Turns.{GoesBy, told_by}
@@ -45,7 +45,7 @@ same_carried system moment after slots units next life c a b d sound = record {
 
 -- so nothing is appended
 pub same_goes : (system : System) (moment after : Moment) (slots : SlotsState) (units : List ℕ) (next : ℕ) (life : LifeOnDisk) → IsCarriedBy system moment slots units next life
-    → after.lasting ≡ moment.lasting → after.slots ≡ moment.slots → after.enqueues ≡ moment.enqueues → StaysSound system after → GoesOn [] system after slots units next life
+    → after.lasting ≡ moment.lasting → after.slots ≡ moment.slots → after.enqueues ≡ moment.enqueues → StaysSound system after → LifeGoesOn [] system after slots units next life
 same_goes system moment after slots units next life c a b d sound = record {
   behind = life;
   text = refl;
@@ -56,7 +56,7 @@ same_goes system moment after slots units next life c a b d sound = record {
 }
 
 -- Each image of the life recovers to what lasts of the machine.
-pub carried_recovers : (system : System) (moment : Moment) (slots : SlotsState) (units : List ℕ) (next : ℕ) (life : LifeOnDisk) → IsCarriedBy system moment slots units next life → (image : Image) → IsKept life image → Recovers system image (Ok moment.lasting)
+pub carried_recovers : (system : System) (moment : Moment) (slots : SlotsState) (units : List ℕ) (next : ℕ) (life : LifeOnDisk) → IsCarriedBy system moment slots units next life → (image : Image) → IsImageKept life image → Recovers system image (Ok moment.lasting)
 carried_recovers system moment slots units next life c image k =
     subst (λ (l : LastingState). Recovers system image (Ok l)) c.is.lasts (subst (λ (y : System). Recovers y image (Ok life.lasting)) c.is.of_system (recovers life c.is.is_life image k))
 
@@ -79,19 +79,19 @@ module _ (system : System) (valid : IsSystem system) (moment : Moment) (slots : 
     input_sound : StaysSound system after_input
     input_sound = stays_sound system valid moment (has_terminals system moment.lasting c.is.names) c.sound (Input terminal number segments) [] refl right
 
-    refused : (answer : Result Taken InputRefused) → input_answer system moment terminal number segments ≡ answer → accepts terminal number kept answer ≡ None → GoesOn [] system after_input slots units next life
+    refused : (answer : Result Taken InputRefused) → input_answer system moment terminal number segments ≡ answer → accepted_step terminal number kept answer ≡ None → LifeGoesOn [] system after_input slots units next life
     refused answer is none =
-        same_goes system moment after_input slots units next life c (none_left (lasting_step system moment (Input terminal number segments)) (ap (accepts terminal number kept) is ∙ none)) refl refl input_sound
+        same_goes system moment after_input slots units next life c (none_left (lasting_step system moment (Input terminal number segments)) (ap (accepted_step terminal number kept) is ∙ none)) refl refl input_sound
 
-    input_by : (answer : Result Taken InputRefused) → input_answer system moment terminal number segments ≡ answer → HasRoom (told_by 0 moment.lasting (accepts terminal number kept answer)) life
-        → GoesBy (accepts terminal number kept answer) (flat_map spelling (told_by 0 moment.lasting (accepts terminal number kept answer))) system after_input slots units next life
+    input_by : (answer : Result Taken InputRefused) → input_answer system moment terminal number segments ≡ answer → HasRoom (told_by 0 moment.lasting (accepted_step terminal number kept answer)) life
+        → GoesBy (accepted_step terminal number kept answer) (flat_map record_spelling (told_by 0 moment.lasting (accepted_step terminal number kept answer))) system after_input slots units next life
     input_by (Ok (New id)) is room = accept_goes system valid moment slots units next life c unspent terminal number segments id is small right room
     input_by (Ok Already) is room = refused (Ok Already) is refl
     input_by (Err refusal) is room = refused (Err refusal) is refl
 
     -- An input is answered.
     pub input_goes : HasRoom (told_by 0 moment.lasting (lasting_step system moment (Input terminal number segments))) life
-        → GoesBy (lasting_step system moment (Input terminal number segments)) (flat_map spelling (told_by 0 moment.lasting (lasting_step system moment (Input terminal number segments)))) system after_input slots units next life
+        → GoesBy (lasting_step system moment (Input terminal number segments)) (flat_map record_spelling (told_by 0 moment.lasting (lasting_step system moment (Input terminal number segments)))) system after_input slots units next life
     input_goes room = input_by (input_answer system moment terminal number segments) refl room
 
   -- ---- acknowledgements
@@ -103,24 +103,24 @@ module _ (system : System) (valid : IsSystem system) (moment : Moment) (slots : 
     ack_sound : StaysSound system after_ack
     ack_sound = stays_sound system valid moment (has_terminals system moment.lasting c.is.names) c.sound (Acknowledge terminal number) [] refl right
 
-    nothing : (answer : Result Acked AckRefused) → ack_answer moment terminal number ≡ answer → acknowledges terminal answer ≡ None → GoesOn [] system after_ack slots units next life
+    nothing : (answer : Result Acked AckRefused) → ack_answer moment terminal number ≡ answer → acknowledged_step terminal answer ≡ None → LifeGoesOn [] system after_ack slots units next life
     nothing answer is none =
-        same_goes system moment after_ack slots units next life c (none_left (lasting_step system moment (Acknowledge terminal number)) (ap (acknowledges terminal) is ∙ none)) refl refl ack_sound
+        same_goes system moment after_ack slots units next life c (none_left (lasting_step system moment (Acknowledge terminal number)) (ap (acknowledged_step terminal) is ∙ none)) refl refl ack_sound
 
-    ack_by : (answer : Result Acked AckRefused) → ack_answer moment terminal number ≡ answer → HasRoom (told_by 0 moment.lasting (acknowledges terminal answer)) life
-        → GoesBy (acknowledges terminal answer) (flat_map spelling (told_by 0 moment.lasting (acknowledges terminal answer))) system after_ack slots units next life
+    ack_by : (answer : Result Acked AckRefused) → ack_answer moment terminal number ≡ answer → HasRoom (told_by 0 moment.lasting (acknowledged_step terminal answer)) life
+        → GoesBy (acknowledged_step terminal answer) (flat_map record_spelling (told_by 0 moment.lasting (acknowledged_step terminal answer))) system after_ack slots units next life
     ack_by (Ok Removed) is room = acknowledge_goes system valid moment slots units next life c unspent terminal number is right room
     ack_by (Ok AckAlready) is room = nothing (Ok AckAlready) is refl
     ack_by (Err refusal) is room = nothing (Err refusal) is refl
 
     -- An acknowledgement is answered.
     pub ack_goes : HasRoom (told_by 0 moment.lasting (lasting_step system moment (Acknowledge terminal number))) life
-        → GoesBy (lasting_step system moment (Acknowledge terminal number)) (flat_map spelling (told_by 0 moment.lasting (lasting_step system moment (Acknowledge terminal number)))) system after_ack slots units next life
+        → GoesBy (lasting_step system moment (Acknowledge terminal number)) (flat_map record_spelling (told_by 0 moment.lasting (lasting_step system moment (Acknowledge terminal number)))) system after_ack slots units next life
     ack_goes room = ack_by (ack_answer moment terminal number) refl room
 
   -- ---- what is shown
 
   -- A terminal is shown its reply.
-  pub show_goes : (terminal : List ℕ) → list_all (has_right_pad system) (After system moment (Receive terminal) []).lasting.conversations ≡ true → GoesOn [] system (After system moment (Receive terminal) []) slots units next life
+  pub show_goes : (terminal : List ℕ) → list_all (has_right_pad system) (After system moment (Receive terminal) []).lasting.conversations ≡ true → LifeGoesOn [] system (After system moment (Receive terminal) []) slots units next life
   show_goes terminal right =
       same_goes system moment (After system moment (Receive terminal) []) slots units next life c refl refl refl (stays_sound system valid moment (has_terminals system moment.lasting c.is.names) c.sound (Receive terminal) [] refl right)

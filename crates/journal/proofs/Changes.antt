@@ -7,13 +7,13 @@ use Rattle.std.proofs.lemmas.Bool.{eq-eqb}
 use Rattle.std.proofs.lemmas.List.{length-append}
 use Rattle.std.proofs.lemmas.List.Concat.{flat_map-cons}
 use Rattle.log_records.specs.declared.record.Record.{Record}
-use Rattle.log_records.specs.Spelling.{spelling, IsRecord}
+use Rattle.log_records.specs.RecordSpelling.{record_spelling, IsLogRecord}
 use Rattle.log_records.proofs.Takes.{IsBytes}
-use Rattle.log_writer.specs.Log.{sectors_of}
+use Rattle.log_writer.specs.ForcedLog.{log_sectors_of}
 use Rattle.model_image.specs.Slots.{is_image_of}
-use Rattle.disk_law.specs.Committed.{Bytes, is_place, touched}
+use Rattle.disk_law.specs.CommittedBytes.{Bytes, is_place, touched}
 use Rattle.disk_law.specs.Life.{LifeOnDisk}
-use Rattle.disk_law.specs.Changes.{SlotChange, change_record, with_bytes, with_slot_change, with_slot_changes, MayChange, MayChangeAll}
+use Rattle.disk_law.specs.SlotChanges.{SlotChange, change_record, with_bytes_behind, with_slot_change, with_slot_changes, MayChange, MayChangeAll}
 
 -- a change is of this slot
 abbrev pub is_of_slot : ℕ → ℕ → SlotChange → Bool
@@ -32,13 +32,13 @@ records_of unit changes = map (change_record unit) changes
 
 -- ---- what stays
 
-pub log_behind : (unit : ℕ) (changes : List SlotChange) (life : LifeOnDisk) → (with_slot_changes unit changes life).log ≡ with_bytes (flat_map spelling (records_of unit changes)) life.log
+pub log_behind : (unit : ℕ) (changes : List SlotChange) (life : LifeOnDisk) → (with_slot_changes unit changes life).log ≡ with_bytes_behind (flat_map record_spelling (records_of unit changes)) life.log
 log_behind unit [] life = ap (λ (b : List ℕ). record life.log { appended = b }) (sym (append-nil life.log.appended))
 log_behind unit (c ∷ changes) life =
     log_behind unit changes (with_slot_change unit c life)
     ∙ ap (λ (b : List ℕ). record life.log { appended = b })
-    (append_assoc life.log.appended (spelling (change_record unit c)) (flat_map spelling (records_of unit changes))
-    ∙ ap (λ (b : List ℕ). life.log.appended ++ b) (sym (flat_map-cons spelling (change_record unit c) (records_of unit changes))))
+    (append_assoc life.log.appended (record_spelling (change_record unit c)) (flat_map record_spelling (records_of unit changes))
+    ∙ ap (λ (b : List ℕ). life.log.appended ++ b) (sym (flat_map-cons record_spelling (change_record unit c) (records_of unit changes))))
 
 -- what changes of slots leave of a life as it was
 pub record StaysSo (old new : LifeOnDisk) : Type 0 where
@@ -102,7 +102,7 @@ own_behind unit (c ∷ changes) life d s = own_behind unit changes (with_slot_ch
 pub record MayBe (unit : ℕ) (c : SlotChange) (life : LifeOnDisk) : Type 0 where
   pub alone : (other : ℕ) → other == unit ≡ false → life.touches other c.database c.slot ≡ None
   pub stood : c.before ≡ life.present c.database c.slot
-  pub is_record : IsRecord (change_record unit c)
+  pub is_record : IsLogRecord (change_record unit c)
   pub image : is_image_of life.system (change_record unit c) ≡ true
 
 bytes_first : (xs ys : List ℕ) → IsBytes (xs ++ ys) → IsBytes xs
@@ -114,7 +114,7 @@ bytes_second : (xs ys : List ℕ) → IsBytes (xs ++ ys) → IsBytes ys
 bytes_second [] ys are i = are i
 bytes_second (x ∷ xs) ys are i = bytes_second xs ys (λ k. are (suc k)) i
 
-fewer_sectors : (n m : ℕ) → n ≤ m → sectors_of n ≤ sectors_of m
+fewer_sectors : (n m : ℕ) → n ≤ m → log_sectors_of n ≤ log_sectors_of m
 fewer_sectors n m less = omega (arith, less)
 
 module _ (unit : ℕ) where
@@ -160,15 +160,15 @@ module _ (unit : ℕ) where
 
   -- Changes of slots of their own may all be, where there is room for their records.
   pub all_may : (changes : List SlotChange) (life : LifeOnDisk) → life.may_sync unit ≡ true → AreOfOwn changes → AllByRecursion (λ c. MayBe unit c life) changes
-      → life.log.place + sectors_of (length (life.log.appended ++ flat_map spelling (records_of unit changes))) ≤ life.log.count → IsBytes (flat_map spelling (records_of unit changes)) → MayChangeAll unit changes life
+      → life.log.place + log_sectors_of (length (life.log.appended ++ flat_map record_spelling (records_of unit changes))) ≤ life.log.count → IsBytes (flat_map record_spelling (records_of unit changes)) → MayChangeAll unit changes life
   all_may [] life may own all fits bytes = tt
   all_may (c ∷ changes) life may own all fits bytes =
-      let r : List ℕ = spelling (change_record unit c) in
-      let more : List ℕ = flat_map spelling (records_of unit changes) in
-      let spelled : flat_map spelling (records_of unit (c ∷ changes)) ≡ r ++ more = flat_map-cons spelling (change_record unit c) (records_of unit changes) in
+      let r : List ℕ = record_spelling (change_record unit c) in
+      let more : List ℕ = flat_map record_spelling (records_of unit changes) in
+      let spelled : flat_map record_spelling (records_of unit (c ∷ changes)) ≡ r ++ more = flat_map-cons record_spelling (change_record unit c) (records_of unit changes) in
       let all_bytes : IsBytes (r ++ more) = subst IsBytes spelled bytes in
-      let all_fit : life.log.place + sectors_of (length (life.log.appended ++ (r ++ more))) ≤ life.log.count =
-      subst (λ (b : List ℕ). life.log.place + sectors_of (length (life.log.appended ++ b)) ≤ life.log.count) spelled fits in
+      let all_fit : life.log.place + log_sectors_of (length (life.log.appended ++ (r ++ more))) ≤ life.log.count =
+      subst (λ (b : List ℕ). life.log.place + log_sectors_of (length (life.log.appended ++ b)) ≤ life.log.count) spelled fits in
       let some : length (life.log.appended ++ r) ≤ length (life.log.appended ++ (r ++ more)) =
       omega (arith, length-append life.log.appended r, length-append life.log.appended (r ++ more), length-append r more) in
       let here : MayChange unit c life = record {
@@ -182,5 +182,5 @@ module _ (unit : ℕ) where
       } in (
         here,
         all_may changes (with_slot_change unit c life) may own.1 (still_may c changes life own.0 all.1)
-            (subst (λ (b : List ℕ). life.log.place + sectors_of (length b) ≤ life.log.count) (sym (append_assoc life.log.appended r more)) all_fit) (bytes_second r more all_bytes),
+            (subst (λ (b : List ℕ). life.log.place + log_sectors_of (length b) ≤ life.log.count) (sym (append_assoc life.log.appended r more)) all_fit) (bytes_second r more all_bytes),
       )

@@ -8,25 +8,25 @@ use Rattle.log_records.specs.declared.record.Record.{Record}
 use Rattle.log_writer.specs.Writer.{Writer}
 use Rattle.restart_data.specs.declared.restart.RestartSector.{RestartSector}
 use Rattle.restart_data.specs.Restart.{IsRestart}
-use Rattle.seg_store.specs.Changed.{AllStores}
-use Rattle.disk_law.specs.Committed.{Touches}
-use Rattle.checkpointing.specs.Parts.{CheckpointParts, other_area, next_restart, sequence_behind, AreFree, IsOver}
+use Rattle.seg_store.specs.ChangedSlots.{AllStores}
+use Rattle.disk_law.specs.CommittedBytes.{Touches}
+use Rattle.checkpointing.specs.CheckpointParts.{CheckpointParts, other_area, next_restart, sequence_behind, AreAreasFree, IsOver}
 use Rattle.checkpointing.specs.Checkpoint.{IsCheckpointed}
-use Rattle.checkpointing.specs.Conditions.{HasRestart, NoneIsAhead, ChangedAreNamed, ForceKeeps, SnapshotKeeps}
-use Rattle.checkpointing.specs.Written.{AreOf}
+use Rattle.checkpointing.specs.CheckpointNeeds.{HasRestart, NoneIsAhead, ChangedAreNamed, ForceKeeps, SnapshotKeeps}
+use Rattle.checkpointing.specs.DirtySlots.{AreStoresOf}
 use Rattle.disk_law.specs.Life.{LifeOnDisk}
-use Rattle.disk_law.specs.Kept.{AreKept}
-use Rattle.disk_law.specs.Checkpointing.{parts_with, after_checkpoint}
-use Rattle.disk_law.proofs.CheckpointLawOnDisk.{has_restart, changed_are_named, none_is_ahead, forces_keep, snapshots_keep, checkpoint_done}
-use Rattle.disk_law.specs.Journal.{JournalState}
-use Rattle.journal.specs.Checkpoints.{parts_for, IsOf, CanCheckpoint}
+use Rattle.disk_law.specs.KeptImages.{AreImagesKept}
+use Rattle.disk_law.specs.LifeCheckpoint.{parts_with, after_checkpoint}
+use Rattle.disk_law.proofs.CheckpointOnDisk.{has_restart, changed_are_named, none_is_ahead, forces_keep, snapshots_keep, checkpoint_done}
+use Rattle.disk_law.specs.JournalState.{JournalState}
+use Rattle.journal.specs.CheckpointFor.{parts_for, AreCheckpointPartsOf, CanCheckpoint}
 
 -- what a checkpoint asks for
 pub record Asks (parts : CheckpointParts) (log : Writer) (stores : AllStores) (disk : DiskState) : Type 0 where
   pub now : HasRestart parts.system parts.now disk
-  pub free : AreFree parts
+  pub free : AreAreasFree parts
   pub next : IsRestart (next_restart parts log)
-  pub stores_of : AreOf parts.system stores
+  pub stores_of : AreStoresOf parts.system stores
   pub named : ChangedAreNamed parts log stores disk
   pub over : IsOver parts log
   pub log_area : log.first + log.count ≤ disk.size
@@ -35,7 +35,7 @@ pub record Asks (parts : CheckpointParts) (log : Writer) (stores : AllStores) (d
   pub snapshot_keeps : SnapshotKeeps parts log stores disk
 
 of_life : (bytes : List ℕ) (stores : AllStores) (disk : DiskState) (life : LifeOnDisk) (touches : Touches) (told : List Record)
-    → IsOf life.system (record { log = life.log; restart = life.now }) stores bytes touches told disk life
+    → AreCheckpointPartsOf life.system (record { log = life.log; restart = life.now }) stores bytes touches told disk life
     → data_first life.system (length life.system.databases) ≤ disk.size
     → Asks (parts_with bytes life) life.log stores disk
 of_life bytes stores disk life touches told is areas =
@@ -59,7 +59,7 @@ pub asks : (system : System) (journal : JournalState) (stores : AllStores) (byte
 asks system journal stores bytes disk can =
     let life = can.life in
     let is = can.is in
-    let whole : IsOf life.system (record { log = life.log; restart = life.now }) stores bytes can.touches can.told disk life =
+    let whole : AreCheckpointPartsOf life.system (record { log = life.log; restart = life.now }) stores bytes can.touches can.told disk life =
     record { of_system = refl; writer = refl; now = refl; is_life = is.is_life; may = is.may; kept = is.kept } in
     let areas : data_first life.system (length life.system.databases) ≤ disk.size =
     subst (λ (s : System). data_first s (length s.databases) ≤ disk.size) (sym is.of_system) can.areas in
@@ -70,8 +70,8 @@ asks system journal stores bytes disk can =
 
 -- once it is done, each image is one of the life behind it
 pub follows_kept : (system : System) (journal : JournalState) (stores : AllStores) (bytes : List ℕ) (touches : Touches) (told : List Record) (life : LifeOnDisk) (old : DiskState)
-    → IsOf system journal stores bytes touches told old life
-    → (new : DiskState) → Follows (IsCheckpointed (parts_for system journal.restart bytes) journal.log stores) old new → AreKept (after_checkpoint bytes touches life) new
+    → AreCheckpointPartsOf system journal stores bytes touches told old life
+    → (new : DiskState) → Follows (IsCheckpointed (parts_for system journal.restart bytes) journal.log stores) old new → AreImagesKept (after_checkpoint bytes touches life) new
 follows_kept system journal stores bytes touches told life old is new follows =
     checkpoint_done bytes stores touches told life is.is_life is.may old is.kept new
     (subst (λ (s : System). Follows (IsCheckpointed (parts_for s life.now bytes) life.log stores) old new) (sym is.of_system)

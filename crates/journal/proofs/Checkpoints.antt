@@ -13,40 +13,40 @@ use Rattle.model_machine.specs.Machine.{LastingState, Moment}
 use Rattle.model_image.specs.Areas.{snapshot_area}
 use Rattle.model_image.specs.States.{breaks_a_rule}
 use Rattle.log_records.specs.declared.record.Record.{Record}
-use Rattle.log_records.specs.Spelling.{spelling}
-use Rattle.log_writer.specs.Log.{sectors_of}
+use Rattle.log_records.specs.RecordSpelling.{record_spelling}
+use Rattle.log_writer.specs.ForcedLog.{log_sectors_of}
 use Rattle.restart_data.specs.Restart.{IsRestart}
 use Rattle.restart_data.specs.Snapshot as snapshot
 use Rattle.seg_store.specs.Slots.{Stored, AreSlots, IsSlot}
 use Rattle.unit_work.specs.declared.change.Change.{Change}
-use Rattle.unit_work.specs.Changes.{is_before, is_slot}
+use Rattle.unit_work.specs.Changes.{is_slot_before, is_slot}
 use Rattle.unit_work.specs.Images.{image_at, IsSlotOf}
-use Rattle.checkpointing.specs.Parts.{next_restart}
+use Rattle.checkpointing.specs.CheckpointParts.{next_restart}
 use Rattle.checkpointing.specs.declared.touches.OpenUnit.{OpenUnit}
-use Rattle.checkpointing.specs.Records.{snapshot_records}
-use Rattle.checkpointing.specs.Spelled.{Adds}
+use Rattle.checkpointing.specs.SnapshotRecords.{snapshot_records}
+use Rattle.checkpointing.specs.SpelledRecords.{AddsSpelled}
 use Rattle.checkpointing.specs.Touches as touching
 use Rattle.checkpointing.proofs.Judged.{AreCounts}
 use Rattle.checkpointing.proofs.Read.{IsRead}
 use Rattle.checkpointing.proofs.Whole.{IsWhole, whole}
-use Rattle.system_types.specs.Valid.{IsSystem}
+use Rattle.system_types.specs.ValidSystem.{IsSystem}
 use Rattle.disk_law.proofs.Touched.{open_changes, open_size}
-use Rattle.disk_law.specs.Committed.{Touch, Touches}
+use Rattle.disk_law.specs.CommittedBytes.{Touch, Touches}
 use Rattle.disk_law.specs.Life.{LifeOnDisk}
 use Rattle.disk_law.proofs.Changing.{IsKnownSlot}
 use Rattle.disk_law.proofs.Recovering.{all_at, index_found}
-use Rattle.disk_law.specs.Checkpointing.{IsSnapshotOf, MayCheckpoint, after_checkpoint, parts_with}
+use Rattle.disk_law.specs.LifeCheckpoint.{IsSnapshotOf, MayCheckpoint, after_checkpoint, parts_with}
 use Rattle.disk_law.proofs.Checkpointed.{checkpoint_life}
 use Rattle.disk_law.proofs.Stored.{store_of}
-use Rattle.disk_law.specs.Units.{KeptUnit, AreOnce, HaveNumbers, IsOpen, KeepTouches, kept_touches, touch_of, unit_kept}
+use Rattle.disk_law.specs.KeptUnits.{KeptUnit, AreSlotsOnce, HaveNumbers, IsUnitOpen, KeepTouches, kept_touches, touch_of, unit_kept}
 use Rattle.disk_law.proofs.Told.{forgets}
 use Rattle.disk_law.proofs.Snapshots.{is_snapshot}
 use Rattle.unit_work.specs.Marks.{is_marked}
-use Rattle.unit_work.specs.Changes.{Ascend}
-use Rattle.program_rows.specs.OnSlots.{SlotsState, HaveSlots, AreTouchedSlots, IsTouchedSlot, all_stores, records_in, touched_in}
-use Rattle.journal.specs.Opens.{IsUnitOf, AreUnitsOf, written}
-use Rattle.journal.specs.Turning.{unit_of}
-use Rattle.journal.specs.Carried.{HoldTouched, IsTouchedBy, IsCarriedBy}
+use Rattle.unit_work.specs.Changes.{ChangesAscend}
+use Rattle.program_rows.specs.SlotsState.{SlotsState, HaveSlots, AreTouchedSlots, IsTouchedSlot, slots_stores, image_records_in, touched_in}
+use Rattle.journal.specs.OpenUnits.{IsUnitOf, AreUnitsOf, written}
+use Rattle.journal.specs.UnitNumbers.{unit_of_region}
+use Rattle.journal.specs.CarriedLife.{HoldTouched, IsTouchedBy, IsCarriedBy}
 use Rattle.journal.proofs.Calls.{ascend_own}
 use Rattle.journal.proofs.Ended.{committed_so, get_of_index, stands_committed}
 use Rattle.journal.proofs.Moves.{AreOwn}
@@ -69,7 +69,7 @@ none_found d s (c ∷ slots) none = by (is_slot d s c) none (none_found d s slot
   by true e later = absurd cc
   by false e later = later e
 
-own_once : (slots : List Change) → AreOwn slots → AreOnce slots
+own_once : (slots : List Change) → AreOwn slots → AreSlotsOnce slots
 own_once [] own = tt
 own_once (c ∷ slots) own = (find_none c.db c.slot slots own.0, own_once slots own.1)
 
@@ -80,7 +80,7 @@ numbers_apart (u ∷ opens) ascending = (others opens ascending.0, numbers_apart
   others [] all = tt
   others (v ∷ some) all = (ne_eqb u.number v.number (λ e. omega (arith, e, all.0)), others some all.1)
 
-slot_before : (c d : Change) → is_before d.db d.slot c ≡ true → touching.IsSlotBefore c d
+slot_before : (c d : Change) → is_slot_before d.db d.slot c ≡ true → touching.IsSlotBefore c d
 slot_before c d before = by (nat_lt c.db d.db) (c.db == d.db) (nat_lt c.slot d.slot) refl refl refl before where
   by : (a b e : Bool) → nat_lt c.db d.db ≡ a → c.db == d.db ≡ b → nat_lt c.slot d.slot ≡ e → (a || (b && e)) ≡ true → touching.IsSlotBefore c d
   by true b e f g h is = inl (ltb-true c.db d.db f)
@@ -88,7 +88,7 @@ slot_before c d before = by (nat_lt c.db d.db) (c.db == d.db) (nat_lt c.slot d.s
   by false true false f g h is = absurd cc
   by false false e f g h is = absurd cc
 
-slots_ascend : (slots : List Change) → Ascend slots → touching.SlotsAscend slots
+slots_ascend : (slots : List Change) → ChangesAscend slots → touching.SlotsAscend slots
 slots_ascend [] are = tt
 slots_ascend (c ∷ []) are = tt
 slots_ascend (c ∷ d ∷ slots) are = (slot_before c d are.0.0, slots_ascend (d ∷ slots) are.1)
@@ -99,29 +99,29 @@ same_image stores db slot = by (slice_get stores (db - 1)) where
   by None = refl
   by (Some s) = refl
 
-same_count : (image : List Row) → touching.records_in image ≡ records_in image
+same_count : (image : List Row) → touching.touched_records_in image ≡ image_records_in image
 same_count [] = refl
 same_count (row ∷ image) = refl
 
-count_before : (slots : List Change) → sum_by (λ c. touching.records_in c.before) slots ≡ sum_by (λ c. records_in c.before) slots
+count_before : (slots : List Change) → sum_by (λ c. touching.touched_records_in c.before) slots ≡ sum_by (λ c. image_records_in c.before) slots
 count_before [] = refl
 count_before (c ∷ slots) =
     omega (
       arith,
-      sum_by-cons (λ (x : Change). touching.records_in x.before) c slots,
-      sum_by-cons (λ (x : Change). records_in x.before) c slots,
+      sum_by-cons (λ (x : Change). touching.touched_records_in x.before) c slots,
+      sum_by-cons (λ (x : Change). image_records_in x.before) c slots,
       same_count c.before,
       count_before slots,
     )
 
-count_now : (stores : List Stored) (slots : List Change) → sum_by (λ c. touching.records_in (touching.image_in stores c.db c.slot)) slots ≡ sum_by (λ c. records_in (image_at c.db c.slot stores)) slots
+count_now : (stores : List Stored) (slots : List Change) → sum_by (λ c. touching.touched_records_in (touching.image_in stores c.db c.slot)) slots ≡ sum_by (λ c. image_records_in (image_at c.db c.slot stores)) slots
 count_now stores [] = refl
 count_now stores (c ∷ slots) =
     omega (
       arith,
-      sum_by-cons (λ (x : Change). touching.records_in (touching.image_in stores x.db x.slot)) c slots,
-      sum_by-cons (λ (x : Change). records_in (image_at x.db x.slot stores)) c slots,
-      ap (λ (image : List Row). touching.records_in image) (same_image stores c.db c.slot),
+      sum_by-cons (λ (x : Change). touching.touched_records_in (touching.image_in stores x.db x.slot)) c slots,
+      sum_by-cons (λ (x : Change). image_records_in (image_at x.db x.slot stores)) c slots,
+      ap (λ (image : List Row). touching.touched_records_in image) (same_image stores c.db c.slot),
       same_count (image_at c.db c.slot stores),
       count_now stores slots,
     )
@@ -135,7 +135,7 @@ touch_is : (t : Touch) (first present : List ℕ) → t.first ≡ first → t.pr
 touch_is t first present a b = ap (λ (x : List ℕ). record { first = x; present = t.present }) a ∙ ap (λ (x : List ℕ). record { first = first; present = x }) b
 
 -- what a unit keeps, by its number
-kept_at : (units : List KeptUnit) → HaveNumbers units → (present : Rattle.disk_law.specs.Committed.Bytes) (k : ℕ) (u : KeptUnit) → slice_get units k ≡ Some u → (d s : ℕ) → kept_touches present units u.number d s ≡ option_map (touch_of present) (find (is_slot d s) u.slots)
+kept_at : (units : List KeptUnit) → HaveNumbers units → (present : Rattle.disk_law.specs.CommittedBytes.Bytes) (k : ℕ) (u : KeptUnit) → slice_get units k ≡ Some u → (d s : ℕ) → kept_touches present units u.number d s ≡ option_map (touch_of present) (find (is_slot d s) u.slots)
 kept_at [] numbers present k u found d s = absurd cc
 kept_at (v ∷ units) numbers present zero u found d s =
     let same : v ≡ u = cc in
@@ -176,10 +176,10 @@ module _ (system : System) (valid : IsSystem system) (n : ℕ) (moment : Moment)
     by None e h = absurd cc
     by (Some t) e h =
         ap (λ (y : Touch). Some y)
-        (touch_is t (rows.spelling x.before) (life.present x.db x.slot)
+        (touch_is t (rows.rows_spelling x.before) (life.present x.db x.slot)
         (c.is.is_life.slots.firsts u.number x.db x.slot t e
         ∙ committed_so system n moment.lasting moment.slots moment.enqueues moment.enqueues slots units next life c.is have holds u.number is.region is.least is.found is.some x.db x.slot (known x.db x.slot at.there)
-        ∙ ap (λ (image : List Row). rows.spelling image) (sym at.first))
+        ∙ ap (λ (image : List Row). rows.rows_spelling image) (sym at.first))
         (c.is.is_life.slots.touched u.number x.db x.slot t e))
 
   all_touched : (u : OpenUnit) (is : IsUnitOf slots units u) (some : List Change) → AllByRecursion (IsTouchedSlot slots) some → AllByRecursion (λ x. IsSome (life.touches u.number x.db x.slot)) some → AllByRecursion (λ x. life.touches u.number x.db x.slot ≡ Some (touch_of life.present x)) some
@@ -196,10 +196,10 @@ module _ (system : System) (valid : IsSystem system) (n : ℕ) (moment : Moment)
   each_touched [] all = tt
   each_touched (u ∷ some) all = (unit_touched u all.0, each_touched some all.1)
 
-  each_once : (some : List OpenUnit) → AllByRecursion (IsUnitOf slots units) some → AllByRecursion (λ u. AreOnce u.slots) (map unit_kept some)
+  each_once : (some : List OpenUnit) → AllByRecursion (IsUnitOf slots units) some → AllByRecursion (λ u. AreSlotsOnce u.slots) (map unit_kept some)
   each_once [] all = tt
   each_once (u ∷ some) all =
-      (subst (λ (cs : List Change). AreOnce cs) (sym all.0.keeps) (own_once (touched_in all.0.region slots) (ascend_own (touched_in all.0.region slots) (have.touched all.0.region).ascend)), each_once some all.1)
+      (subst (λ (cs : List Change). AreSlotsOnce cs) (sym all.0.keeps) (own_once (touched_in all.0.region slots) (ascend_own (touched_in all.0.region slots) (have.touched all.0.region).ascend)), each_once some all.1)
 
   -- what a unit keeps no more stands as it is committed
   rest_stands : (unit d s : ℕ) (t : Touch) → life.touches unit d s ≡ Some t → kept_now unit d s ≡ None → t.first ≡ t.present
@@ -221,7 +221,7 @@ module _ (system : System) (valid : IsSystem system) (n : ℕ) (moment : Moment)
       stands_committed system n moment.lasting moment.slots moment.enqueues moment.enqueues slots units next life c.is have holds unit by.region by.least by.found by.some d s t is (none_found d s (touched_in by.region slots) found_none) in
       c.is.is_life.slots.firsts unit d s t is
       ∙ committed_so system n moment.lasting moment.slots moment.enqueues moment.enqueues slots units next life c.is have holds unit by.region by.least by.found by.some d s (known d s by.there)
-      ∙ ap (λ (image : List Row). rows.spelling image) stands
+      ∙ ap (λ (image : List Row). rows.rows_spelling image) stands
       ∙ sym (stands_so system slots life c.is.of_system c.is.stores d s (known d s by.there))
       ∙ sym (c.is.is_life.slots.touched unit d s t is) where
         mapped_none : (found : Option Change) → option_map (touch_of life.present) found ≡ None → found ≡ None
@@ -239,7 +239,7 @@ module _ (system : System) (valid : IsSystem system) (n : ℕ) (moment : Moment)
 
   -- ---- they are open units of a snapshot
 
-  slot_touched : (x : Change) → IsTouchedSlot slots x → touching.IsTouched slots.stores x
+  slot_touched : (x : Change) → IsTouchedSlot slots x → touching.IsSlotTouched slots.stores x
   slot_touched x at =
       let slot = known x.db x.slot at.there in
       let now = store_of slots.stores system.databases slot.place slot.dbd have.stores slot.found in
@@ -260,11 +260,11 @@ module _ (system : System) (valid : IsSystem system) (n : ℕ) (moment : Moment)
             (subst (λ (dbd : Dbd). IsSlot dbd (slice_index_or was.store.slots x.slot [])) (was.is ∙ sym now.is) (slot_in was.store.dbd was.store.slots x.slot was_slots.each));
       }
 
-  all_slots : (some : List Change) → AllByRecursion (IsTouchedSlot slots) some → AllByRecursion (touching.IsTouched slots.stores) some
+  all_slots : (some : List Change) → AllByRecursion (IsTouchedSlot slots) some → AllByRecursion (touching.IsSlotTouched slots.stores) some
   all_slots [] all = tt
   all_slots (x ∷ some) all = (slot_touched x all.0, all_slots some all.1)
 
-  region_touched : (some : List Change) → AreTouchedSlots slots some → touching.AreTouched slots.stores some
+  region_touched : (some : List Change) → AreTouchedSlots slots some → touching.AreSlotsTouched slots.stores some
   region_touched some are = record {
     each = all_slots some are.each;
     ascending = slots_ascend some are.ascend;
@@ -273,10 +273,10 @@ module _ (system : System) (valid : IsSystem system) (n : ℕ) (moment : Moment)
     few_now = omega (arith, count_now slots.stores some, are.few_now);
   }
 
-  units_touched : (some : List OpenUnit) → AllByRecursion (IsUnitOf slots units) some → AllByRecursion (λ u. touching.AreTouched slots.stores u.work.now.slots) some
+  units_touched : (some : List OpenUnit) → AllByRecursion (IsUnitOf slots units) some → AllByRecursion (λ u. touching.AreSlotsTouched slots.stores u.work.now.slots) some
   units_touched [] all = tt
   units_touched (u ∷ some) all =
-      (subst (λ (cs : List Change). touching.AreTouched slots.stores cs) (sym all.0.keeps) (region_touched (touched_in all.0.region slots) (have.touched all.0.region)), units_touched some all.1)
+      (subst (λ (cs : List Change). touching.AreSlotsTouched slots.stores cs) (sym all.0.keeps) (region_touched (touched_in all.0.region slots) (have.touched all.0.region)), units_touched some all.1)
 
   -- so a snapshot may have them
   pub are_open : touching.AreOpen slots.stores opens
@@ -285,17 +285,17 @@ module _ (system : System) (valid : IsSystem system) (n : ℕ) (moment : Moment)
   -- ---- the checkpoint
 
   module _ (counts : AreCounts (life.now.checkpoint + 1) next) (few : length opens ≤ length system.regions) (bytes : List ℕ)
-      (adds : Adds (snapshot_records (life.now.checkpoint + 1) next moment.lasting (touching.changes_of slots.stores opens)) [] bytes)
-      (sequence : life.log.sequence + life.log.place + sectors_of (length life.log.appended) < 2000000000000000000) where
+      (adds : AddsSpelled (snapshot_records (life.now.checkpoint + 1) next moment.lasting (touching.changes_of_units slots.stores opens)) [] bytes)
+      (sequence : life.log.sequence + life.log.place + log_sectors_of (length life.log.appended) < 2000000000000000000) where
     abbrev pub told_records : List Record
-    told_records = snapshot_records (life.now.checkpoint + 1) next moment.lasting (touching.changes_of slots.stores opens)
+    told_records = snapshot_records (life.now.checkpoint + 1) next moment.lasting (touching.changes_of_units slots.stores opens)
 
     unbroken : breaks_a_rule system moment.lasting ≡ false
     unbroken = ap (λ (y : System). breaks_a_rule y moment.lasting) (sym c.is.of_system) ∙ ap (λ (l : LastingState). breaks_a_rule life.system l) (sym c.is.lasts) ∙ c.is.is_life.sound
 
-    whole_is : IsWhole system (life.now.checkpoint + 1) next moment.lasting (touching.changes_of slots.stores opens) bytes
+    whole_is : IsWhole system (life.now.checkpoint + 1) next moment.lasting (touching.changes_of_units slots.stores opens) bytes
     whole_is =
-        whole system (life.now.checkpoint + 1) next moment.lasting (touching.changes_of slots.stores opens) bytes valid c.is.names counts unbroken
+        whole system (life.now.checkpoint + 1) next moment.lasting (touching.changes_of_units slots.stores opens) bytes valid c.is.names counts unbroken
         (open_changes system slots.stores opens have.stores are_open)
         (omega (arith, open_size slots.stores opens (stores_one system n slots have one_sector) are_open.each, few)) adds
 
@@ -312,18 +312,18 @@ module _ (system : System) (valid : IsSystem system) (n : ℕ) (moment : Moment)
 
     is_snapshot_of : IsSnapshotOf life.system life.lasting kept_now told_records bytes
     is_snapshot_of =
-        let changes : List Record = touching.changes_of slots.stores opens in
+        let changes : List Record = touching.changes_of_units slots.stores opens in
         let checkpoint : ℕ = life.now.checkpoint + 1 in
         let read : IsRead life.system checkpoint next life.lasting changes =
         subst (λ (y : System). IsRead y checkpoint next life.lasting changes) (sym c.is.of_system)
         (subst (λ (l : LastingState). IsRead system checkpoint next l changes) (sym c.is.lasts) whole_is.read) in
         subst (λ (b : List ℕ). IsSnapshotOf life.system life.lasting kept_now told_records b) (sym whole_is.spelled)
-        (subst (λ (l : LastingState). IsSnapshotOf life.system life.lasting kept_now (snapshot_records checkpoint next l changes) (flat_map spelling (snapshot_records checkpoint next l changes))) c.is.lasts
-        (is_snapshot life (all_stores slots) c.is.stores c.is.is_life opens are_open keep_touches checkpoint next read))
+        (subst (λ (l : LastingState). IsSnapshotOf life.system life.lasting kept_now (snapshot_records checkpoint next l changes) (flat_map record_spelling (snapshot_records checkpoint next l changes))) c.is.lasts
+        (is_snapshot life (slots_stores slots) c.is.stores c.is.is_life opens are_open keep_touches checkpoint next read))
 
-    pub may_checkpoint : MayCheckpoint bytes (all_stores slots) kept_now told_records life
+    pub may_checkpoint : MayCheckpoint bytes (slots_stores slots) kept_now told_records life
     may_checkpoint = record {
-      fits = subst (λ (y : System). snapshot.sectors_of (length bytes) ≤ snapshot_area y) (sym c.is.of_system) (omega (arith, whole_is.fits));
+      fits = subst (λ (y : System). snapshot.snapshot_sectors_of (length bytes) ≤ snapshot_area y) (sym c.is.of_system) (omega (arith, whole_is.fits));
       next = restart_next;
       slots = c.is.stores;
       forgets = forgets life c.is.is_life kept_units keep_touches;
@@ -367,9 +367,9 @@ module _ (system : System) (valid : IsSystem system) (n : ℕ) (moment : Moment)
               step true e later = refl
               step false e later = later e
 
-      kept_then : (region : ℕ) → 1 ≤ region → AllByRecursion (λ x. IsSome (kept_now (unit_of units region) x.db x.slot)) (touched_in region slots)
-      kept_then region least = by (unit_of units region) refl where
-        numbered : (m : ℕ) → unit_of units region ≡ m → 0 < m → AllByRecursion (λ x. IsSome (kept_now m x.db x.slot)) (touched_in region slots)
+      kept_then : (region : ℕ) → 1 ≤ region → AllByRecursion (λ x. IsSome (kept_now (unit_of_region units region) x.db x.slot)) (touched_in region slots)
+      kept_then region least = by (unit_of_region units region) refl where
+        numbered : (m : ℕ) → unit_of_region units region ≡ m → 0 < m → AllByRecursion (λ x. IsSome (kept_now m x.db x.slot)) (touched_in region slots)
         numbered m e some =
             let found = get_of_index units (region - 1) m e some in
             let opened = o.all (region - 1) m found some in
@@ -380,7 +380,7 @@ module _ (system : System) (valid : IsSystem system) (n : ℕ) (moment : Moment)
             let region_is : its.2.region ≡ region = omega (arith, same_place, its.2.least, least) in
             let slots_are : opened.unit.slots ≡ touched_in region slots = ap (λ (x : KeptUnit). x.slots) (sym its.1) ∙ its.2.keeps ∙ ap (λ r. touched_in r slots) region_is in
             all_kept opened m slots_are (touched_in region slots) (found_all (touched_in region slots) (touched_in region slots) (λ d s h. h)) where
-              all_kept : (opened : IsOpen kept_units m) (k : ℕ) → opened.unit.slots ≡ touched_in region slots → (some : List Change)
+              all_kept : (opened : IsUnitOpen kept_units m) (k : ℕ) → opened.unit.slots ≡ touched_in region slots → (some : List Change)
                   → AllByRecursion (λ x. IsSome (option_map (touch_of life.present) (find (is_slot x.db x.slot) (touched_in region slots)))) some → AllByRecursion (λ x. IsSome (kept_now m x.db x.slot)) some
               all_kept opened k are [] all = tt
               all_kept opened k are (x ∷ some) all = (
@@ -391,10 +391,10 @@ module _ (system : System) (valid : IsSystem system) (n : ℕ) (moment : Moment)
                 all_kept opened k are some all.1,
               )
 
-        by : (m : ℕ) → unit_of units region ≡ m → AllByRecursion (λ x. IsSome (kept_now (unit_of units region) x.db x.slot)) (touched_in region slots)
+        by : (m : ℕ) → unit_of_region units region ≡ m → AllByRecursion (λ x. IsSome (kept_now (unit_of_region units region) x.db x.slot)) (touched_in region slots)
         by zero e =
-            subst (λ (cs : List Change). AllByRecursion (λ x. IsSome (kept_now (unit_of units region) x.db x.slot)) cs)
-            (sym (none_of (unit_of units region) e (touched_in region slots) (c.is.touched.kept region least))) tt
+            subst (λ (cs : List Change). AllByRecursion (λ x. IsSome (kept_now (unit_of_region units region) x.db x.slot)) cs)
+            (sym (none_of (unit_of_region units region) e (touched_in region slots) (c.is.touched.kept region least))) tt
         by (suc m) e = subst (λ u. AllByRecursion (λ x. IsSome (kept_now u x.db x.slot)) (touched_in region slots)) (sym e) (numbered (suc m) e (omega arith))
 
       -- The life goes on with the machine.
@@ -405,7 +405,7 @@ module _ (system : System) (valid : IsSystem system) (n : ℕ) (moment : Moment)
           lasts = c.is.lasts;
           names = c.is.names;
           counted = c.is.counted;
-          is_life = checkpoint_life bytes (all_stores slots) kept_now told_records life c.is.is_life may_checkpoint;
+          is_life = checkpoint_life bytes (slots_stores slots) kept_now told_records life c.is.is_life may_checkpoint;
           stores = has_stores system n (written slots) had one_sector life_checked c.is.of_system
               (λ place number dbd found below. stands_so system slots life c.is.of_system c.is.stores (place + 1) number (record { place = place; is = refl; dbd = dbd; found = found; below = below }))
               (λ place number dbd found below. sym (none_marked slots.changed (place + 1) number));

@@ -13,7 +13,7 @@ use Rattle.model_machine.specs.declared.answer.Answer.{Answer}
 use Rattle.model_machine.specs.declared.command.Command.{Command}
 use Rattle.model_machine.specs.declared.command.Command.TheVariants.{StartTransaction, StopTransaction, StartTerminal, StopTerminal, DisplayTransaction, DisplayTerminal, DisplayActive, Checkpoint, Freeze, DequeueFirst, DequeueAll, Exit, EmergencyRestart, NormalRestart, ColdStart}
 use Rattle.model_messages.specs.declared.conversation.Conversation.{Conversation}
-use Rattle.model_messages.specs.Input.{busy_id, is_conversing}
+use Rattle.model_messages.specs.ConversationInput.{busy_id, is_conversing}
 use Rattle.model_messages.specs.Terminals.{conversation_at}
 use Rattle.model_messages.specs.declared.replies.TerminalReplies.{TerminalReplies}
 use Rattle.model_system.specs.Codes.{code_at}
@@ -21,28 +21,28 @@ use Rattle.model_system.specs.System.{System}
 use Rattle.model_machine.specs.declared.entry.CommandRefused.TheVariants.{UnknownName}
 use Rattle.model_machine.specs.declared.entry.ControlCall.TheVariants.{Command as CommandCall, Checkpoint as CheckpointCall}
 use Rattle.model_machine.specs.declared.lasting.TerminalState.{TerminalState}
-use Rattle.model_machine.specs.ModelMachineCommands.{CommandAnswer, all_dequeued, command_answer, command_step, exited, first_dequeued, lasting_command, of_code, of_terminal, steps_by}
+use Rattle.model_machine.specs.CommandAnswers.{CommandAnswer, all_dequeued, command_answer, command_step, exited, first_dequeued, lasting_command, of_code, of_terminal, steps_by}
 use Rattle.model_machine.specs.Machine.{LastingState, Moment, content, output_at, terminal_at}
-use Rattle.model_machine.specs.Lasting.{LastingStep, applied}
-use Rattle.model_machine.specs.Lasting.LastingStep.{Commands}
-use Rattle.model_machine.specs.Steps.{After, lasting_step}
+use Rattle.model_machine.specs.LastingSteps.{LastingStep, applied}
+use Rattle.model_machine.specs.LastingSteps.LastingStep.{Commands}
+use Rattle.model_machine.specs.MachineCalls.{After, lasting_step}
 use Rattle.model_image.specs.Replay.{names_known}
-use Rattle.model_image.specs.States.{breaks_a_rule, has_right_pad, is_terminal}
-use Rattle.log_records.specs.Spelling.{spelling}
-use Rattle.system_types.specs.Valid.{IsSystem}
-use Rattle.image_law.specs.Sound.{Fits}
-use Rattle.image_law.specs.Steps.{EndsNoneWaiting}
-use Rattle.image_law.specs.Standing.{Stands}
-use Rattle.image_law.specs.Rooms.{StaysSound}
+use Rattle.model_image.specs.States.{breaks_a_rule, has_right_pad, is_system_terminal}
+use Rattle.log_records.specs.RecordSpelling.{record_spelling}
+use Rattle.system_types.specs.ValidSystem.{IsSystem}
+use Rattle.image_law.specs.SoundState.{FitsRanges}
+use Rattle.image_law.specs.StepNeeds.{EndsNoneWaiting}
+use Rattle.image_law.specs.StandingState.{StandsLasting}
+use Rattle.image_law.specs.SoundMachine.{StaysSound}
 use Rattle.image_law.proofs.Steps.{HasTerminals, stays_sound, there_by}
-use Rattle.checkpointing.specs.Records.{IsOfSystem}
+use Rattle.checkpointing.specs.SnapshotRecords.{IsOfSystem}
 use Rattle.disk_law.specs.Life.{LifeOnDisk}
-use Rattle.disk_law.specs.Lasting.{MayCommand, command_record, commanding}
+use Rattle.disk_law.specs.LastingSteps.{MayCommand, command_record, commanding}
 use Rattle.disk_law.proofs.LastingSteps as steps
-use Rattle.program_rows.specs.OnSlots.{SlotsState}
-use Rattle.journal.specs.Counts.{AreUnspent}
-use Rattle.journal.specs.Carried.{IsCarriedBy}
-use Rattle.journal.specs.Going.{GoesOn, StepsOn}
+use Rattle.program_rows.specs.SlotsState.{SlotsState}
+use Rattle.journal.specs.UnspentCounts.{AreUnspent}
+use Rattle.journal.specs.CarriedLife.{IsCarriedBy}
+use Rattle.journal.specs.LifeByCall.{LifeGoesOn, LifeStepsOn}
 use Rattle.journal.proofs.Answered.{same_goes}
 use Rattle.journal.proofs.Counting.{commands_fits}
 use Rattle.journal.proofs.Inputs.{HasRoom, counted_then, fits_now, has_terminals, keeps_rules, life_behind, room_for, unbroken_by}
@@ -90,13 +90,13 @@ module _ (system : System) (valid : IsSystem system) (moment : Moment) (slots : 
   names : HasTerminals system moment.lasting
   names = has_terminals system moment.lasting c.is.names
 
-  by_terminals : (terminal : List ℕ) → is_some (terminal_at moment.lasting.terminals terminal) ≡ true → is_terminal system terminal ≡ true
+  by_terminals : (terminal : List ℕ) → is_some (terminal_at moment.lasting.terminals terminal) ≡ true → is_system_terminal system terminal ≡ true
   by_terminals terminal there =
       sym (ap (λ (ns : List (List ℕ)). list_any (λ other. bytes_eq other terminal) ns) names.terminals)
       ∙ sym (there_by (λ (t : TerminalState). t.name) moment.lasting.terminals terminal)
       ∙ there
 
-  by_outputs : (terminal : List ℕ) → is_some (output_at moment.lasting.outputs terminal) ≡ true → is_terminal system terminal ≡ true
+  by_outputs : (terminal : List ℕ) → is_some (output_at moment.lasting.outputs terminal) ≡ true → is_system_terminal system terminal ≡ true
   by_outputs terminal there =
       sym (ap (λ (ns : List (List ℕ)). list_any (λ other. bytes_eq other terminal) ns) names.outputs)
       ∙ sym (there_by (λ (t : TerminalReplies). t.terminal) moment.lasting.outputs terminal)
@@ -105,7 +105,7 @@ module _ (system : System) (valid : IsSystem system) (moment : Moment) (slots : 
   of_code_done : (code : List ℕ) (answer : CommandAnswer) (a : Answer) → of_code system code answer ≡ Ok a → is_some (code_at system.codes code) ≡ true
   of_code_done code answer a e = known_where (is_some (code_at system.codes code)) code answer a e
 
-  of_terminal_done : (terminal : List ℕ) (answer : CommandAnswer) (a : Answer) → of_terminal moment.lasting terminal answer ≡ Ok a → is_terminal system terminal ≡ true
+  of_terminal_done : (terminal : List ℕ) (answer : CommandAnswer) (a : Answer) → of_terminal moment.lasting terminal answer ≡ Ok a → is_system_terminal system terminal ≡ true
   of_terminal_done terminal answer a e = by_terminals terminal (known_where (is_some (terminal_at moment.lasting.terminals terminal)) terminal answer a e)
 
   exit_done : (terminal : List ℕ) (a : Answer) → command_answer system moment (Exit terminal) ≡ Ok a → list_any (is_conversing terminal) moment.lasting.messages ≡ false
@@ -123,7 +123,7 @@ module _ (system : System) (valid : IsSystem system) (moment : Moment) (slots : 
     sound = stays_sound system valid moment names c.sound (CommandCall command) [] refl right
 
     -- nothing lasts of it
-    nothing : command_step system moment command ≡ None → GoesOn [] system after slots units next life
+    nothing : command_step system moment command ≡ None → LifeGoesOn [] system after slots units next life
     nothing none = same_goes system moment after slots units next life c (ap (λ (o : Option LastingStep). option_map_or (λ s. applied s moment.lasting) o moment.lasting) none) refl refl sound
 
     -- ---- one that lasts is done
@@ -135,13 +135,13 @@ module _ (system : System) (valid : IsSystem system) (moment : Moment) (slots : 
       behind_is : after.lasting ≡ behind
       behind_is = ap (λ (o : Option LastingStep). option_map_or (λ s. applied s moment.lasting) o moment.lasting) step_is
 
-      stands : Stands system behind
-      stands = subst (Stands system) behind_is sound.stands
+      stands : StandsLasting system behind
+      stands = subst (StandsLasting system) behind_is sound.stands
 
       has_room : content behind ≤ system.qbytes
       has_room = subst (λ (l : LastingState). content l ≤ system.qbytes) behind_is (omega (arith, sound.room))
 
-      fits_so : Fits system behind
+      fits_so : FitsRanges system behind
       fits_so = commands_fits system moment.lasting (fits_now system valid moment slots units next life c unspent) unspent does stands has_room
 
       may_command : HasRoom (command_record does ∷ []) life → MayCommand does life
@@ -159,9 +159,9 @@ module _ (system : System) (valid : IsSystem system) (moment : Moment) (slots : 
       unbroken : breaks_a_rule life.system (applied (Commands does) life.lasting) ≡ false
       unbroken =
           unbroken_by life.system system (applied (Commands does) life.lasting) after.lasting c.is.of_system lasts_so
-          (keeps_rules system after sound (subst (Fits system) (sym behind_is) fits_so))
+          (keeps_rules system after sound (subst (FitsRanges system) (sym behind_is) fits_so))
 
-      done_goes : HasRoom (command_record does ∷ []) life → StepsOn (flat_map spelling (command_record does ∷ [])) system after slots units next life
+      done_goes : HasRoom (command_record does ∷ []) life → LifeStepsOn (flat_map record_spelling (command_record does ∷ [])) system after slots units next life
       done_goes room =
           let is = steps.command_step does life c.is.is_life (may_command room) in
           record {
@@ -189,12 +189,12 @@ module _ (system : System) (valid : IsSystem system) (moment : Moment) (slots : 
     -- by its answer
     lasting_by : (does : LastingCommand) (answer : CommandAnswer) → command_step system moment command ≡ steps_by (Some does) answer → IsName (texts.name_in does)
         → ((a : Answer) → answer ≡ Ok a → IsDone system moment.lasting does) → HasRoom (told_by 0 moment.lasting (steps_by (Some does) answer)) life
-        → GoesBy (steps_by (Some does) answer) (flat_map spelling (told_by 0 moment.lasting (steps_by (Some does) answer))) system after slots units next life
+        → GoesBy (steps_by (Some does) answer) (flat_map record_spelling (told_by 0 moment.lasting (steps_by (Some does) answer))) system after slots units next life
     lasting_by does (Ok a) is named done room = done_goes does is named (done a refl) room
     lasting_by does (Err refused) is named done room = nothing is
 
     shown_by : (answer : CommandAnswer) → command_step system moment command ≡ steps_by None answer
-        → GoesBy (steps_by None answer) (flat_map spelling (told_by 0 moment.lasting (steps_by None answer))) system after slots units next life
+        → GoesBy (steps_by None answer) (flat_map record_spelling (told_by 0 moment.lasting (steps_by None answer))) system after slots units next life
     shown_by (Ok a) is = nothing is
     shown_by (Err refused) is = nothing is
 
@@ -202,7 +202,7 @@ module _ (system : System) (valid : IsSystem system) (moment : Moment) (slots : 
   pub command_goes : (command : Command) → IfSome (lasting_command command) (λ does. IsName (texts.name_in does))
       → list_all (has_right_pad system) (After system moment (CommandCall command) []).lasting.conversations ≡ true
       → HasRoom (told_by 0 moment.lasting (lasting_step system moment (CommandCall command))) life
-      → GoesBy (lasting_step system moment (CommandCall command)) (flat_map spelling (told_by 0 moment.lasting (lasting_step system moment (CommandCall command)))) system (After system moment (CommandCall command) []) slots units next life
+      → GoesBy (lasting_step system moment (CommandCall command)) (flat_map record_spelling (told_by 0 moment.lasting (lasting_step system moment (CommandCall command)))) system (After system moment (CommandCall command) []) slots units next life
   command_goes (StartTransaction code) named right room =
       lasting_by (StartTransaction code) right (lasts.StartTransaction code) (command_answer system moment (StartTransaction code)) refl named (λ a e. record { known = of_code_done code _ a e; none = tt }) room
   command_goes (StopTransaction code) named right room =
@@ -229,6 +229,6 @@ module _ (system : System) (valid : IsSystem system) (moment : Moment) (slots : 
   command_goes ColdStart named right room = shown_by ColdStart right (command_answer system moment ColdStart) refl
 
   -- A checkpoint as a call leaves what the life has; what it writes is `checkpoint_carried`.
-  pub checked_goes : (freeze : Bool) → list_all (has_right_pad system) (After system moment (CheckpointCall freeze) []).lasting.conversations ≡ true → GoesOn [] system (After system moment (CheckpointCall freeze) []) slots units next life
+  pub checked_goes : (freeze : Bool) → list_all (has_right_pad system) (After system moment (CheckpointCall freeze) []).lasting.conversations ≡ true → LifeGoesOn [] system (After system moment (CheckpointCall freeze) []) slots units next life
   checked_goes freeze right =
       same_goes system moment (After system moment (CheckpointCall freeze) []) slots units next life c refl refl refl (stays_sound system valid moment names c.sound (CheckpointCall freeze) [] refl right)

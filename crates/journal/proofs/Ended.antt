@@ -13,17 +13,17 @@ use Rattle.model_data.specs.Table.{EnqueueTable}
 use Rattle.seg_store.specs.Slots.{Stored}
 use Rattle.unit_work.specs.declared.change.Change.{Change}
 use Rattle.unit_work.specs.Changes.{is_seen}
-use Rattle.unit_work.specs.Images.{image_at, bytes_at, IsSlotOf}
-use Rattle.disk_law.specs.Committed.{Touch, Touches, without_touches, without_sync, synced}
+use Rattle.unit_work.specs.Images.{image_at, image_bytes_at, IsSlotOf}
+use Rattle.disk_law.specs.CommittedBytes.{Touch, Touches, without_touches, without_sync, synced}
 use Rattle.disk_law.specs.Life.{LifeOnDisk}
-use Rattle.disk_law.specs.Changes.{put_back, MarksBack}
+use Rattle.disk_law.specs.SlotChanges.{put_back, MarksBack}
 use Rattle.disk_law.proofs.Changing.{IsKnownSlot}
 use Rattle.disk_law.proofs.Recovering.{index_found}
 use Rattle.unit_work.specs.Marks.{is_marked}
-use Rattle.program_rows.specs.Open.{HoldsAlone}
-use Rattle.program_rows.specs.OnSlots.{SlotsState, HaveSlots, IsTouchedSlot, CommitsSo, GivesUpSo, touched_in, with_touched}
-use Rattle.journal.specs.Turning.{unit_of, with_unit}
-use Rattle.journal.specs.Carried.{resource_of, HoldTouched, IsTouchedBy, AreTouchedBy, MaySync, IsLifeOf}
+use Rattle.program_rows.specs.OpenUnits.{HoldsAlone}
+use Rattle.program_rows.specs.SlotsState.{SlotsState, HaveSlots, IsTouchedSlot, CommitsSo, GivesUpSo, touched_in, with_touched}
+use Rattle.journal.specs.UnitNumbers.{unit_of_region, with_unit}
+use Rattle.journal.specs.CarriedLife.{resource_of, HoldTouched, IsTouchedBy, AreTouchedBy, MaySync, IsLifeOf}
 use Rattle.journal.proofs.Holding.{one_holder}
 use Rattle.journal.proofs.Numbers.{same_or_apart, set_at, IsSetAt, set_else, index_else, index_here}
 use Rattle.journal.proofs.Places.{is_among, among_at, all_two, unseen, among_seen}
@@ -71,14 +71,14 @@ holds_slot table slots region holds least each d s among =
 module _ (system : System) (n : ℕ) (lasting : LastingState) (before : List (Option Slot)) (was table : EnqueueTable) (old : SlotsState) (units : List ℕ) (next : ℕ) (life : LifeOnDisk)
     (l : IsLifeOf system lasting before was old units next life) (have : HaveSlots system.databases n old) (holds : HoldTouched was old)
     (unit region : ℕ) (least : 1 ≤ region) (found : slice_get units (region - 1) ≡ Some unit) (some : 0 < unit) where
-  unit_is : unit_of units region ≡ unit
+  unit_is : unit_of_region units region ≡ unit
   unit_is = index_found units (region - 1) unit 0 found
 
   -- what the region keeps its unit touched
   keeps_touch : (d s : ℕ) → is_among d s (touched_in region old) ≡ true → IsSome (life.touches unit d s)
   keeps_touch d s among =
       subst (λ u. IsSome (life.touches u d s)) unit_is
-      (among_at (λ d s. IsSome (life.touches (unit_of units region) d s)) d s (touched_in region old) (l.touched.kept region least) among)
+      (among_at (λ d s. IsSome (life.touches (unit_of_region units region) d s)) d s (touched_in region old) (l.touched.kept region least) among)
 
   -- a slot that another region keeps isn't one of which this one holds what is committed
   kept_by_one : (other d s : ℕ) → 1 ≤ other → HoldsAlone was region (resource_of d (image_at d s old.committed)) → is_among d s (touched_in other old) ≡ true → other ≡ region
@@ -111,12 +111,12 @@ module _ (system : System) (n : ℕ) (lasting : LastingState) (before : List (Op
   pub stands_committed : (d s : ℕ) (t : Touch) → life.touches unit d s ≡ Some t → is_among d s (touched_in region old) ≡ false → image_at d s old.committed ≡ image_at d s old.stores
   stands_committed d s t is none = have.untouched d s (l.touched.each unit d s t is).there.least (kept_by_none d s (alone_in d s t is) none)
 
-  pub committed_so : (d s : ℕ) → IsKnownSlot system d s → life.committed d s ≡ bytes_at d s old.committed
+  pub committed_so : (d s : ℕ) → IsKnownSlot system d s → life.committed d s ≡ image_bytes_at d s old.committed
   committed_so d s known =
-      ap (λ k. life.committed k s) known.is ∙ l.committed known.place s known.dbd known.found known.below ∙ sym (ap (λ k. bytes_at k s old.committed) known.is)
+      ap (λ k. life.committed k s) known.is ∙ l.committed known.place s known.dbd known.found known.below ∙ sym (ap (λ k. image_bytes_at k s old.committed) known.is)
 
-  bytes_same : (d s : ℕ) (one other : List Stored) → image_at d s one ≡ image_at d s other → bytes_at d s one ≡ bytes_at d s other
-  bytes_same d s one other is = ap (λ (image : List Row). rows.spelling image) is
+  bytes_same : (d s : ℕ) (one other : List Stored) → image_at d s one ≡ image_at d s other → image_bytes_at d s one ≡ image_bytes_at d s other
+  bytes_same d s one other is = ap (λ (image : List Row). rows.rows_spelling image) is
 
   unkept : (d s : ℕ) → life.touches unit d s ≡ None → is_among d s (touched_in region old) ≡ false
   unkept d s none = by (is_among d s (touched_in region old)) refl where
@@ -137,13 +137,13 @@ module _ (system : System) (n : ℕ) (lasting : LastingState) (before : List (Op
     others_stand d s low none = up.others d s low (unseen d s (touched_in region old) none)
 
     -- the slots of the life are put back so
-    pub put_so : (d s : ℕ) → IsKnownSlot system d s → put_back unit life.touches life.present d s ≡ bytes_at d s new.stores
+    pub put_so : (d s : ℕ) → IsKnownSlot system d s → put_back unit life.touches life.present d s ≡ image_bytes_at d s new.stores
     put_so d s known = by (life.touches unit d s) refl where
       kept_or_not : (t : Touch) → life.touches unit d s ≡ Some t → (b : Bool) → is_among d s (touched_in region old) ≡ b → image_at d s old.committed ≡ image_at d s new.stores
       kept_or_not t is true e = sym (first_back d s e)
       kept_or_not t is false e = stands_committed d s t is e ∙ sym (others_stand d s (omega (arith, known.is)) e)
 
-      by : (o : Option Touch) → life.touches unit d s ≡ o → option_map_or (λ (t : Touch). t.first) o (life.present d s) ≡ bytes_at d s new.stores
+      by : (o : Option Touch) → life.touches unit d s ≡ o → option_map_or (λ (t : Touch). t.first) o (life.present d s) ≡ image_bytes_at d s new.stores
       by None none =
           stands_so system old life l.of_system l.stores d s known
           ∙ bytes_same d s old.stores new.stores (sym (others_stand d s (omega (arith, known.is)) (unkept d s none)))
@@ -179,13 +179,13 @@ module _ (system : System) (n : ℕ) (lasting : LastingState) (before : List (Op
     others_committed : (d s : ℕ) → 1 ≤ d → is_among d s (touched_in region old) ≡ false → image_at d s new.committed ≡ image_at d s old.committed
     others_committed d s low none = commits.others d s low (unseen d s (touched_in region old) none)
 
-    pub synced_so : (d s : ℕ) → IsKnownSlot system d s → synced unit life.touches life.committed d s ≡ bytes_at d s new.committed
+    pub synced_so : (d s : ℕ) → IsKnownSlot system d s → synced unit life.touches life.committed d s ≡ image_bytes_at d s new.committed
     synced_so d s known = by (life.touches unit d s) refl where
       kept_or_not : (t : Touch) → life.touches unit d s ≡ Some t → (b : Bool) → is_among d s (touched_in region old) ≡ b → image_at d s old.stores ≡ image_at d s new.committed
       kept_or_not t is true e = sym (among_at (λ d s. image_at d s new.committed ≡ image_at d s old.stores) d s (touched_in region old) commits.each e)
       kept_or_not t is false e = sym (stands_committed d s t is e) ∙ sym (others_committed d s (omega (arith, known.is)) e)
 
-      by : (o : Option Touch) → life.touches unit d s ≡ o → option_map_or (λ (t : Touch). t.present) o (life.committed d s) ≡ bytes_at d s new.committed
+      by : (o : Option Touch) → life.touches unit d s ≡ o → option_map_or (λ (t : Touch). t.present) o (life.committed d s) ≡ image_bytes_at d s new.committed
       by None none =
           committed_so d s known ∙ bytes_same d s old.committed new.committed (sym (others_committed d s (omega (arith, known.is)) (unkept d s none)))
       by (Some t) is =
@@ -231,26 +231,26 @@ module _ (system : System) (n : ℕ) (lasting : LastingState) (before : List (Op
         stays_touched one d s (not_it life.touches one d s t (one == unit) is) (l.touched.each one d s t (still life.touches unit one d s t (one == unit) is))
 
     -- the number of another region's unit is another one
-    other_number : (other : ℕ) → 1 ≤ other → (other ≡ region → ⊥) → unit_of units other == unit ≡ false
+    other_number : (other : ℕ) → 1 ≤ other → (other ≡ region → ⊥) → unit_of_region units other == unit ≡ false
     other_number other low apart =
-        ne_eqb (unit_of units other) unit (λ same.
+        ne_eqb (unit_of_region units other) unit (λ same.
         let found_there = get_of_index units (other - 1) unit same some in
         let one = l.numbers.apart (other - 1) (region - 1) unit found_there found some in apart (omega (arith, one, low, least)))
 
-    others_kept : (other : ℕ) → unit_of units other == unit ≡ false → (slots : List Change) → AllByRecursion (λ c. IsSome (life.touches (unit_of units other) c.db c.slot)) slots
-        → AllByRecursion (λ c. IsSome (without_touches unit life.touches (unit_of units other) c.db c.slot)) slots
+    others_kept : (other : ℕ) → unit_of_region units other == unit ≡ false → (slots : List Change) → AllByRecursion (λ c. IsSome (life.touches (unit_of_region units other) c.db c.slot)) slots
+        → AllByRecursion (λ c. IsSome (without_touches unit life.touches (unit_of_region units other) c.db c.slot)) slots
     others_kept other apart [] all = tt
     others_kept other apart (c ∷ slots) all =
-        (ap (λ b. is_some (if b then None else life.touches (unit_of units other) c.db c.slot)) apart ∙ all.0, others_kept other apart slots all.1)
+        (ap (λ b. is_some (if b then None else life.touches (unit_of_region units other) c.db c.slot)) apart ∙ all.0, others_kept other apart slots all.1)
 
-    units_kept : (other : ℕ) → 1 ≤ other → AllByRecursion (λ c. IsSome (without_touches unit life.touches (unit_of (with_unit region number units) other) c.db c.slot)) (touched_in other new)
+    units_kept : (other : ℕ) → 1 ≤ other → AllByRecursion (λ c. IsSome (without_touches unit life.touches (unit_of_region (with_unit region number units) other) c.db c.slot)) (touched_in other new)
     units_kept other low = by (same_or_apart other region) where
-      by : (other ≡ region) ⊎ (other ≡ region → ⊥) → AllByRecursion (λ c. IsSome (without_touches unit life.touches (unit_of (with_unit region number units) other) c.db c.slot)) (touched_in other new)
+      by : (other ≡ region) ⊎ (other ≡ region → ⊥) → AllByRecursion (λ c. IsSome (without_touches unit life.touches (unit_of_region (with_unit region number units) other) c.db c.slot)) (touched_in other new)
       by (inl same) =
-          subst (λ (slots : List Change). AllByRecursion (λ c. IsSome (without_touches unit life.touches (unit_of (with_unit region number units) other) c.db c.slot)) slots)
+          subst (λ (slots : List Change). AllByRecursion (λ c. IsSome (without_touches unit life.touches (unit_of_region (with_unit region number units) other) c.db c.slot)) slots)
           (sym (none_touched old new.touched region touched) ∙ ap (λ r. touched_in r new) (sym same)) tt
       by (inr apart) =
-          subst (λ (slots : List Change). AllByRecursion (λ c. IsSome (without_touches unit life.touches (unit_of (with_unit region number units) other) c.db c.slot)) slots)
+          subst (λ (slots : List Change). AllByRecursion (λ c. IsSome (without_touches unit life.touches (unit_of_region (with_unit region number units) other) c.db c.slot)) slots)
           (sym (touched_else old new.touched region other [] least low apart touched))
           (subst (λ u. AllByRecursion (λ c. IsSome (without_touches unit life.touches u c.db c.slot)) (touched_in other old))
           (sym (index_else units (region - 1) number (other - 1) 0 (λ e. apart (omega (arith, e, least, low)))))

@@ -14,39 +14,39 @@ use Rattle.model_messages.specs.declared.ended_message.EndedMessage.{EndedMessag
 use Rattle.model_data.specs.declared.row.Row.{Row}
 use Rattle.model_system.specs.System.{System}
 use Rattle.model_machine.specs.Machine.{LastingState, Moment, content, message_at, output_at}
-use Rattle.model_machine.specs.Lasting.{applied, finished_by, padded, with_pad_by, without_message}
-use Rattle.model_machine.specs.Lasting.LastingStep.{Completes, Discards}
+use Rattle.model_machine.specs.LastingSteps.{applied, finished_by, with_pad_changed, with_pad_by, without_message}
+use Rattle.model_machine.specs.LastingSteps.LastingStep.{Completes, Discards}
 use Rattle.model_image.specs.States.{breaks_a_rule, has_right_pad}
 use Rattle.log_records.specs.declared.record.Record.{Record}
-use Rattle.log_records.specs.Spelling.{spelling}
+use Rattle.log_records.specs.RecordSpelling.{record_spelling}
 use Rattle.seg_store.specs.Slots.{Stored, rows_of_slots}
-use Rattle.unit_work.specs.Images.{image_at, bytes_at, IsSlotOf}
-use Rattle.system_types.specs.Valid.{IsSystem}
-use Rattle.image_law.specs.Sound.{Fits}
-use Rattle.image_law.specs.Steps.{has_receiver}
-use Rattle.image_law.specs.Standing.{Stands}
+use Rattle.unit_work.specs.Images.{image_at, image_bytes_at, IsSlotOf}
+use Rattle.system_types.specs.ValidSystem.{IsSystem}
+use Rattle.image_law.specs.SoundState.{FitsRanges}
+use Rattle.image_law.specs.StepNeeds.{has_receiver}
+use Rattle.image_law.specs.StandingState.{StandsLasting}
 use Rattle.image_law.proofs.Lists.{all_imply}
-use Rattle.image_law.specs.Rooms.{StaysSound}
-use Rattle.image_law.specs.Sending.{is_sent_well, sent_bytes}
+use Rattle.image_law.specs.SoundMachine.{StaysSound}
+use Rattle.image_law.specs.SentMessages.{is_sent_well, sent_bytes}
 use Rattle.image_law.proofs.Pads.{Changes}
 use Rattle.image_law.proofs.Works.{origin_known}
 use Rattle.image_law.proofs.Steps.{HasTerminals, all_keep, pad_fits, receives, there_by}
-use Rattle.checkpointing.specs.Records.{IsOfSystem}
-use Rattle.image_law.specs.Counted.{IsCounted}
-use Rattle.model_image.specs.Records.{step_records}
-use Rattle.disk_law.specs.Committed.{synced}
+use Rattle.checkpointing.specs.SnapshotRecords.{IsOfSystem}
+use Rattle.image_law.specs.SegmentCounts.{AreSegmentsCounted}
+use Rattle.model_image.specs.StepRecords.{step_records}
+use Rattle.disk_law.specs.CommittedBytes.{synced}
 use Rattle.disk_law.specs.Life.{LifeOnDisk, SpellRows}
 use Rattle.disk_law.proofs.Changing.{IsKnownSlot}
-use Rattle.disk_law.specs.Steps.{StepOnDisk, after_step}
-use Rattle.disk_law.specs.Lasting.{MayComplete, MayDiscard, completing, discarding, unit_records}
+use Rattle.disk_law.specs.LifeSteps.{StepOnDisk, after_step}
+use Rattle.disk_law.specs.LastingSteps.{MayComplete, MayDiscard, completing, discarding, unit_records}
 use Rattle.disk_law.proofs.LastingSteps.{complete_step, discard_step}
-use Rattle.journal.specs.Counts.{AreUnspent}
+use Rattle.journal.specs.UnspentCounts.{AreUnspent}
 use Rattle.unit_work.specs.Marks.{is_marked}
-use Rattle.program_rows.specs.Open.{HoldsAlone}
-use Rattle.program_rows.specs.OnSlots.{SlotsState, HaveSlots, CommitsSo, GivesUpSo}
-use Rattle.journal.specs.Turning.{AreNumbered, with_unit}
-use Rattle.journal.specs.Carried.{resource_of, HoldTouched, IsCarriedBy}
-use Rattle.journal.specs.Going.{StepsOn}
+use Rattle.program_rows.specs.OpenUnits.{HoldsAlone}
+use Rattle.program_rows.specs.SlotsState.{SlotsState, HaveSlots, CommitsSo, GivesUpSo}
+use Rattle.journal.specs.UnitNumbers.{AreUnitsNumbered, with_unit}
+use Rattle.journal.specs.CarriedLife.{resource_of, HoldTouched, IsCarriedBy}
+use Rattle.journal.specs.LifeByCall.{LifeStepsOn}
 use Rattle.journal.proofs.Counting.{completes_fits, discards_fits}
 use Rattle.journal.proofs.Ended.{put_so, marks_back, synced_so, held_committed, units_then, syncs_then}
 use Rattle.journal.proofs.Inputs.{HasRoom, has_terminals, room_for, lasting_fits, keeps_rules, life_behind, unbroken_by}
@@ -59,12 +59,12 @@ module _ (system : System) (valid : IsSystem system) (n : ℕ) (moment after : M
     (have : HaveSlots system.databases n old) (had : HaveSlots system.databases n new) (one_sector : AllByRecursion (λ dbd. dbd.sectors ≤ 1) system.databases) (holds : HoldTouched moment.enqueues old)
     (unit region : ℕ) (least : 1 ≤ region) (found : slice_get units (region - 1) ≡ Some unit) (some : 0 < unit)
     (leave : (other d : ℕ) (image : List Row) → (other ≡ region → ⊥) → HoldsAlone moment.enqueues other (resource_of d image) → HoldsAlone after.enqueues other (resource_of d image))
-    (number later : ℕ) (fresh : (number ≡ 0) ⊎ (next ≤ number)) (low : number < later) (more : next ≤ later) (numbers : AreNumbered after.slots (with_unit region number units) later)
+    (number later : ℕ) (fresh : (number ≡ 0) ⊎ (next ≤ number)) (low : number < later) (more : next ≤ later) (numbers : AreUnitsNumbered after.slots (with_unit region number units) later)
     (id : ℕ) (message : Message) (at : message_at moment.lasting.messages id ≡ Some message) (its : message.id ≡ id) where
   names : HasTerminals system moment.lasting
   names = has_terminals system moment.lasting c.is.names
 
-  fits_now : Fits system moment.lasting
+  fits_now : FitsRanges system moment.lasting
   fits_now = lasting_fits system moment.lasting life c.is.of_system c.is.lasts c.is.is_life
 
   there : (d s : ℕ) → IsSlotOf old.stores d s → IsSlotOf new.stores d s
@@ -91,15 +91,15 @@ module _ (system : System) (valid : IsSystem system) (n : ℕ) (moment after : M
     right = subst (λ (l : LastingState). list_all (has_right_pad system) l.conversations ≡ true) behind_is sound.stands.pads
 
     -- the pads behind it
-    pads_are : behind.conversations ≡ padded pad message.origin moment.lasting.conversations
+    pads_are : behind.conversations ≡ with_pad_changed pad message.origin moment.lasting.conversations
     pads_are =
         ap (λ (o : Option Message). (finished_by o (λ _. outputs) (with_pad_by o (λ _. pad) (record moment.lasting { rows = lines }))).conversations) at
-        ∙ all_keep message.origin outputs (record moment.lasting { rows = lines; conversations = padded pad message.origin moment.lasting.conversations; messages = without_message moment.lasting.messages message.id })
+        ∙ all_keep message.origin outputs (record moment.lasting { rows = lines; conversations = with_pad_changed pad message.origin moment.lasting.conversations; messages = without_message moment.lasting.messages message.id })
 
     same_records : unit_records unit message outputs pad life ≡ step_records unit (Completes id lines outputs pad) moment.lasting
     same_records =
         (rw (c.is.lasts) refl)
-        ∙ sym (ap (λ (o : Option Message). Rattle.model_image.specs.Records.completed_by unit o outputs pad moment.lasting) at)
+        ∙ sym (ap (λ (o : Option Message). Rattle.model_image.specs.StepRecords.completed_by_step unit o outputs pad moment.lasting) at)
 
     spells : SpellRows life.system (synced unit life.touches life.committed) lines
     spells = record {
@@ -114,9 +114,9 @@ module _ (system : System) (valid : IsSystem system) (n : ℕ) (moment after : M
       are = rows_are;
     }
 
-    fits_so : Fits system behind
+    fits_so : FitsRanges system behind
     fits_so =
-        completes_fits system moment.lasting fits_now unspent id lines outputs pad bytes (subst (Stands system) behind_is sound.stands)
+        completes_fits system moment.lasting fits_now unspent id lines outputs pad bytes (subst (StandsLasting system) behind_is sound.stands)
         (subst (λ (l : LastingState). content l ≤ system.qbytes) behind_is has_room)
 
     may_complete : HasRoom (step_records unit (Completes id lines outputs pad) moment.lasting) life → MayComplete unit message outputs pad lines life
@@ -139,17 +139,17 @@ module _ (system : System) (valid : IsSystem system) (n : ℕ) (moment after : M
     unbroken : breaks_a_rule life.system (applied (Completes message.id lines outputs pad) life.lasting) ≡ false
     unbroken =
         unbroken_by life.system system (applied (Completes message.id lines outputs pad) life.lasting) after.lasting c.is.of_system lasts_so
-        (keeps_rules system after sound (subst (Fits system) (sym behind_is) fits_so))
+        (keeps_rules system after sound (subst (FitsRanges system) (sym behind_is) fits_so))
 
     -- The message is completed.
     pub complete_goes : HasRoom (step_records unit (Completes id lines outputs pad) moment.lasting) life
-        → StepsOn (flat_map spelling (step_records unit (Completes id lines outputs pad) moment.lasting)) system after new (with_unit region number units) later life
+        → LifeStepsOn (flat_map record_spelling (step_records unit (Completes id lines outputs pad) moment.lasting)) system after new (with_unit region number units) later life
     complete_goes room =
         let step : StepOnDisk = completing unit message outputs pad lines life in
         let is = complete_step unit message outputs pad lines life c.is.is_life (may_complete room) in
         record {
           step = step;
-          spelled = ap (λ (rs : List Record). flat_map spelling rs) (sym same_records);
+          spelled = ap (λ (rs : List Record). flat_map record_spelling rs) (sym same_records);
           is_step = is;
           lasts = lasts_so;
           is = record {
@@ -157,12 +157,12 @@ module _ (system : System) (valid : IsSystem system) (n : ℕ) (moment after : M
               of_system = c.is.of_system;
               lasts = lasts_so;
               names = subst (λ (l : LastingState). IsOfSystem system l) (sym behind_is) (of_system_behind system (Completes id lines outputs pad) moment.lasting c.is.names);
-              counted = subst (λ (l : LastingState). IsCounted l) lasts_so (step_counted life step is (subst (λ (l : LastingState). IsCounted l) (sym c.is.lasts) c.is.counted));
+              counted = subst (λ (l : LastingState). AreSegmentsCounted l) lasts_so (step_counted life step is (subst (λ (l : LastingState). AreSegmentsCounted l) (sym c.is.lasts) c.is.counted));
               is_life = life_behind life c.is.is_life step is unbroken;
               stores = has_stores system n new had one_sector (after_step step life) c.is.of_system
                   (λ place number dbd found_there below.
                   stands_so system old life c.is.of_system c.is.stores (place + 1) number (known_there place number dbd found_there below)
-                  ∙ ap (λ (stores : List Stored). bytes_at (place + 1) number stores) (sym commits.stores))
+                  ∙ ap (λ (stores : List Stored). image_bytes_at (place + 1) number stores) (sym commits.stores))
                   (λ place number dbd found_there below.
                   marked_so system old life c.is.of_system c.is.stores (place + 1) number (known_there place number dbd found_there below)
                   ∙ ap (λ (changed : List (List ℕ)). is_marked changed (place + 1) number) (sym commits.changed));
@@ -191,7 +191,7 @@ module _ (system : System) (valid : IsSystem system) (n : ℕ) (moment after : M
         ≡ step_records unit (Discards id abend) moment.lasting
     same_discard =
         (rw (c.is.lasts) refl)
-        ∙ sym (ap (λ (o : Option Message). Rattle.model_image.specs.Records.discarded_by unit o abend moment.lasting) at)
+        ∙ sym (ap (λ (o : Option Message). Rattle.model_image.specs.StepRecords.discarded_by unit o abend moment.lasting) at)
 
     origin_there : is_some (output_at moment.lasting.outputs message.origin) ≡ true
     origin_there =
@@ -199,9 +199,9 @@ module _ (system : System) (valid : IsSystem system) (n : ℕ) (moment after : M
         ∙ ap (λ (ns : List (List ℕ)). list_any (λ other. bytes_eq other message.origin) ns) names.outputs
         ∙ origin_known system valid moment.lasting c.sound.stands id message at
 
-    discard_fits_so : Fits system (applied (Discards id abend) moment.lasting)
+    discard_fits_so : FitsRanges system (applied (Discards id abend) moment.lasting)
     discard_fits_so =
-        discards_fits system moment.lasting fits_now unspent id abend (subst (Stands system) behind_is sound.stands)
+        discards_fits system moment.lasting fits_now unspent id abend (subst (StandsLasting system) behind_is sound.stands)
         (subst (λ (l : LastingState). content l ≤ system.qbytes) behind_is has_room)
 
     may_discard : HasRoom (step_records unit (Discards id abend) moment.lasting) life → MayDiscard unit message abend marks life
@@ -222,17 +222,17 @@ module _ (system : System) (valid : IsSystem system) (n : ℕ) (moment after : M
     discard_unbroken : breaks_a_rule life.system (applied (Discards message.id abend) life.lasting) ≡ false
     discard_unbroken =
         unbroken_by life.system system (applied (Discards message.id abend) life.lasting) after.lasting c.is.of_system discard_lasts
-        (keeps_rules system after sound (subst (Fits system) (sym behind_is) discard_fits_so))
+        (keeps_rules system after sound (subst (FitsRanges system) (sym behind_is) discard_fits_so))
 
     -- The message is discarded.
     pub discard_goes : HasRoom (step_records unit (Discards id abend) moment.lasting) life
-        → StepsOn (flat_map spelling (step_records unit (Discards id abend) moment.lasting)) system after new (with_unit region number units) later life
+        → LifeStepsOn (flat_map record_spelling (step_records unit (Discards id abend) moment.lasting)) system after new (with_unit region number units) later life
     discard_goes room =
         let step : StepOnDisk = discarding unit message abend marks life in
         let is = discard_step unit message abend marks life c.is.is_life (may_discard room) in
         record {
           step = step;
-          spelled = ap (λ (rs : List Record). flat_map spelling rs) (sym same_discard);
+          spelled = ap (λ (rs : List Record). flat_map record_spelling rs) (sym same_discard);
           is_step = is;
           lasts = discard_lasts;
           is = record {
@@ -240,7 +240,7 @@ module _ (system : System) (valid : IsSystem system) (n : ℕ) (moment after : M
               of_system = c.is.of_system;
               lasts = discard_lasts;
               names = subst (λ (l : LastingState). IsOfSystem system l) (sym behind_is) (of_system_behind system (Discards id abend) moment.lasting c.is.names);
-              counted = subst (λ (l : LastingState). IsCounted l) discard_lasts (step_counted life step is (subst (λ (l : LastingState). IsCounted l) (sym c.is.lasts) c.is.counted));
+              counted = subst (λ (l : LastingState). AreSegmentsCounted l) discard_lasts (step_counted life step is (subst (λ (l : LastingState). AreSegmentsCounted l) (sym c.is.lasts) c.is.counted));
               is_life = life_behind life c.is.is_life step is discard_unbroken;
               stores = has_stores system n new had one_sector (after_step step life) c.is.of_system
                   (λ place number dbd found_there below.
@@ -248,7 +248,7 @@ module _ (system : System) (valid : IsSystem system) (n : ℕ) (moment after : M
                   (known_there place number dbd found_there below))
                   (λ place number dbd found_there below. refl);
               committed = λ place number dbd found_there below.
-                  c.is.committed place number dbd found_there below ∙ ap (λ (stores : List Stored). bytes_at (place + 1) number stores) (sym up.committed);
+                  c.is.committed place number dbd found_there below ∙ ap (λ (stores : List Stored). image_bytes_at (place + 1) number stores) (sym up.committed);
               numbers = numbers;
               touched = units_then system n moment.lasting moment.slots moment.enqueues after.enqueues old units next life c.is have holds unit region least found some new there up.touched leave committed_stays number later fresh low more;
               syncs = syncs_then system n moment.lasting moment.slots moment.enqueues after.enqueues old units next life c.is have holds unit region least found some new there up.touched leave committed_stays number later fresh low more;

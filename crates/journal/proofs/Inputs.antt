@@ -21,61 +21,61 @@ use Rattle.model_machine.specs.declared.entry.Acked.TheVariants.{Removed, Alread
 use Rattle.model_machine.specs.declared.entry.AckRefused.{AckRefused}
 use Rattle.model_machine.specs.declared.entry.AckRefused.TheVariants.{Ahead}
 use Rattle.model_machine.specs.Machine.{LastingState, Moment, content, terminal_at, output_at}
-use Rattle.model_machine.specs.Lasting.{KeptInput, LastingStep, applied, kept_input}
-use Rattle.model_machine.specs.Lasting.LastingStep.{Accepts, Acknowledges}
-use Rattle.model_machine.specs.Steps.{After, Refusal, accepts, ack_answer, ack_by, acknowledges, by_number, input_answer, lasting_step, unknown_code, unknown_terminal, wrong_number}
-use Rattle.model_image.specs.States.{breaks_a_rule, has_right_pad, is_code, is_small, is_terminal}
+use Rattle.model_machine.specs.LastingSteps.{KeptInput, LastingStep, applied, kept_input}
+use Rattle.model_machine.specs.LastingSteps.LastingStep.{Accepts, Acknowledges}
+use Rattle.model_machine.specs.MachineCalls.{After, Refusal, accepted_step, ack_answer, ack_by, acknowledged_step, by_number, input_answer, lasting_step, unknown_code, unknown_terminal, wrong_number}
+use Rattle.model_image.specs.States.{breaks_a_rule, has_right_pad, is_system_code, is_small, is_system_terminal}
 use Rattle.log_records.specs.declared.record.Record.{Record}
 use Rattle.log_records.specs.declared.record.Record.TheVariants.{Acknowledged}
-use Rattle.log_records.specs.Spelling.{spelling, IsRecord}
+use Rattle.log_records.specs.RecordSpelling.{record_spelling, IsLogRecord}
 use Rattle.log_records.proofs.Takes.{IsBytes}
-use Rattle.log_writer.specs.Log.{sectors_of}
-use Rattle.system_types.specs.Valid.{IsSystem}
-use Rattle.image_law.specs.Sound.{Fits}
+use Rattle.log_writer.specs.ForcedLog.{log_sectors_of}
+use Rattle.system_types.specs.ValidSystem.{IsSystem}
+use Rattle.image_law.specs.SoundState.{FitsRanges}
 use Rattle.image_law.proofs.Kept.{sound_where}
-use Rattle.image_law.specs.Standing.{Stands}
+use Rattle.image_law.specs.StandingState.{StandsLasting}
 use Rattle.image_law.proofs.SoundLaws.{breaks_none, is_sound}
-use Rattle.image_law.specs.Rooms.{StaysSound}
+use Rattle.image_law.specs.SoundMachine.{StaysSound}
 use Rattle.image_law.proofs.Refused.{IsNew, is_new}
 use Rattle.image_law.proofs.Steps.{HasTerminals, pads_of_codes, there_by, is_free, input_known, stays_sound}
-use Rattle.checkpointing.specs.Records.{IsOfSystem}
-use Rattle.image_law.specs.Counted.{IsCounted}
-use Rattle.model_image.specs.Records as told
-use Rattle.disk_law.specs.Life.{LifeOnDisk, IsLife}
-use Rattle.disk_law.specs.Steps.{HasRoomFor, IsStep, StepOnDisk, after_step}
-use Rattle.disk_law.specs.Lasting.{MayAccept, MayAcknowledge, accepting, acknowledging, input_record, input_of}
+use Rattle.checkpointing.specs.SnapshotRecords.{IsOfSystem}
+use Rattle.image_law.specs.SegmentCounts.{AreSegmentsCounted}
+use Rattle.model_image.specs.StepRecords as told
+use Rattle.disk_law.specs.Life.{LifeOnDisk, IsLifeOnDisk}
+use Rattle.disk_law.specs.LifeSteps.{HasRoomForRecords, IsStep, StepOnDisk, after_step}
+use Rattle.disk_law.specs.LastingSteps.{MayAccept, MayAcknowledge, accepting, acknowledging, life_input_record, input_of}
 use Rattle.disk_law.proofs.LastingSteps.{accept_step, acknowledge_step}
-use Rattle.journal.specs.Counts.{AreUnspent}
-use Rattle.program_rows.specs.OnSlots.{SlotsState}
-use Rattle.journal.specs.Carried.{IsCarriedBy}
-use Rattle.journal.specs.Going.{StepsOn}
+use Rattle.journal.specs.UnspentCounts.{AreUnspent}
+use Rattle.program_rows.specs.SlotsState.{SlotsState}
+use Rattle.journal.specs.CarriedLife.{IsCarriedBy}
+use Rattle.journal.specs.LifeByCall.{LifeStepsOn}
 use Rattle.journal.proofs.Counting.{accepts_fits, acknowledges_fits}
 use Rattle.journal.proofs.Names.{of_system_behind, step_counted}
 
 -- these records have room in a life's log
 pub record HasRoom (records : List Record) (life : LifeOnDisk) : Type 0 where
-  pub valid : AllByRecursion IsRecord records
-  pub fits : life.log.place + sectors_of (length (life.log.appended ++ flat_map spelling records)) ≤ life.log.count
-  pub bytes : IsBytes (flat_map spelling records)
+  pub valid : AllByRecursion IsLogRecord records
+  pub fits : life.log.place + log_sectors_of (length (life.log.appended ++ flat_map record_spelling records)) ≤ life.log.count
+  pub bytes : IsBytes (flat_map record_spelling records)
 
-pub room_for : (some records : List Record) (life : LifeOnDisk) → some ≡ records → HasRoom records life → HasRoomFor life some
+pub room_for : (some records : List Record) (life : LifeOnDisk) → some ≡ records → HasRoom records life → HasRoomForRecords life some
 room_for some records life same room =
-    subst (λ (rs : List Record). HasRoomFor life rs) (sym same) (record { fits = room.fits; valid = room.valid; bytes = room.bytes })
+    subst (λ (rs : List Record). HasRoomForRecords life rs) (sym same) (record { fits = room.fits; valid = room.valid; bytes = room.bytes })
 
 -- what lasts of a life fits
-pub lasting_fits : (system : System) (lasting : LastingState) (life : LifeOnDisk) → life.system ≡ system → life.lasting ≡ lasting → IsLife life → Fits system lasting
+pub lasting_fits : (system : System) (lasting : LastingState) (life : LifeOnDisk) → life.system ≡ system → life.lasting ≡ lasting → IsLifeOnDisk life → FitsRanges system lasting
 lasting_fits system lasting life same lasts l =
-    subst (λ (x : LastingState). Fits system x) lasts (subst (λ (y : System). Fits y life.lasting) same (is_sound life.system life.lasting l.sound).fits)
+    subst (λ (x : LastingState). FitsRanges system x) lasts (subst (λ (y : System). FitsRanges y life.lasting) same (is_sound life.system life.lasting l.sound).fits)
 
 -- what lasts of a machine that is sound, and fits, breaks no rule
-pub keeps_rules : (system : System) (after : Moment) → StaysSound system after → Fits system after.lasting → breaks_a_rule system after.lasting ≡ false
+pub keeps_rules : (system : System) (after : Moment) → StaysSound system after → FitsRanges system after.lasting → breaks_a_rule system after.lasting ≡ false
 keeps_rules system after sound fits = breaks_none system after.lasting (sound_where system after.lasting sound.stands fits)
 
 pub unbroken_by : (y system : System) (a b : LastingState) → y ≡ system → a ≡ b → breaks_a_rule system b ≡ false → breaks_a_rule y a ≡ false
 unbroken_by y system a b e f h = ap (λ (z : System). breaks_a_rule z a) e ∙ ap (λ (l : LastingState). breaks_a_rule system l) f ∙ h
 
 -- a life behind a step that leaves a state that breaks no rule
-pub life_behind : (life : LifeOnDisk) → IsLife life → (step : StepOnDisk) → IsStep life step → breaks_a_rule life.system step.lasting ≡ false → IsLife (after_step step life)
+pub life_behind : (life : LifeOnDisk) → IsLifeOnDisk life → (step : StepOnDisk) → IsStep life step → breaks_a_rule life.system step.lasting ≡ false → IsLifeOnDisk (after_step step life)
 life_behind life l step s unbroken = record {
   in_range = l.in_range;
   few = l.few;
@@ -115,7 +115,7 @@ next_of_terminal lasting terminal number known right = by (terminal_at lasting.t
   by None e k r = absurd cc
   by (Some t) e k r = record { state = t; found = e; next = next_by t.last number (nat_le number t.last) (nat_lt (t.last + 1) number) refl refl r }
 
-code_is : (system : System) (word : List ℕ) → unknown_code system.codes word ≡ None → is_code system word ≡ true
+code_is : (system : System) (word : List ℕ) → unknown_code system.codes word ≡ None → is_system_code system word ≡ true
 code_is system word known = by (code_at system.codes word) known where
   none : Refusal
   none = None
@@ -136,12 +136,12 @@ module _ (system : System) (valid : IsSystem system) (moment : Moment) (slots : 
   names : HasTerminals system moment.lasting
   names = has_terminals system moment.lasting c.is.names
 
-  pub fits_now : Fits system moment.lasting
+  pub fits_now : FitsRanges system moment.lasting
   fits_now = lasting_fits system moment.lasting life c.is.of_system c.is.lasts c.is.is_life
 
-  pub counted_then : (step : StepOnDisk) → IsStep life step → (after : LastingState) → step.lasting ≡ after → IsCounted after
+  pub counted_then : (step : StepOnDisk) → IsStep life step → (after : LastingState) → step.lasting ≡ after → AreSegmentsCounted after
   counted_then step s after same =
-      subst (λ (l : LastingState). IsCounted l) same (step_counted life step s (subst (λ (l : LastingState). IsCounted l) (sym c.is.lasts) c.is.counted))
+      subst (λ (l : LastingState). AreSegmentsCounted l) same (step_counted life step s (subst (λ (l : LastingState). AreSegmentsCounted l) (sym c.is.lasts) c.is.counted))
 
   module _ (terminal : List ℕ) (number : ℕ) (segments : List (List ℕ)) (id : ℕ) (answer : input_answer system moment terminal number segments ≡ Ok (New id)) (small : is_small number ≡ true)
       (right : list_all (has_right_pad system) (After system moment (Input terminal number segments) []).lasting.conversations ≡ true) where
@@ -155,7 +155,7 @@ module _ (system : System) (valid : IsSystem system) (moment : Moment) (slots : 
     behind = applied (Accepts terminal number kept) moment.lasting
 
     step_is : lasting_step system moment (Input terminal number segments) ≡ Some (Accepts terminal number kept)
-    step_is = ap (accepts terminal number kept) answer
+    step_is = ap (accepted_step terminal number kept) answer
 
     behind_is : after.lasting ≡ behind
     behind_is = ap (λ (o : Option LastingStep). option_map_or (λ s. applied s moment.lasting) o moment.lasting) step_is
@@ -163,8 +163,8 @@ module _ (system : System) (valid : IsSystem system) (moment : Moment) (slots : 
     sound : StaysSound system after
     sound = stays_sound system valid moment names c.sound (Input terminal number segments) [] refl right
 
-    stands : Stands system behind
-    stands = subst (Stands system) behind_is sound.stands
+    stands : StandsLasting system behind
+    stands = subst (StandsLasting system) behind_is sound.stands
 
     has_room : content behind ≤ system.qbytes
     has_room = subst (λ (l : LastingState). content l ≤ system.qbytes) behind_is (omega (arith, sound.room))
@@ -172,16 +172,16 @@ module _ (system : System) (valid : IsSystem system) (moment : Moment) (slots : 
     new : IsNew system moment terminal number segments
     new = is_new system moment terminal number segments (Accepts terminal number kept) step_is
 
-    known : is_terminal system terminal ≡ true
+    known : is_system_terminal system terminal ≡ true
     known = input_known system valid moment names c.sound terminal number segments new
 
     abbrev told_now : Record
     told_now = told.input_record terminal number kept moment.lasting
 
-    record_is : input_record terminal number segments life ≡ told_now
+    record_is : life_input_record terminal number segments life ≡ told_now
     record_is = rw (c.is.of_system, c.is.lasts) refl
 
-    fits_so : Fits system behind
+    fits_so : FitsRanges system behind
     fits_so = accepts_fits system moment.lasting fits_now unspent terminal number kept small stands has_room
 
     may_accept : HasRoom (told_now ∷ []) life → MayAccept terminal number segments life
@@ -196,16 +196,16 @@ module _ (system : System) (valid : IsSystem system) (moment : Moment) (slots : 
           free = rw (c.is.lasts) (is_free system valid moment names c.sound terminal number segments known new);
           to_code = rw (c.is.of_system, c.is.lasts) (code_is system kept.code new.code_known);
           fits = rw (c.is.of_system, c.is.lasts) fits_so;
-          room = room_for (input_record terminal number segments life ∷ []) (told_now ∷ []) life (ap (λ (r : Record). r ∷ []) record_is) room;
+          room = room_for (life_input_record terminal number segments life ∷ []) (told_now ∷ []) life (ap (λ (r : Record). r ∷ []) record_is) room;
         }
 
     -- The input is accepted.
-    pub accept_goes : HasRoom (told_now ∷ []) life → StepsOn (flat_map spelling (told_now ∷ [])) system after slots units next life
+    pub accept_goes : HasRoom (told_now ∷ []) life → LifeStepsOn (flat_map record_spelling (told_now ∷ [])) system after slots units next life
     accept_goes room =
         let is = accept_step terminal number segments life c.is.is_life (may_accept room) in
         record {
           step = accepting terminal number segments life;
-          spelled = ap (λ (r : Record). flat_map spelling (r ∷ [])) (sym record_is);
+          spelled = ap (λ (r : Record). flat_map record_spelling (r ∷ [])) (sym record_is);
           is_step = is;
           lasts = lasts_so;
           is = record {
@@ -230,7 +230,7 @@ module _ (system : System) (valid : IsSystem system) (moment : Moment) (slots : 
           unbroken : breaks_a_rule life.system (applied (Accepts terminal number (input_of terminal segments life)) life.lasting) ≡ false
           unbroken =
               unbroken_by life.system system (applied (Accepts terminal number (input_of terminal segments life)) life.lasting) after.lasting c.is.of_system lasts_so
-              (keeps_rules system after sound (subst (Fits system) (sym behind_is) fits_so))
+              (keeps_rules system after sound (subst (FitsRanges system) (sym behind_is) fits_so))
 
   -- ---- an acknowledgement
 
@@ -243,7 +243,7 @@ module _ (system : System) (valid : IsSystem system) (moment : Moment) (slots : 
     without = applied (Acknowledges terminal) moment.lasting
 
     ack_behind : after_ack.lasting ≡ without
-    ack_behind = ap (λ (o : Option LastingStep). option_map_or (λ s. applied s moment.lasting) o moment.lasting) (ap (acknowledges terminal) answer)
+    ack_behind = ap (λ (o : Option LastingStep). option_map_or (λ s. applied s moment.lasting) o moment.lasting) (ap (acknowledged_step terminal) answer)
 
     ack_sound : StaysSound system after_ack
     ack_sound = stays_sound system valid moment names c.sound (Acknowledge terminal number) [] refl right
@@ -287,19 +287,19 @@ module _ (system : System) (valid : IsSystem system) (moment : Moment) (slots : 
     some_output None output e = absurd cc
     some_output (Some x) output e = refl
 
-    terminal_is : is_terminal system terminal ≡ true
+    terminal_is : is_system_terminal system terminal ≡ true
     terminal_is =
         sym (ap (λ (ns : List (List ℕ)). list_any (λ other. bytes_eq other terminal) ns) names.outputs)
         ∙ sym (there_by (λ (t : TerminalReplies). t.terminal) moment.lasting.outputs terminal)
         ∙ some_output (output_at moment.lasting.outputs terminal) first_is.output first_is.found
 
-    ack_stands : Stands system without
-    ack_stands = subst (Stands system) ack_behind ack_sound.stands
+    ack_stands : StandsLasting system without
+    ack_stands = subst (StandsLasting system) ack_behind ack_sound.stands
 
     ack_room : content without ≤ system.qbytes
     ack_room = subst (λ (l : LastingState). content l ≤ system.qbytes) ack_behind (omega (arith, ack_sound.room))
 
-    ack_fits_so : Fits system without
+    ack_fits_so : FitsRanges system without
     ack_fits_so = acknowledges_fits system moment.lasting fits_now unspent terminal ack_stands ack_room
 
     may_acknowledge : HasRoom (ack_record ∷ []) life → MayAcknowledge terminal number life
@@ -313,12 +313,12 @@ module _ (system : System) (valid : IsSystem system) (moment : Moment) (slots : 
     }
 
     -- The reply is acknowledged.
-    pub acknowledge_goes : HasRoom (ack_record ∷ []) life → StepsOn (flat_map spelling (ack_record ∷ [])) system after_ack slots units next life
+    pub acknowledge_goes : HasRoom (ack_record ∷ []) life → LifeStepsOn (flat_map record_spelling (ack_record ∷ [])) system after_ack slots units next life
     acknowledge_goes room =
         let is = acknowledge_step terminal number life c.is.is_life (may_acknowledge room) in
         record {
           step = acknowledging terminal number life;
-          spelled = ap (λ (r : Record). flat_map spelling (r ∷ [])) (sym ack_record_is);
+          spelled = ap (λ (r : Record). flat_map record_spelling (r ∷ [])) (sym ack_record_is);
           is_step = is;
           lasts = lasts_so;
           is = record {
@@ -343,4 +343,4 @@ module _ (system : System) (valid : IsSystem system) (moment : Moment) (slots : 
           unbroken : breaks_a_rule life.system (applied (Acknowledges terminal) life.lasting) ≡ false
           unbroken =
               unbroken_by life.system system (applied (Acknowledges terminal) life.lasting) after_ack.lasting c.is.of_system lasts_so
-              (keeps_rules system after_ack ack_sound (subst (Fits system) (sym ack_behind) ack_fits_so))
+              (keeps_rules system after_ack ack_sound (subst (FitsRanges system) (sym ack_behind) ack_fits_so))

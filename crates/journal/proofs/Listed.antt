@@ -7,11 +7,11 @@ use Rattle.unit_work.specs.declared.change.Change.{Change}
 use Rattle.model_machine.specs.Machine.{Slot}
 use Rattle.checkpointing.specs.declared.touches.OpenUnit.{OpenUnit}
 use Rattle.checkpointing.specs.Touches.{UnitsAscend}
-use Rattle.disk_law.specs.Units.{IsOpen, unit_kept}
-use Rattle.journal.specs.Units.{Numbered, numbered, insert_unit, units_open}
-use Rattle.program_rows.specs.OnSlots.{SlotsState, touched_in}
-use Rattle.journal.specs.Turning.{AreNumbered}
-use Rattle.journal.specs.Opens.{AreUnitsOf, IsUnitOf}
+use Rattle.disk_law.specs.KeptUnits.{IsUnitOpen, unit_kept}
+use Rattle.journal.specs.NumberedUnits.{Numbered, numbered_unit, insert_unit, units_open}
+use Rattle.program_rows.specs.SlotsState.{SlotsState, touched_in}
+use Rattle.journal.specs.UnitNumbers.{AreUnitsNumbered}
+use Rattle.journal.specs.OpenUnits.{AreUnitsOf, IsUnitOf}
 
 -- ---- a unit among others
 
@@ -127,19 +127,19 @@ all_among (other ∷ units) (some ∷ touched) same place unit found least =
 
 -- ---- as a checkpoint takes them
 
-opens_all : (P : Numbered → Type 0) (opens : List OpenUnit) → AllByRecursion P (map numbered opens) → AllByRecursion (λ u. P (numbered u)) opens
+opens_all : (P : Numbered → Type 0) (opens : List OpenUnit) → AllByRecursion P (map numbered_unit opens) → AllByRecursion (λ u. P (numbered_unit u)) opens
 opens_all P [] all = all
 opens_all P (u ∷ opens) all = (all.0, opens_all P opens all.1)
 
-opens_ascend : (opens : List OpenUnit) → Ascends (map numbered opens) → UnitsAscend opens
+opens_ascend : (opens : List OpenUnit) → Ascends (map numbered_unit opens) → UnitsAscend opens
 opens_ascend [] up = up
 opens_ascend (u ∷ opens) up = (opens_all (λ (v : Numbered). u.number < v.0) opens up.0, opens_ascend opens up.1)
 
-is_open_in : (opens : List OpenUnit) (number place : ℕ) (unit : Numbered) → slice_get (map numbered opens) place ≡ Some unit → unit.0 ≡ number → IsOpen (map unit_kept opens) number
+is_open_in : (opens : List OpenUnit) (number place : ℕ) (unit : Numbered) → slice_get (map numbered_unit opens) place ≡ Some unit → unit.0 ≡ number → IsUnitOpen (map unit_kept opens) number
 is_open_in [] number place unit found is = absurd cc
 is_open_in (u ∷ opens) number zero unit found is =
-    record { place = 0; unit = unit_kept u; found = refl; is = (let e : Some (numbered u) ≡ Some unit = found in first e) ∙ is } where
-      first : Some (numbered u) ≡ Some unit → u.number ≡ unit.0
+    record { place = 0; unit = unit_kept u; found = refl; is = (let e : Some (numbered_unit u) ≡ Some unit = found in first e) ∙ is } where
+      first : Some (numbered_unit u) ≡ Some unit → u.number ≡ unit.0
       first e = ap (λ (o : Rattle.std.specs.Prelude.Option Numbered). Rattle.std.specs.Option.option_map_or (λ (n : Numbered). n.0) o 0) e
 is_open_in (u ∷ opens) number (suc place) unit found is =
     let more = is_open_in opens number place unit found is in
@@ -153,22 +153,22 @@ record IsRegions (slots : SlotsState) (units : List ℕ) (unit : ℕ) (some : Li
   is : some ≡ touched_in (suc place) slots
 
 -- Where each region's touched slots stand at its place, they are those of the regions.
-pub units_listed : (slots : SlotsState) (regions : List (Rattle.std.specs.Prelude.Option Slot)) (units : List ℕ) (next : ℕ) → AreNumbered regions units next → (touched : List (List Change)) → length touched ≡ length units
+pub units_listed : (slots : SlotsState) (regions : List (Rattle.std.specs.Prelude.Option Slot)) (units : List ℕ) (next : ℕ) → AreUnitsNumbered regions units next → (touched : List (List Change)) → length touched ≡ length units
     → ((place : ℕ) (some : List Change) → slice_get touched place ≡ Some some → some ≡ touched_in (suc place) slots)
-    → (opens : List OpenUnit) → map numbered opens ≡ units_open units touched → AreUnitsOf slots units opens
+    → (opens : List OpenUnit) → map numbered_unit opens ≡ units_open units touched → AreUnitsOf slots units opens
 units_listed slots regions units next n touched same keeps opens are = record { each = each_open opens good; all = all_open; ascending = opens_ascend opens (subst Ascends (sym are) (units_ascend units touched n.apart)) } where
-  good : AllByRecursion (λ (v : Numbered). IsRegions slots units v.0 v.1) (map numbered opens)
+  good : AllByRecursion (λ (v : Numbered). IsRegions slots units v.0 v.1) (map numbered_unit opens)
   good = subst (λ (l : List Numbered). AllByRecursion (λ (v : Numbered). IsRegions slots units v.0 v.1) l) (sym are)
       (each_good (IsRegions slots units) units touched (λ place unit some found there least. record { place = place; found = found; least = least; is = keeps place some there }))
 
   back : (place : ℕ) → suc place - 1 ≡ place
   back place = omega arith
 
-  each_open : (opens : List OpenUnit) → AllByRecursion (λ (v : Numbered). IsRegions slots units v.0 v.1) (map numbered opens) → AllByRecursion (IsUnitOf slots units) opens
+  each_open : (opens : List OpenUnit) → AllByRecursion (λ (v : Numbered). IsRegions slots units v.0 v.1) (map numbered_unit opens) → AllByRecursion (IsUnitOf slots units) opens
   each_open [] all = all
   each_open (u ∷ opens) all = (record { region = suc all.0.place; least = omega arith; found = ap (λ k. slice_get units k) (back all.0.place) ∙ all.0.found; some = all.0.least; keeps = all.0.is }, each_open opens all.1)
 
-  all_open : (place unit : ℕ) → slice_get units place ≡ Some unit → 0 < unit → IsOpen (map unit_kept opens) unit
+  all_open : (place unit : ℕ) → slice_get units place ≡ Some unit → 0 < unit → IsUnitOpen (map unit_kept opens) unit
   all_open place unit found least =
       let a = subst (λ (l : List Numbered). IsAmong unit l) (sym are) (all_among units touched same place unit found least) in
       is_open_in opens unit a.place a.unit a.found a.is
@@ -190,10 +190,10 @@ few_open (unit ∷ units) (some ∷ touched) = by (nat_lt 0 unit) (few_open unit
   by true later = omega (arith, length_inserted (unit, some) (units_open units touched), later)
   by false later = omega (arith, later)
 
-same_many : (opens : List OpenUnit) → length (map numbered opens) ≡ length opens
+same_many : (opens : List OpenUnit) → length (map numbered_unit opens) ≡ length opens
 same_many [] = refl
 same_many (u ∷ opens) = ap (λ n. suc n) (same_many opens)
 
 -- No more units are open than there are regions.
-pub few_listed : (units : List ℕ) (touched : List (List Change)) (opens : List OpenUnit) → map numbered opens ≡ units_open units touched → length opens ≤ length touched
+pub few_listed : (units : List ℕ) (touched : List (List Change)) (opens : List OpenUnit) → map numbered_unit opens ≡ units_open units touched → length opens ≤ length touched
 few_listed units touched opens are = omega (arith, same_many opens, ap (λ (l : List Numbered). length l) are, few_open units touched)

@@ -13,49 +13,50 @@ use Rattle.tm_disk.specs.Disk.{Image}
 use Rattle.model_system.specs.System.{System}
 use Rattle.model_machine.specs.Machine.{LastingState, Slot}
 use Rattle.model_data.specs.Table.{EnqueueTable}
-use Rattle.pi_enqueue.proofs.Keys.{eqb_back}
 use Rattle.log_records.specs.declared.record.Record.{Record}
 use Rattle.log_records.specs.declared.record.Record.TheVariants as record_of
-use Rattle.log_records.specs.Spelling.{spelling, IsRecord}
+use Rattle.log_records.specs.RecordSpelling.{record_spelling, IsLogRecord}
 use Rattle.log_records.proofs.Takes.{IsBytes}
-use Rattle.log_writer.specs.Log.{sectors_of}
+use Rattle.log_writer.specs.ForcedLog.{log_sectors_of}
 use Rattle.seg_store.specs.Slots.{Stored, AreSlots, IsSlot, image_root}
 use Rattle.unit_work.specs.declared.change.Change.{Change}
 use Rattle.unit_work.specs.Changes.{is_slot}
-use Rattle.unit_work.specs.Images.{slots_at, image_at, bytes_at, IsSlotOf}
+use Rattle.unit_work.specs.Images.{slots_of_database, image_at, image_bytes_at, IsSlotOf}
 use Rattle.image_loading.proofs.Spelled.{spells_rows, no_bytes}
 use Rattle.model_image.specs.Slots.{is_image, are_images, dbd_at, is_image_of}
-use Rattle.disk_law.specs.Committed.{Bytes, Touch, Touches}
-use Rattle.disk_law.specs.Life.{LifeOnDisk, IsLife}
-use Rattle.disk_law.specs.Kept.{IsKept, StandsAt}
-use Rattle.disk_law.specs.Changes.{SlotChange, with_bytes, with_slot_changes, MayChangeAll}
+use Rattle.disk_law.specs.CommittedBytes.{Bytes, Touch, Touches}
+use Rattle.disk_law.specs.Life.{LifeOnDisk, IsLifeOnDisk}
+use Rattle.disk_law.specs.KeptImages.{IsImageKept, StandsAt}
+use Rattle.disk_law.specs.SlotChanges.{SlotChange, with_bytes_behind, with_slot_changes, MayChangeAll}
 use Rattle.disk_law.proofs.Changing.{IsKnownSlot, changes_life, changes_kept}
 use Rattle.disk_law.proofs.Recovering.{all_at}
 use Rattle.disk_law.proofs.Stored.{store_of}
 use Rattle.unit_work.specs.Marks.{is_marked, AreMarked}
-use Rattle.program_rows.specs.Open.{HoldsAlone}
-use Rattle.program_rows.specs.OnSlots.{SlotsState, HaveSlots, all_stores, touched_in}
-use Rattle.journal.specs.Turning.{AreNumbered, unit_of}
-use Rattle.journal.specs.Carried.{resource_of, HoldTouched, IsTouchedBy, IsLifeOf}
-use Rattle.journal.specs.Going.{Continues}
+use Rattle.program_rows.specs.OpenUnits.{HoldsAlone}
+use Rattle.program_rows.specs.SlotsState.{SlotsState, HaveSlots, slots_stores, touched_in}
+use Rattle.journal.specs.UnitNumbers.{AreUnitsNumbered, unit_of_region}
+use Rattle.journal.specs.CarriedLife.{resource_of, HoldTouched, IsTouchedBy, IsLifeOf}
+use Rattle.journal.specs.LifeByCall.{Continues}
 use Rattle.journal.proofs.Changes.{changes_slot, AreOfOwn, records_of, log_behind, StaysSo, stays_so, present_behind, changed_behind, others_behind, own_behind, MayBe, all_may}
 use Rattle.journal.proofs.Holding.{one_holder}
 use Rattle.journal.proofs.Numbers.{same_or_apart}
 use Rattle.journal.proofs.Places.{is_among, IsAmong, among_holds}
 use Rattle.journal.proofs.Stores.{has_stores, stands_so, marked_so, stays_there, known_slot_of}
+use Rattle.tm_types.proofs.Ordered.{eqb_back}
+use Rattle.disk_law.proofs.Touched.{both}
 
 -- ---- slots as changes
 
 module _ (unit : ℕ) (old new : SlotsState) where
   abbrev pub move_of : Change → SlotChange
-  move_of c = record { database = c.db; slot = c.slot; before = bytes_at c.db c.slot old.stores; after = bytes_at c.db c.slot new.stores }
+  move_of c = record { database = c.db; slot = c.slot; before = image_bytes_at c.db c.slot old.stores; after = image_bytes_at c.db c.slot new.stores }
 
   abbrev pub moves : List Change → List SlotChange
   moves cs = map move_of cs
 
   -- the record that tells of a slot
   abbrev pub move_record : Change → Record
-  move_record c = record_of.Change unit c.db c.slot (bytes_at c.db c.slot old.stores) (bytes_at c.db c.slot new.stores)
+  move_record c = record_of.Change unit c.db c.slot (image_bytes_at c.db c.slot old.stores) (image_bytes_at c.db c.slot new.stores)
 
   same_records : (cs : List Change) → records_of unit (moves cs) ≡ map move_record cs
   same_records [] = refl
@@ -68,7 +69,7 @@ module _ (unit : ℕ) (old new : SlotsState) where
       ∙ ap (λ b. ((c.db == d) && b) || changes_slot (moves cs) d s) (eqb_back s c.slot)
       ∙ ap (λ b. is_slot d s c || b) (flipped cs d s)
 
-  after_so : (cs : List Change) → AllByRecursion (λ c. c.after ≡ bytes_at c.database c.slot new.stores) (moves cs)
+  after_so : (cs : List Change) → AllByRecursion (λ c. c.after ≡ image_bytes_at c.database c.slot new.stores) (moves cs)
   after_so [] = tt
   after_so (c ∷ cs) = (refl, after_so cs)
 
@@ -79,11 +80,11 @@ AreOwn (c ∷ cs) = (is_among c.db c.slot cs ≡ false) × AreOwn cs
 
 -- ---- images are those of records
 
-slot_image : (dbd : Dbd) → IsHierarchy dbd.types → (image : List Row) → IsSlot dbd image → is_image dbd (rows.spelling image) ≡ true
+slot_image : (dbd : Dbd) → IsHierarchy dbd.types → (image : List Row) → IsSlot dbd image → is_image dbd (rows.rows_spelling image) ≡ true
 slot_image dbd types image is =
     ⊎_elim
-    (λ (none : image ≡ []). ap (λ (l : List Row). is_image dbd (rows.spelling l)) none ∙ ap (λ (o : Option (List Row)). is_some o) (no_bytes dbd))
-    (λ valid. ap (λ (o : Option (List Row)). is_some o) (spells_rows dbd types (rows.spelling image) image (record { root = image_root image; valid = valid; spelled = refl })))
+    (λ (none : image ≡ []). ap (λ (l : List Row). is_image dbd (rows.rows_spelling l)) none ∙ ap (λ (o : Option (List Row)). is_some o) (no_bytes dbd))
+    (λ valid. ap (λ (o : Option (List Row)). is_some o) (spells_rows dbd types (rows.rows_spelling image) image (record { root = image_root image; valid = valid; spelled = refl })))
     is
 
 slot_at : (dbd : Dbd) (slots : List (List Row)) (slot : ℕ) → AllByRecursion (IsSlot dbd) slots → IsSlot dbd (slice_index_or slots slot [])
@@ -91,20 +92,17 @@ slot_at dbd [] slot each = inl refl
 slot_at dbd (image ∷ slots) zero each = each.0
 slot_at dbd (image ∷ slots) (suc slot) each = slot_at dbd slots slot each.1
 
-image_of_known : (system : System) (stores : List Stored) → map (λ s. s.dbd) stores ≡ system.databases → AllByRecursion (λ s. AreSlots s.dbd s.slots) stores → (d s : ℕ) (known : IsKnownSlot system d s) → is_image known.dbd (bytes_at d s stores) ≡ true
+image_of_known : (system : System) (stores : List Stored) → map (λ s. s.dbd) stores ≡ system.databases → AllByRecursion (λ s. AreSlots s.dbd s.slots) stores → (d s : ℕ) (known : IsKnownSlot system d s) → is_image known.dbd (image_bytes_at d s stores) ≡ true
 image_of_known system stores are valid d s known =
     let of_ = store_of stores system.databases known.place known.dbd are known.found in
     let slots = all_at (λ (x : Stored). AreSlots x.dbd x.slots) stores known.place of_.store valid of_.found in
-    let here : slots_at d stores ≡ of_.store.slots =
-    ap (λ k. slots_at k stores) known.is
+    let here : slots_of_database d stores ≡ of_.store.slots =
+    ap (λ k. slots_of_database k stores) known.is
     ∙ ap (λ k. option_map_or (λ (x : Stored). x.slots) (slice_get stores k) []) (omega arith)
     ∙ ap (λ (o : Option Stored). option_map_or (λ (x : Stored). x.slots) o []) of_.found in
-    subst (λ (dbd : Dbd). is_image dbd (bytes_at d s stores) ≡ true) of_.is
-    (ap (λ (slots : List (List Row)). is_image of_.store.dbd (rows.spelling (slice_index_or slots s []))) here
+    subst (λ (dbd : Dbd). is_image dbd (image_bytes_at d s stores) ≡ true) of_.is
+    (ap (λ (slots : List (List Row)). is_image of_.store.dbd (rows.rows_spelling (slice_index_or slots s []))) here
     ∙ slot_image of_.store.dbd slots.types (slice_index_or of_.store.slots s []) (slot_at of_.store.dbd of_.store.slots s slots.each))
-
-both : (a b : Bool) → a ≡ true → b ≡ true → a && b ≡ true
-both a b h k = rw (h, k) refl
 
 images_known : (system : System) (unit d s : ℕ) (before after : List ℕ) (known : IsKnownSlot system d s) → is_image known.dbd before ≡ true → is_image known.dbd after ≡ true → is_image_of system (record_of.Change unit d s before after) ≡ true
 images_known system unit d s before after known first second =
@@ -133,7 +131,7 @@ pub record Moves (unit region : ℕ) (table : EnqueueTable) (old new : SlotsStat
   pub still : (d s : ℕ) → 1 ≤ d → is_among d s cs ≡ false → image_at d s new.stores ≡ image_at d s old.stores
   pub mine : AllByRecursion (λ c. (is_among c.db c.slot cs ≡ true) ⊎ IsSome (touches unit c.db c.slot)) (touched_in region new)
   pub others : (other : ℕ) → 1 ≤ other → (other ≡ region → ⊥) → touched_in other new ≡ touched_in other old
-  pub marks : AreMarked (λ d s. is_among d s cs) (all_stores old) (all_stores new)
+  pub marks : AreMarked (λ d s. is_among d s cs) (slots_stores old) (slots_stores new)
 
 -- a life with other marks
 abbrev pub with_marks : (ℕ → ℕ → Bool) → LifeOnDisk → LifeOnDisk
@@ -145,10 +143,10 @@ some_of (Some x) t e = refl
 
 module _ (system : System) (n : ℕ) (lasting : LastingState) (before after : List (Option Slot)) (was table : EnqueueTable) (old new : SlotsState) (units : List ℕ) (next : ℕ) (life : LifeOnDisk)
     (l : IsLifeOf system lasting before was old units next life) (have : HaveSlots system.databases n old) (had : HaveSlots system.databases n new) (one_sector : AllByRecursion (λ dbd. dbd.sectors ≤ 1) system.databases)
-    (holds : HoldTouched table new) (leave : (other d : ℕ) (image : List Row) → HoldsAlone was other (resource_of d image) → HoldsAlone table other (resource_of d image)) (numbers : AreNumbered after units next)
+    (holds : HoldTouched table new) (leave : (other d : ℕ) (image : List Row) → HoldsAlone was other (resource_of d image) → HoldsAlone table other (resource_of d image)) (numbers : AreUnitsNumbered after units next)
     (unit region : ℕ) (least : 1 ≤ region) (found : slice_get units (region - 1) ≡ Some unit) (some : 0 < unit)
-    (records : List Record) (cs : List Change) (m : Moves unit region table old new records life.touches cs) (valid : AllByRecursion IsRecord records)
-    (fits : life.log.place + sectors_of (length (life.log.appended ++ flat_map spelling records)) ≤ life.log.count) (bytes : IsBytes (flat_map spelling records)) where
+    (records : List Record) (cs : List Change) (m : Moves unit region table old new records life.touches cs) (valid : AllByRecursion IsLogRecord records)
+    (fits : life.log.place + log_sectors_of (length (life.log.appended ++ flat_map record_spelling records)) ≤ life.log.count) (bytes : IsBytes (flat_map record_spelling records)) where
   abbrev changes : List SlotChange
   changes = moves unit old new cs
 
@@ -179,7 +177,7 @@ module _ (system : System) (n : ℕ) (lasting : LastingState) (before after : Li
   known : (c : Change) → IsMoved table region old c → IsKnownSlot system c.db c.slot
   known c is = known_slot_of system n old have c.db c.slot is.there
 
-  may_be : (c : Change) → IsMoved table region old c → IsRecord (move_record unit old new c) → MayBe unit (move_of unit old new c) life
+  may_be : (c : Change) → IsMoved table region old c → IsLogRecord (move_record unit old new c) → MayBe unit (move_of unit old new c) life
   may_be c is right =
       let slot = known c is in
       record {
@@ -187,11 +185,11 @@ module _ (system : System) (n : ℕ) (lasting : LastingState) (before after : Li
         stood = sym (stands_so system old life l.of_system l.stores c.db c.slot slot);
         is_record = right;
         image = subst (λ (y : System). is_image_of y (move_record unit old new c) ≡ true) (sym l.of_system)
-            (images_known system unit c.db c.slot (bytes_at c.db c.slot old.stores) (bytes_at c.db c.slot new.stores) slot
+            (images_known system unit c.db c.slot (image_bytes_at c.db c.slot old.stores) (image_bytes_at c.db c.slot new.stores) slot
             (image_of_known system old.stores have.stores have.valid c.db c.slot slot) (image_of_known system new.stores had.stores had.valid c.db c.slot slot));
       }
 
-  all_be : (some : List Change) → AllByRecursion (IsMoved table region old) some → AllByRecursion IsRecord (map (move_record unit old new) some) → AllByRecursion (λ c. MayBe unit c life) (moves unit old new some)
+  all_be : (some : List Change) → AllByRecursion (IsMoved table region old) some → AllByRecursion IsLogRecord (map (move_record unit old new) some) → AllByRecursion (λ c. MayBe unit c life) (moves unit old new some)
   all_be [] each right = tt
   all_be (c ∷ some) each right = (may_be c each.0 right.0, all_be some each.1 right.1)
 
@@ -204,24 +202,24 @@ module _ (system : System) (n : ℕ) (lasting : LastingState) (before after : Li
 
   may_all : MayChangeAll unit changes life
   may_all =
-      all_may unit changes life syncs_yet (own_so cs m.own) (all_be cs m.each (subst (λ (rs : List Record). AllByRecursion IsRecord rs) m.told valid))
-      (subst (λ (rs : List Record). life.log.place + sectors_of (length (life.log.appended ++ flat_map spelling rs)) ≤ life.log.count) (sym told_so) fits)
-      (subst (λ (rs : List Record). IsBytes (flat_map spelling rs)) (sym told_so) bytes)
+      all_may unit changes life syncs_yet (own_so cs m.own) (all_be cs m.each (subst (λ (rs : List Record). AllByRecursion IsLogRecord rs) m.told valid))
+      (subst (λ (rs : List Record). life.log.place + log_sectors_of (length (life.log.appended ++ flat_map record_spelling rs)) ≤ life.log.count) (sym told_so) fits)
+      (subst (λ (rs : List Record). IsBytes (flat_map record_spelling rs)) (sym told_so) bytes)
 
-  moved_life : IsLife moved
+  moved_life : IsLifeOnDisk moved
   moved_life = changes_life unit changes life l.is_life may_all
 
   -- ---- the slots then
 
-  present_so : (d s : ℕ) → IsKnownSlot system d s → moved.present d s ≡ bytes_at d s new.stores
+  present_so : (d s : ℕ) → IsKnownSlot system d s → moved.present d s ≡ image_bytes_at d s new.stores
   present_so d s slot =
-      present_behind unit (λ d s. bytes_at d s new.stores) changes life d s (after_so unit old new cs)
+      present_behind unit (λ d s. image_bytes_at d s new.stores) changes life d s (after_so unit old new cs)
       ∙ by (changes_slot changes d s) refl where
-        by : (b : Bool) → changes_slot changes d s ≡ b → (if b then bytes_at d s new.stores else life.present d s) ≡ bytes_at d s new.stores
+        by : (b : Bool) → changes_slot changes d s ≡ b → (if b then image_bytes_at d s new.stores else life.present d s) ≡ image_bytes_at d s new.stores
         by true e = refl
         by false e =
             stands_so system old life l.of_system l.stores d s slot
-            ∙ ap (λ (image : List Row). rows.spelling image) (sym (m.still d s (omega (arith, slot.is)) (sym (flipped unit old new cs d s) ∙ e)))
+            ∙ ap (λ (image : List Row). rows.rows_spelling image) (sym (m.still d s (omega (arith, slot.is)) (sym (flipped unit old new cs d s) ∙ e)))
 
   known_there : (place number : ℕ) (dbd : Dbd) → slice_get system.databases place ≡ Some dbd → number < dbd.roots → IsKnownSlot system (place + 1) number
   known_there place number dbd found below = record { place = place; is = refl; dbd = dbd; found = found; below = below }
@@ -234,7 +232,7 @@ module _ (system : System) (n : ℕ) (lasting : LastingState) (before after : Li
   unmarked d s slot none =
       let same = m.marks.same d s (omega (arith, slot.is)) none in (
         marked_so system old life l.of_system l.stores d s slot ∙ same.0,
-        present_so d s slot ∙ ap (λ (image : List Row). rows.spelling image) same.1 ∙ sym (stands_so system old life l.of_system l.stores d s slot),
+        present_so d s slot ∙ ap (λ (image : List Row). rows.rows_spelling image) same.1 ∙ sym (stands_so system old life l.of_system l.stores d s slot),
       )
 
   -- what is marked then was so before, or was changed
@@ -317,22 +315,22 @@ module _ (system : System) (n : ℕ) (lasting : LastingState) (before after : Li
     by (inl among) = own_behind unit changes life c.db c.slot ∙ ap (λ b. b || is_some (life.touches unit c.db c.slot)) (flipped unit old new cs c.db c.slot ∙ among)
     by (inr touched) = still_touched unit c.db c.slot touched
 
-  unit_is : unit_of units region ≡ unit
+  unit_is : unit_of_region units region ≡ unit
   unit_is = Rattle.disk_law.proofs.Recovering.index_found units (region - 1) unit 0 found
 
-  kept_then : (other : ℕ) → 1 ≤ other → AllByRecursion (λ c. IsSome (moved.touches (unit_of units other) c.db c.slot)) (touched_in other new)
+  kept_then : (other : ℕ) → 1 ≤ other → AllByRecursion (λ c. IsSome (moved.touches (unit_of_region units other) c.db c.slot)) (touched_in other new)
   kept_then other low = by (same_or_apart other region) where
-    by : (other ≡ region) ⊎ (other ≡ region → ⊥) → AllByRecursion (λ c. IsSome (moved.touches (unit_of units other) c.db c.slot)) (touched_in other new)
+    by : (other ≡ region) ⊎ (other ≡ region → ⊥) → AllByRecursion (λ c. IsSome (moved.touches (unit_of_region units other) c.db c.slot)) (touched_in other new)
     by (inl same) =
-        subst (λ r. AllByRecursion (λ c. IsSome (moved.touches (unit_of units r) c.db c.slot)) (touched_in r new)) (sym same)
+        subst (λ r. AllByRecursion (λ c. IsSome (moved.touches (unit_of_region units r) c.db c.slot)) (touched_in r new)) (sym same)
         (subst (λ u. AllByRecursion (λ c. IsSome (moved.touches u c.db c.slot)) (touched_in region new)) (sym unit_is) (all_mine (touched_in region new) m.mine))
     by (inr apart) =
-        subst (λ (slots : List Change). AllByRecursion (λ c. IsSome (moved.touches (unit_of units other) c.db c.slot)) slots) (sym (m.others other low apart))
-        (all_still (unit_of units other) (touched_in other old) (l.touched.kept other low))
+        subst (λ (slots : List Change). AllByRecursion (λ c. IsSome (moved.touches (unit_of_region units other) c.db c.slot)) slots) (sym (m.others other low apart))
+        (all_still (unit_of_region units other) (touched_in other old) (l.touched.kept other low))
 
   -- ---- the life then
 
-  is_life_behind : IsLife life_behind
+  is_life_behind : IsLifeOnDisk life_behind
   is_life_behind = record {
     in_range = moved_life.in_range;
     few = moved_life.few;
@@ -343,9 +341,9 @@ module _ (system : System) (n : ℕ) (lasting : LastingState) (before after : Li
     slots = moved_life.slots;
   }
 
-  kept_behind : (a : Image) → IsKept life a → IsKept life_behind a
+  kept_behind : (a : Image) → IsImageKept life a → IsImageKept life_behind a
   kept_behind a k =
-      let then_kept : IsKept moved a = changes_kept unit changes life l.is_life may_all a k in
+      let then_kept : IsImageKept moved a = changes_kept unit changes life l.is_life may_all a k in
       let known_so : (place : ℕ) (dbd : Dbd) → slice_get moved.system.databases place ≡ Some dbd → slice_get system.databases place ≡ Some dbd =
       λ place dbd found. of_system place dbd (subst (λ (y : System). slice_get y.databases place ≡ Some dbd) stays.system found) in
       record {
@@ -385,7 +383,7 @@ module _ (system : System) (n : ℕ) (lasting : LastingState) (before after : Li
     committed = λ place number dbd found below.
         ap (λ (b : Bytes). b (place + 1) number) stays.committed
         ∙ l.committed place number dbd found below
-        ∙ ap (λ (stores : List Stored). bytes_at (place + 1) number stores) (sym m.committed);
+        ∙ ap (λ (stores : List Stored). image_bytes_at (place + 1) number stores) (sym m.committed);
     numbers = numbers;
     touched = record { each = touched_then; kept = kept_then };
     syncs = record {
@@ -395,12 +393,12 @@ module _ (system : System) (n : ℕ) (lasting : LastingState) (before after : Li
   }
 
   -- The records are appended, and the life goes on.
-  pub moves_on : Continues (flat_map spelling records) (IsLifeOf system lasting after table new units next) life
+  pub moves_on : Continues (flat_map record_spelling records) (IsLifeOf system lasting after table new units next) life
   moves_on = record {
     behind = life_behind;
     text = stays.text;
     now = stays.now;
-    log = log_behind unit changes life ∙ ap (λ (rs : List Record). with_bytes (flat_map spelling rs) life.log) told_so;
+    log = log_behind unit changes life ∙ ap (λ (rs : List Record). with_bytes_behind (flat_map record_spelling rs) life.log) told_so;
     kept = kept_behind;
     is = behind_is;
   }

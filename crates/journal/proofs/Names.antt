@@ -18,20 +18,20 @@ use Rattle.model_system.specs.System.{System}
 use Rattle.model_machine.specs.declared.lasting.CodeSetting.{CodeSetting}
 use Rattle.model_machine.specs.declared.lasting.TerminalState.{TerminalState}
 use Rattle.model_machine.specs.Machine.{LastingState, message_at, output_at, setting_place, terminal_place}
-use Rattle.model_machine.specs.Lasting.{LastingStep, abend_outputs, all_sent, applied, commanded, discarded_pad, finished_by, new_pad, padded, replied, sent, stopped_code, stopped_terminal, switched, with_begun, with_last, with_pad_by, without_message, without_replies}
-use Rattle.model_machine.specs.Lasting.LastingStep.{Accepts, Acknowledges, Completes, Discards, Commands}
+use Rattle.model_machine.specs.LastingSteps.{LastingStep, abend_outputs, all_sent, applied, commanded, discarded_pad, finished_by, new_pad, with_pad_changed, replied, output_sent, stopped_code, stopped_terminal, switched, with_begun, with_last_number, with_pad_by, without_message, without_replies}
+use Rattle.model_machine.specs.LastingSteps.LastingStep.{Accepts, Acknowledges, Completes, Discards, Commands}
 use Rattle.model_image.specs.Replay.{Replay, replay_all}
-use Rattle.checkpointing.specs.Records.{IsOfSystem}
-use Rattle.image_law.specs.Counted.{IsCounted}
-use Rattle.image_law.proofs.CountLawReplayed.{log_counted}
+use Rattle.checkpointing.specs.SnapshotRecords.{IsOfSystem}
+use Rattle.image_law.specs.SegmentCounts.{AreSegmentsCounted}
+use Rattle.image_law.proofs.CountsReplayed.{log_counted}
 use Rattle.disk_law.specs.Life.{LifeOnDisk, but_rows}
-use Rattle.disk_law.specs.Steps.{StepOnDisk, IsStep}
+use Rattle.disk_law.specs.LifeSteps.{StepOnDisk, IsStep}
 
 -- ---- changes by name
 
 outputs_keep : (name : List ℕ) (change : TerminalReplies → TerminalReplies) → ((t : TerminalReplies) → (change t).terminal ≡ t.terminal) → (ts : List TerminalReplies) → map (λ t. t.terminal) (outputs.with_terminal name change ts) ≡ map (λ t. t.terminal) ts
 outputs_keep name change keeps [] = refl
-outputs_keep name change keeps (t ∷ ts) = by (outputs.is_of name t) (outputs_keep name change keeps ts) where
+outputs_keep name change keeps (t ∷ ts) = by (outputs.are_replies_of name t) (outputs_keep name change keeps ts) where
   by : (b : Bool) → map (λ x. x.terminal) (outputs.with_terminal name change ts) ≡ map (λ x. x.terminal) ts
       → map (λ x. x.terminal) (if b then change t ∷ ts else t ∷ outputs.with_terminal name change ts) ≡ map (λ x. x.terminal) (t ∷ ts)
   by true later = ap (λ (n : List ℕ). n ∷ map (λ (x : TerminalReplies). x.terminal) ts) (keeps t)
@@ -40,7 +40,7 @@ outputs_keep name change keeps (t ∷ ts) = by (outputs.is_of name t) (outputs_k
 conversations_keep : (name : List ℕ) (change : TerminalConversation → TerminalConversation) → ((t : TerminalConversation) → (change t).terminal ≡ t.terminal) → (ts : List TerminalConversation)
     → map (λ t. t.terminal) (conversations.with_terminal name change ts) ≡ map (λ t. t.terminal) ts
 conversations_keep name change keeps [] = refl
-conversations_keep name change keeps (t ∷ ts) = by (conversations.is_of name t) (conversations_keep name change keeps ts) where
+conversations_keep name change keeps (t ∷ ts) = by (conversations.is_conversation_of name t) (conversations_keep name change keeps ts) where
   by : (b : Bool) → map (λ x. x.terminal) (conversations.with_terminal name change ts) ≡ map (λ x. x.terminal) ts
       → map (λ x. x.terminal) (if b then change t ∷ ts else t ∷ conversations.with_terminal name change ts) ≡ map (λ x. x.terminal) (t ∷ ts)
   by true later = ap (λ (n : List ℕ). n ∷ map (λ (x : TerminalConversation). x.terminal) ts) (keeps t)
@@ -67,7 +67,7 @@ pub record KeepsNames (before after : LastingState) : Type 0 where
   pub conversations_are : map (λ t. t.terminal) after.conversations ≡ map (λ t. t.terminal) before.conversations
   pub codes_are : map (λ c. c.code) after.codes ≡ map (λ c. c.code) before.codes
 
-sent_names : (origin : List ℕ) (output : EndedMessage) (lasting : LastingState) → KeepsNames lasting (sent origin output lasting)
+sent_names : (origin : List ℕ) (output : EndedMessage) (lasting : LastingState) → KeepsNames lasting (output_sent origin output lasting)
 sent_names origin output lasting = by (is_some (output_at lasting.outputs output.to)) where
   by : (b : Bool) → KeepsNames lasting (if b then replied output lasting else switched origin output lasting)
   by true = record { terminals = refl; outputs_are = outputs_keep output.to (outputs.with_reply output.segments) (λ t. refl) lasting.outputs; conversations_are = refl; codes_are = refl }
@@ -84,9 +84,9 @@ names_then a b c first second = record {
 all_sent_names : (origin : List ℕ) (some : List EndedMessage) (lasting : LastingState) → KeepsNames lasting (all_sent origin some lasting)
 all_sent_names origin [] lasting = record { terminals = refl; outputs_are = refl; conversations_are = refl; codes_are = refl }
 all_sent_names origin (output ∷ some) lasting =
-    names_then lasting (sent origin output lasting) (all_sent origin (output ∷ some) lasting) (sent_names origin output lasting) (all_sent_names origin some (sent origin output lasting))
+    names_then lasting (output_sent origin output lasting) (all_sent origin (output ∷ some) lasting) (sent_names origin output lasting) (all_sent_names origin some (output_sent origin output lasting))
 
-padded_names : (change : PadChange) (origin : List ℕ) (all : List TerminalConversation) → map (λ t. t.terminal) (padded change origin all) ≡ map (λ t. t.terminal) all
+padded_names : (change : PadChange) (origin : List ℕ) (all : List TerminalConversation) → map (λ t. t.terminal) (with_pad_changed change origin all) ≡ map (λ t. t.terminal) all
 padded_names Stays origin all = refl
 padded_names (New text) origin all = conversations_keep origin (new_pad text) (λ t. refl) all
 padded_names Ends origin all = conversations_keep origin (conversations.with_conversation None) (λ t. refl) all
@@ -132,7 +132,7 @@ command_names (Exit terminal) lasting =
 
 pub step_names : (step : LastingStep) (lasting : LastingState) → KeepsNames lasting (applied step lasting)
 step_names (Accepts terminal number kept) lasting = record {
-  terminals = changes_keep (λ (t : TerminalState). t.name) (with_last number) (λ t. refl) lasting.terminals (terminal_place lasting.terminals terminal);
+  terminals = changes_keep (λ (t : TerminalState). t.name) (with_last_number number) (λ t. refl) lasting.terminals (terminal_place lasting.terminals terminal);
   outputs_are = refl;
   conversations_are = begun_names terminal kept.begins lasting.conversations;
   codes_are = refl;
@@ -160,7 +160,7 @@ left_lasting : (after : Option Replay) (to : Replay) → after ≡ Some to → o
 left_lasting after to is = ap (λ (o : Option Replay). option_map (λ (replay : Replay). replay.lasting) o) is
 
 -- Messages and replies have 1 to 32 segments behind a step of a life.
-pub step_counted : (life : LifeOnDisk) (step : StepOnDisk) → IsStep life step → IsCounted life.lasting → IsCounted step.lasting
+pub step_counted : (life : LifeOnDisk) (step : StepOnDisk) → IsStep life step → AreSegmentsCounted life.lasting → AreSegmentsCounted step.lasting
 step_counted life step s is =
     let behind =
     log_counted life.system step.records (but_rows life.system life.lasting) (but_rows life.system step.lasting) s.room.valid (record { messages = is.messages; replies = is.replies })

@@ -9,7 +9,7 @@ use Rattle.model_machine.specs.Machine.{Slot}
 use Rattle.model_machine.specs.Requests.{without_victims}
 use Rattle.model_machine.specs.declared.entry.Turned.{Turned}
 use Rattle.model_machine.specs.declared.entry.Turned.TheVariants.{Scheduled, Called, Next, QC, Done, Abended, Idle, Held, Waits, Backed}
-use Rattle.journal.specs.Turning.{with_unit, without_units, units_after, AreNumbered}
+use Rattle.journal.specs.UnitNumbers.{with_unit, without_units, units_after, AreUnitsNumbered}
 
 -- ---- an element set
 
@@ -62,7 +62,7 @@ same_or_apart a b = by (a == b) refl where
 
 -- ---- numbers
 
-module _ (slots : List (Option Slot)) (units : List ℕ) (next : ℕ) (n : AreNumbered slots units next) where
+module _ (slots : List (Option Slot)) (units : List ℕ) (next : ℕ) (n : AreUnitsNumbered slots units next) where
   abbrev some_next : 0 < next
   some_next = n.some
 
@@ -98,7 +98,7 @@ module _ (slots : List (Option Slot)) (units : List ℕ) (next : ℕ) (n : AreNu
       by a b (inr apart) (inr beside) = n.apart k l u (a.there apart) (b.there beside) some
 
     -- A region's number is set beside its slot.
-    pub numbered_set : AreNumbered (slice_set slots place slot) (slice_set units place unit) later
+    pub numbered_set : AreUnitsNumbered (slice_set slots place slot) (slice_set units place unit) later
     numbered_set = record {
       count = set_length units place unit ∙ n.count ∙ sym (set_length slots place slot);
       some = omega (arith, n.some, more);
@@ -108,7 +108,7 @@ module _ (slots : List (Option Slot)) (units : List ℕ) (next : ℕ) (n : AreNu
     }
 
   -- A slot changes that is as full as before.
-  pub numbered_kept : (place : ℕ) (slot : Option Slot) → ((unit : ℕ) → slice_get units place ≡ Some unit → nat_lt 0 unit ≡ is_some slot) → AreNumbered (slice_set slots place slot) units next
+  pub numbered_kept : (place : ℕ) (slot : Option Slot) → ((unit : ℕ) → slice_get units place ≡ Some unit → nat_lt 0 unit ≡ is_some slot) → AreUnitsNumbered (slice_set slots place slot) units next
   numbered_kept place slot fits = record {
     count = n.count ∙ sym (set_length slots place slot);
     some = n.some;
@@ -121,16 +121,16 @@ module _ (slots : List (Option Slot)) (units : List ℕ) (next : ℕ) (n : AreNu
     by k u s here b (inr apart) = n.busy k u s here (b.there apart)
 
 -- A region's work ends.
-pub numbered_ended : (slots : List (Option Slot)) (units : List ℕ) (next place : ℕ) → AreNumbered slots units next → AreNumbered (slice_set slots place None) (slice_set units place 0) next
+pub numbered_ended : (slots : List (Option Slot)) (units : List ℕ) (next place : ℕ) → AreUnitsNumbered slots units next → AreUnitsNumbered (slice_set slots place None) (slice_set units place 0) next
 numbered_ended slots units next place n = numbered_set slots units next n place 0 next None refl n.some (omega arith) (inl refl)
 
 -- A region takes a message.
-pub numbered_taken : (slots : List (Option Slot)) (units : List ℕ) (next place : ℕ) (slot : Slot) → AreNumbered slots units next → AreNumbered (slice_set slots place (Some slot)) (slice_set units place next) (next + 1)
+pub numbered_taken : (slots : List (Option Slot)) (units : List ℕ) (next place : ℕ) (slot : Slot) → AreUnitsNumbered slots units next → AreUnitsNumbered (slice_set slots place (Some slot)) (slice_set units place next) (next + 1)
 numbered_taken slots units next place slot n =
     numbered_set slots units next n place next (next + 1) (Some slot) (grind (arith, nat_tests, n.some)) (omega arith) (omega arith) (inr (omega arith))
 
 -- Victims give up their messages.
-pub numbered_victims : (victims : List Victim) (slots : List (Option Slot)) (units : List ℕ) (next : ℕ) → AreNumbered slots units next → AreNumbered (without_victims victims slots) (without_units victims units) next
+pub numbered_victims : (victims : List Victim) (slots : List (Option Slot)) (units : List ℕ) (next : ℕ) → AreUnitsNumbered slots units next → AreUnitsNumbered (without_victims victims slots) (without_units victims units) next
 numbered_victims [] slots units next n = n
 numbered_victims (v ∷ victims) slots units next n =
     numbered_victims victims (slice_set slots (v.region - 1) None) (with_unit v.region 0 units) next (numbered_ended slots units next (v.region - 1) n)

@@ -14,21 +14,21 @@ use Rattle.restart_data.specs.declared.restart.RestartSector.{RestartSector}
 use Rattle.restart_data.specs.Restart.{IsRestart}
 use Rattle.seg_store.specs.Slots.{rows_of_slots}
 use Rattle.unit_work.specs.declared.change.Change.{Change}
-use Rattle.unit_work.specs.Images.{bytes_at}
-use Rattle.checkpointing.specs.Records.{IsOfSystem, snapshot_records}
-use Rattle.image_law.specs.Counted.{IsCounted}
-use Rattle.system_types.specs.Valid.{IsSystem}
+use Rattle.unit_work.specs.Images.{image_bytes_at}
+use Rattle.checkpointing.specs.SnapshotRecords.{IsOfSystem, snapshot_records}
+use Rattle.image_law.specs.SegmentCounts.{AreSegmentsCounted}
+use Rattle.system_types.specs.ValidSystem.{IsSystem}
 use Rattle.image_law.proofs.Kept.{stands}
 use Rattle.image_law.proofs.SoundLaws.{is_sound}
-use Rattle.image_law.specs.Rooms.{StaysSound}
-use Rattle.disk_law.specs.Committed.{Touch}
-use Rattle.disk_law.specs.Life.{LifeOnDisk, IsLife, SpellRows}
-use Rattle.disk_law.specs.Opening.{MayOpen, bytes_in_stores, no_touches, opened_life}
+use Rattle.image_law.specs.SoundMachine.{StaysSound}
+use Rattle.disk_law.specs.CommittedBytes.{Touch}
+use Rattle.disk_law.specs.Life.{LifeOnDisk, IsLifeOnDisk, SpellRows}
+use Rattle.disk_law.specs.OpenedLife.{MayOpenLife, bytes_in_stores, no_touches, opened_life}
 use Rattle.disk_law.proofs.Snapshots.{only_changes}
 use Rattle.unit_work.specs.Marks.{is_marked}
-use Rattle.program_rows.specs.OnSlots.{SlotsState, HaveSlots, touched_in}
-use Rattle.journal.specs.Turning.{AreNumbered, unit_of}
-use Rattle.journal.specs.Carried.{IsCarriedBy}
+use Rattle.program_rows.specs.SlotsState.{SlotsState, HaveSlots, touched_in}
+use Rattle.journal.specs.UnitNumbers.{AreUnitsNumbered, unit_of_region}
+use Rattle.journal.specs.CarriedLife.{IsCarriedBy}
 use Rattle.journal.proofs.Places.{bytes_of_place}
 use Rattle.journal.proofs.Stores.{has_stores, stores_one}
 
@@ -59,7 +59,7 @@ same_length zero a b = refl
 same_length (suc n) a b = ap (λ k. suc k) (same_length n a b)
 
 -- so many empty regions, none of which has a number
-none_numbered : (n next : ℕ) → 0 < next → AreNumbered (replicate n None) (no_units n) next
+none_numbered : (n next : ℕ) → 0 < next → AreUnitsNumbered (replicate n None) (no_units n) next
 none_numbered n next some = record {
   count = same_length n 0 no_slot;
   some = some;
@@ -75,7 +75,7 @@ not_over_by : (limit need : ℕ) → nat_lt limit need ≡ false → need ≤ li
 not_over_by limit need e = ltb-false limit need e
 
 module _ (system : System) (valid : IsSystem system) (n : ℕ) (text : List ℕ) (now : RestartSector) (state : LastingState) (slots : SlotsState) (next : ℕ)
-    (in_range : IsRestart now) (unbroken : breaks_a_rule system state ≡ false) (names : IsOfSystem system state) (counted : IsCounted state) (have : HaveSlots system.databases n slots) (one_sector : AllByRecursion (λ dbd. dbd.sectors ≤ 1) system.databases)
+    (in_range : IsRestart now) (unbroken : breaks_a_rule system state ≡ false) (names : IsOfSystem system state) (counted : AreSegmentsCounted state) (have : HaveSlots system.databases n slots) (one_sector : AllByRecursion (λ dbd. dbd.sectors ≤ 1) system.databases)
     (rows_are : map (λ s. rows_of_slots s.slots) slots.stores ≡ state.rows) (clean : (region : ℕ) → touched_in region slots ≡ []) (unmarked : (d s : ℕ) → is_marked slots.changed d s ≡ false) (some : 0 < next) where
   abbrev pub life_opened : LifeOnDisk
   life_opened = opened_life system text now slots.stores state
@@ -84,7 +84,7 @@ module _ (system : System) (valid : IsSystem system) (n : ℕ) (text : List ℕ)
   told_first = snapshot_records now.checkpoint next state []
 
   -- It may be opened.
-  pub may_open : MayOpen system now slots.stores state told_first
+  pub may_open : MayOpenLife system now slots.stores state told_first
   may_open = record {
     in_range = in_range;
     few = omega (arith, valid.most_logs);
@@ -95,14 +95,14 @@ module _ (system : System) (valid : IsSystem system) (n : ℕ) (text : List ℕ)
     plain = λ d s. only_changes d s now.checkpoint next state [];
   }
 
-  bytes_are : (place number : ℕ) → bytes_in_stores slots.stores (place + 1) number ≡ bytes_at (place + 1) number slots.stores
-  bytes_are place number = ap (λ p. Rattle.disk_law.specs.Life.bytes_at slots.stores p number) (omega arith) ∙ sym (bytes_of_place slots.stores place number)
+  bytes_are : (place number : ℕ) → bytes_in_stores slots.stores (place + 1) number ≡ image_bytes_at (place + 1) number slots.stores
+  bytes_are place number = ap (λ p. Rattle.disk_law.specs.Life.store_bytes_at slots.stores p number) (omega arith) ∙ sym (bytes_of_place slots.stores place number)
 
   none_seen : (region d s : ℕ) → Rattle.unit_work.specs.Changes.is_seen d s (touched_in region slots) ≡ false
   none_seen region d s = ap (λ (cs : List Change). Rattle.unit_work.specs.Changes.is_seen d s cs) (clean region)
 
-  as_committed : (d s : ℕ) → 1 ≤ d → bytes_at d s slots.stores ≡ bytes_at d s slots.committed
-  as_committed d s low = ap (λ (image : List Row). rows.spelling image) (sym (have.untouched d s low (λ region. none_seen region d s)))
+  as_committed : (d s : ℕ) → 1 ≤ d → image_bytes_at d s slots.stores ≡ image_bytes_at d s slots.committed
+  as_committed d s low = ap (λ (image : List Row). rows.rows_spelling image) (sym (have.untouched d s low (λ region. none_seen region d s)))
 
   spells : SpellRows system (bytes_in_stores slots.stores) state.rows
   spells = record {
@@ -114,7 +114,7 @@ module _ (system : System) (valid : IsSystem system) (n : ℕ) (text : List ℕ)
     are = rows_are;
   }
 
-  opened_is : IsLife life_opened
+  opened_is : IsLifeOnDisk life_opened
   opened_is = record {
     in_range = in_range;
     few = omega (arith, valid.most_logs);
@@ -155,7 +155,7 @@ module _ (system : System) (valid : IsSystem system) (n : ℕ) (text : List ℕ)
       touched = record {
         each = λ unit d s t is. absurd (no_touch t is);
         kept = λ region least.
-            subst (λ (cs : List Change). AllByRecursion (λ x. IsSome (no_touches (unit_of (no_units (length system.regions)) region) x.db x.slot)) cs) (sym (clean region)) tt;
+            subst (λ (cs : List Change). AllByRecursion (λ x. IsSome (no_touches (unit_of_region (no_units (length system.regions)) region) x.db x.slot)) cs) (sym (clean region)) tt;
       };
       syncs = record { open_yet = λ place unit found positive. refl; to_come = λ unit above. refl };
     };

@@ -8,9 +8,9 @@ use Rattle.model_data.specs.declared.row.Row.{Row}
 use Rattle.model_data.specs.Record as rows
 use Rattle.model_system.specs.System.{System}
 use Rattle.seg_store.specs.Slots.{Stored, AreSlots}
-use Rattle.unit_work.specs.Images.{slots_at, bytes_at, IsSlotOf}
+use Rattle.unit_work.specs.Images.{slots_of_database, image_bytes_at, IsSlotOf}
 use Rattle.unit_work.specs.declared.change.Change.{Change}
-use Rattle.unit_work.specs.Changes.{is_before, is_slot, is_seen}
+use Rattle.unit_work.specs.Changes.{is_slot_before, is_slot, is_seen}
 use Rattle.disk_law.specs.Life as life
 use Rattle.disk_law.proofs.Changing.{IsKnownSlot}
 use Rattle.disk_law.proofs.Recovering.{all_at, dbd_found}
@@ -35,20 +35,20 @@ module _ (system : System) (stores : List Stored) (are : map (λ s. s.dbd) store
   pub known_of : (d s : ℕ) → IsSlotOf stores d s → IsKnownSlot system d s
   known_of d s there = there_by stores system.databases are valid system refl d s there.least (slice_get stores (d - 1)) refl there.within
 
-  slots_of_place : (place : ℕ) → slots_at (place + 1) stores ≡ option_map_or (λ s. s.slots) (slice_get stores place) []
+  slots_of_place : (place : ℕ) → slots_of_database (place + 1) stores ≡ option_map_or (λ s. s.slots) (slice_get stores place) []
   slots_of_place place = ap (λ k. option_map_or (λ (s : Stored). s.slots) (slice_get stores k) []) (omega arith)
 
   pub there_of : (d s : ℕ) → IsKnownSlot system d s → IsSlotOf stores d s
   there_of d s known =
       let of_ = store_of stores system.databases known.place known.dbd are known.found in
       let slots = all_at (λ (x : Stored). AreSlots x.dbd x.slots) stores known.place of_.store valid of_.found in
-      let same : slots_at d stores ≡ of_.store.slots = ap (λ k. slots_at k stores) known.is ∙ slots_of_place known.place ∙ ap (λ (o : Option Stored). option_map_or (λ (s : Stored). s.slots) o []) of_.found in
+      let same : slots_of_database d stores ≡ of_.store.slots = ap (λ k. slots_of_database k stores) known.is ∙ slots_of_place known.place ∙ ap (λ (o : Option Stored). option_map_or (λ (s : Stored). s.slots) o []) of_.found in
       let below : s < of_.store.dbd.roots = subst (λ (dbd : Dbd). s < dbd.roots) (sym of_.is) known.below in
       record { least = omega (arith, known.is); within = omega (arith, below, slots.count, ap (λ (l : List (List Row)). length l) same) }
 
 -- the bytes in a slot, by the place of its database
-pub bytes_of_place : (stores : List Stored) (place number : ℕ) → bytes_at (place + 1) number stores ≡ life.bytes_at stores place number
-bytes_of_place stores place number = ap (λ k. rows.spelling (slice_index_or (option_map_or (λ (s : Stored). s.slots) (slice_get stores k) []) number [])) (omega arith)
+pub bytes_of_place : (stores : List Stored) (place number : ℕ) → image_bytes_at (place + 1) number stores ≡ life.store_bytes_at stores place number
+bytes_of_place stores place number = ap (λ k. rows.rows_spelling (slice_index_or (option_map_or (λ (s : Stored). s.slots) (slice_get stores k) []) number [])) (omega arith)
 
 -- ---- slots that are kept
 
@@ -58,7 +58,7 @@ is_among d s slots = list_any (is_slot d s) slots
 
 pub unseen : (d s : ℕ) (slots : List Change) → is_among d s slots ≡ false → is_seen d s slots ≡ false
 unseen d s [] none = refl
-unseen d s (c ∷ slots) none = by (is_slot d s c) (is_among d s slots) (is_before d s c) none (unseen d s slots) where
+unseen d s (c ∷ slots) none = by (is_slot d s c) (is_among d s slots) (is_slot_before d s c) none (unseen d s slots) where
   by : (here later before : Bool) → here || later ≡ false → (later ≡ false → is_seen d s slots ≡ false) → (if before then is_seen d s slots else here) ≡ false
   by true later before e more = absurd cc
   by false later true e more = more e

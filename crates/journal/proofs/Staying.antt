@@ -10,30 +10,30 @@ use Rattle.model_machine.specs.Machine.{LastingState, Slot}
 use Rattle.log_writer.specs.Writer.{Writer}
 use Rattle.seg_store.specs.Slots.{Stored}
 use Rattle.unit_work.specs.declared.change.Change.{Change}
-use Rattle.unit_work.specs.Images.{image_at, bytes_at, IsSlotOf}
-use Rattle.disk_law.specs.Committed.{Touch}
+use Rattle.unit_work.specs.Images.{image_at, image_bytes_at, IsSlotOf}
+use Rattle.disk_law.specs.CommittedBytes.{Touch}
 use Rattle.disk_law.specs.Life.{LifeOnDisk}
-use Rattle.disk_law.specs.Changes.{with_bytes, without_unit}
+use Rattle.disk_law.specs.SlotChanges.{with_bytes_behind, life_without_unit}
 use Rattle.disk_law.proofs.Changing.{IsKnownSlot, without_life, without_kept}
 use Rattle.unit_work.specs.Marks.{is_marked}
-use Rattle.program_rows.specs.Open.{HoldsAlone}
-use Rattle.program_rows.specs.OnSlots.{SlotsState, HaveSlots, GivesUpSo, touched_in}
-use Rattle.journal.specs.Turning.{AreNumbered, unit_of, with_unit}
-use Rattle.journal.specs.Carried.{resource_of, HoldTouched, IsTouchedBy, IsLifeOf}
-use Rattle.journal.specs.Going.{Continues}
+use Rattle.program_rows.specs.OpenUnits.{HoldsAlone}
+use Rattle.program_rows.specs.SlotsState.{SlotsState, HaveSlots, GivesUpSo, touched_in}
+use Rattle.journal.specs.UnitNumbers.{AreUnitsNumbered, unit_of_region, with_unit}
+use Rattle.journal.specs.CarriedLife.{resource_of, HoldTouched, IsTouchedBy, IsLifeOf}
+use Rattle.journal.specs.LifeByCall.{Continues}
 use Rattle.journal.proofs.Ended.{put_so, marks_back, units_then, syncs_then}
 use Rattle.journal.proofs.Numbers.{same_or_apart, set_at, IsSetAt, set_else, index_else}
 use Rattle.journal.proofs.Stores.{has_stores, stays_there}
 
 -- nothing is appended
-pub no_bytes : (log : Writer) → log ≡ with_bytes [] log
+pub no_bytes : (log : Writer) → log ≡ with_bytes_behind [] log
 no_bytes log = ap (λ (b : List ℕ). record log { appended = b }) (sym (append-nil log.appended))
 
 module _ (system : System) (lasting : LastingState) (before after : List (Option Slot)) (was table : EnqueueTable) (slots : SlotsState) (units : List ℕ) (next : ℕ) (life : LifeOnDisk)
     (l : IsLifeOf system lasting before was slots units next life)
     (leave : (other d : ℕ) (image : List Row) → HoldsAlone was other (resource_of d image) → HoldsAlone table other (resource_of d image)) where
   -- The regions hold no less, and the same have messages.
-  pub goes_with : AreNumbered after units next → IsLifeOf system lasting after table slots units next life
+  pub goes_with : AreUnitsNumbered after units next → IsLifeOf system lasting after table slots units next life
   goes_with numbers = record {
     of_system = l.of_system;
     lasts = l.lasts;
@@ -53,19 +53,19 @@ module _ (system : System) (lasting : LastingState) (before after : List (Option
   }
 
   -- So nothing happens on the disk.
-  pub stays_as : AreNumbered after units next → Continues [] (IsLifeOf system lasting after table slots units next) life
+  pub stays_as : AreUnitsNumbered after units next → Continues [] (IsLifeOf system lasting after table slots units next) life
   stays_as numbers = record { behind = life; text = refl; now = refl; log = no_bytes life.log; kept = λ image k. k; is = goes_with numbers }
 
   -- ---- an empty region takes a message
 
-  module _ (region : ℕ) (least : 1 ≤ region) (empty : unit_of units region ≡ 0) (numbers : AreNumbered after (with_unit region next units) (next + 1)) where
+  module _ (region : ℕ) (least : 1 ≤ region) (empty : unit_of_region units region ≡ 0) (numbers : AreUnitsNumbered after (with_unit region next units) (next + 1)) where
     -- it keeps nothing
-    none_kept : (some : List Change) → AllByRecursion (λ c. IsSome (life.touches (unit_of units region) c.db c.slot)) some → some ≡ []
+    none_kept : (some : List Change) → AllByRecursion (λ c. IsSome (life.touches (unit_of_region units region) c.db c.slot)) some → some ≡ []
     none_kept [] all = refl
-    none_kept (c ∷ some) all = absurd (by (life.touches (unit_of units region) c.db c.slot) refl all.0) where
-      by : (o : Option Touch) → life.touches (unit_of units region) c.db c.slot ≡ o → IsSome o → ⊥
+    none_kept (c ∷ some) all = absurd (by (life.touches (unit_of_region units region) c.db c.slot) refl all.0) where
+      by : (o : Option Touch) → life.touches (unit_of_region units region) c.db c.slot ≡ o → IsSome o → ⊥
       by None e h = cc
-      by (Some t) e h = omega (arith, (l.touched.each (unit_of units region) c.db c.slot t e).some, empty)
+      by (Some t) e h = omega (arith, (l.touched.each (unit_of_region units region) c.db c.slot t e).some, empty)
 
     other_region : (unit d s : ℕ) (by : IsTouchedBy was slots units unit d s) → by.region ≡ region → ⊥
     other_region unit d s by same =
@@ -83,11 +83,11 @@ module _ (system : System) (lasting : LastingState) (before after : List (Option
           alone = leave by.region d (image_at d s slots.committed) by.alone;
         }
 
-    kept_then : (other : ℕ) → 1 ≤ other → AllByRecursion (λ c. IsSome (life.touches (unit_of (with_unit region next units) other) c.db c.slot)) (touched_in other slots)
+    kept_then : (other : ℕ) → 1 ≤ other → AllByRecursion (λ c. IsSome (life.touches (unit_of_region (with_unit region next units) other) c.db c.slot)) (touched_in other slots)
     kept_then other low = by (same_or_apart other region) where
-      by : (other ≡ region) ⊎ (other ≡ region → ⊥) → AllByRecursion (λ c. IsSome (life.touches (unit_of (with_unit region next units) other) c.db c.slot)) (touched_in other slots)
+      by : (other ≡ region) ⊎ (other ≡ region → ⊥) → AllByRecursion (λ c. IsSome (life.touches (unit_of_region (with_unit region next units) other) c.db c.slot)) (touched_in other slots)
       by (inl same) =
-          subst (λ (some : List Change). AllByRecursion (λ c. IsSome (life.touches (unit_of (with_unit region next units) other) c.db c.slot)) some)
+          subst (λ (some : List Change). AllByRecursion (λ c. IsSome (life.touches (unit_of_region (with_unit region next units) other) c.db c.slot)) some)
           (sym (none_kept (touched_in region slots) (l.touched.kept region least)) ∙ ap (λ r. touched_in r slots) (sym same)) tt
       by (inr apart) =
           subst (λ u. AllByRecursion (λ c. IsSome (life.touches u c.db c.slot)) (touched_in other slots))
@@ -128,17 +128,17 @@ module _ (system : System) (n : ℕ) (lasting : LastingState) (before after : Li
     (l : IsLifeOf system lasting before was old units next life) (have : HaveSlots system.databases n old) (had : HaveSlots system.databases n new) (one_sector : AllByRecursion (λ dbd. dbd.sectors ≤ 1) system.databases)
     (holds : HoldTouched was old) (unit region : ℕ) (least : 1 ≤ region) (found : slice_get units (region - 1) ≡ Some unit) (some : 0 < unit)
     (leave : (other d : ℕ) (image : List Row) → (other ≡ region → ⊥) → HoldsAlone was other (resource_of d image) → HoldsAlone table other (resource_of d image))
-    (numbers : AreNumbered after (with_unit region 0 units) next) (up : GivesUpSo region old new) where
+    (numbers : AreUnitsNumbered after (with_unit region 0 units) next) (up : GivesUpSo region old new) where
   abbrev marks : ℕ → ℕ → Bool
   marks = λ d s. is_marked new.changed d s
 
   abbrev life_up : LifeOnDisk
-  life_up = without_unit unit marks life
+  life_up = life_without_unit unit marks life
 
   known_so : (place number : ℕ) (dbd : Dbd) → slice_get system.databases place ≡ Some dbd → number < dbd.roots → IsKnownSlot system (place + 1) number
   known_so place number dbd found_there below = record { place = place; is = refl; dbd = dbd; found = found_there; below = below }
 
-  back : Rattle.disk_law.specs.Changes.MarksBack unit marks life
+  back : Rattle.disk_law.specs.SlotChanges.MarksBack unit marks life
   back = marks_back system n lasting before was table old units next life l have holds unit region least found some new up
 
   there_so : (d s : ℕ) → IsSlotOf old.stores d s → IsSlotOf new.stores d s
@@ -164,7 +164,7 @@ module _ (system : System) (n : ℕ) (lasting : LastingState) (before after : Li
       stores = has_stores system n new had one_sector life_up l.of_system
           (λ place number dbd found_there below. put_so system n lasting before was table old units next life l have holds unit region least found some new up (place + 1) number (known_so place number dbd found_there below))
           (λ place number dbd found_there below. refl);
-      committed = λ place number dbd found_there below. l.committed place number dbd found_there below ∙ ap (λ (stores : List Stored). bytes_at (place + 1) number stores) (sym up.committed);
+      committed = λ place number dbd found_there below. l.committed place number dbd found_there below ∙ ap (λ (stores : List Stored). image_bytes_at (place + 1) number stores) (sym up.committed);
       numbers = numbers;
       touched = units_then system n lasting before was table old units next life l have holds unit region least found some new there_so up.touched leave committed_stays 0 next (inl refl) l.numbers.some (omega arith);
       syncs = syncs_then system n lasting before was table old units next life l have holds unit region least found some new there_so up.touched leave committed_stays 0 next (inl refl) l.numbers.some (omega arith);

@@ -9,14 +9,14 @@ use Rattle.model_data.specs.declared.row.Row.{Row}
 use Rattle.model_data.proofs.Entries.{all_map}
 use Rattle.model_system.specs.System.{System}
 use Rattle.seg_store.specs.Slots.{Stored, AreSlots}
-use Rattle.unit_work.specs.Images.{slots_at, bytes_at, IsSlotOf}
-use Rattle.checkpointing.specs.Written.{AreOf, DirtySlot}
-use Rattle.disk_law.specs.Checkpointing.{is_changed, HasStores}
+use Rattle.unit_work.specs.Images.{slots_of_database, image_bytes_at, IsSlotOf}
+use Rattle.checkpointing.specs.DirtySlots.{AreStoresOf, DirtySlot}
+use Rattle.disk_law.specs.LifeCheckpoint.{is_slot_changed, HasStores}
 use Rattle.disk_law.specs.Life as life
 use Rattle.disk_law.proofs.Changing.{IsKnownSlot}
 use Rattle.disk_law.proofs.Recovering.{all_at, index_found}
 use Rattle.unit_work.specs.Marks.{is_marked}
-use Rattle.program_rows.specs.OnSlots.{SlotsState, HaveSlots, all_stores}
+use Rattle.program_rows.specs.SlotsState.{SlotsState, HaveSlots, slots_stores}
 use Rattle.journal.proofs.Places.{there_of, known_of, bytes_of_place}
 
 -- a number that is listed is found by a test on all
@@ -29,7 +29,7 @@ listed (n ∷ numbers) (suc index) number found = by (n == number) (listed numbe
   by true e = refl
   by false e = e
 
-pub marked_of_place : (changed : List (List ℕ)) (place number : ℕ) → is_marked changed (place + 1) number ≡ is_changed changed place number
+pub marked_of_place : (changed : List (List ℕ)) (place number : ℕ) → is_marked changed (place + 1) number ≡ is_slot_changed changed place number
 marked_of_place changed place number = ap (λ k. list_any (λ n. n == number) (slice_index_or changed k [])) (omega arith)
 
 module _ (system : System) (regions : ℕ) (slots : SlotsState) (have : HaveSlots system.databases regions slots) (one_sector : AllByRecursion (λ dbd. dbd.sectors ≤ 1) system.databases) where
@@ -43,26 +43,26 @@ module _ (system : System) (regions : ℕ) (slots : SlotsState) (have : HaveSlot
       all_map (λ (s : Stored). s.dbd) (λ (dbd : Dbd). dbd.sectors ≤ 1) slots.committed
       (subst (λ (dbds : List Dbd). AllByRecursion (λ dbd. dbd.sectors ≤ 1) dbds) (sym have.committed) one_sector)
 
-  dirty_below : (place number : ℕ) (slot : DirtySlot (all_stores slots) place number) → number < slot.store.dbd.roots
+  dirty_below : (place number : ℕ) (slot : DirtySlot (slots_stores slots) place number) → number < slot.store.dbd.roots
   dirty_below place number slot =
       let marked : is_marked slots.changed (place + 1) number ≡ true =
       marked_of_place slots.changed place number
       ∙ ap (λ (numbers : List ℕ). list_any (λ n. n == number) numbers) (index_found slots.changed place slot.numbers [] slot.changed)
       ∙ listed slot.numbers slot.index number slot.listed in
-      let here : slots_at (place + 1) slots.stores ≡ slot.store.slots =
+      let here : slots_of_database (place + 1) slots.stores ≡ slot.store.slots =
       ap (λ k. option_map_or (λ (s : Stored). s.slots) (slice_get slots.stores k) []) (omega arith) ∙ ap (λ (o : Option Stored). option_map_or (λ (s : Stored). s.slots) o []) slot.found in
       let valid = all_at (λ (s : Stored). AreSlots s.dbd s.slots) slots.stores place slot.store have.valid slot.found in
       omega (arith, have.marks (place + 1) number (omega arith) marked, ap (λ (l : List (List Row)). length l) here, valid.count)
 
-  pub are_of : AreOf system (all_stores slots)
+  pub are_of : AreStoresOf system (slots_stores slots)
   are_of = record { databases = have.stores; one_sector = stores_one; below = dirty_below }
 
   -- A life whose slots stand so, and are marked so, has these stores.
   pub has_stores : (l : life.LifeOnDisk) → l.system ≡ system
-      → life.EachSlot system (λ place number. l.present (place + 1) number ≡ bytes_at (place + 1) number slots.stores)
-      → life.EachSlot system (λ place number. l.changed (place + 1) number ≡ is_marked slots.changed (place + 1) number) → HasStores l (all_stores slots)
+      → life.EachSlot system (λ place number. l.present (place + 1) number ≡ image_bytes_at (place + 1) number slots.stores)
+      → life.EachSlot system (λ place number. l.changed (place + 1) number ≡ is_marked slots.changed (place + 1) number) → HasStores l (slots_stores slots)
   has_stores l same stand marked = record {
-    are_of = subst (λ (y : System). AreOf y (all_stores slots)) (sym same) are_of;
+    are_of = subst (λ (y : System). AreStoresOf y (slots_stores slots)) (sym same) are_of;
     valid = have.valid;
     present = λ place number dbd found below.
         stand place number dbd (subst (λ (y : System). slice_get y.databases place ≡ Some dbd) same found) below ∙ bytes_of_place slots.stores place number;
@@ -71,13 +71,13 @@ module _ (system : System) (regions : ℕ) (slots : SlotsState) (have : HaveSlot
   }
 
 -- So each known slot of it stands, and is marked.
-module _ (system : System) (slots : SlotsState) (l : life.LifeOnDisk) (same : l.system ≡ system) (has : HasStores l (all_stores slots)) where
-  pub stands_so : (d s : ℕ) → IsKnownSlot system d s → l.present d s ≡ bytes_at d s slots.stores
+module _ (system : System) (slots : SlotsState) (l : life.LifeOnDisk) (same : l.system ≡ system) (has : HasStores l (slots_stores slots)) where
+  pub stands_so : (d s : ℕ) → IsKnownSlot system d s → l.present d s ≡ image_bytes_at d s slots.stores
   stands_so d s known =
       ap (λ k. l.present k s) known.is
       ∙ has.present known.place s known.dbd (subst (λ (y : System). slice_get y.databases known.place ≡ Some known.dbd) (sym same) known.found) known.below
       ∙ sym (bytes_of_place slots.stores known.place s)
-      ∙ sym (ap (λ k. bytes_at k s slots.stores) known.is)
+      ∙ sym (ap (λ k. image_bytes_at k s slots.stores) known.is)
 
   pub marked_so : (d s : ℕ) → IsKnownSlot system d s → l.changed d s ≡ is_marked slots.changed d s
   marked_so d s known =

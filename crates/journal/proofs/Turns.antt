@@ -11,12 +11,12 @@ use Rattle.tm_types.specs.declared.resource.Resource.{Resource}
 use Rattle.tm_types.specs.declared.resource.Mode.TheVariants.{Exclusive}
 use Rattle.model_messages.specs.declared.conversation.PadChange.{PadChange}
 use Rattle.model_messages.specs.declared.ended_message.EndedMessage.{EndedMessage}
-use Rattle.pi_enqueue.specs.Kept.{held}
+use Rattle.pi_enqueue.specs.KeptTable.{held_mode}
 use Rattle.pi_enqueue.proofs.Laws.{released_itself, released_others}
 use Rattle.model_data.specs.declared.row.Row.{Row}
 use Rattle.model_data.specs.declared.request.Request.{Request}
 use Rattle.model_data.specs.declared.victim.Victim.{Victim}
-use Rattle.model_data.specs.Ask.{released}
+use Rattle.model_data.specs.EnqueueRequests.{released}
 use Rattle.model_data.specs.Cycle.{after_victims}
 use Rattle.model_data.specs.Table.{EnqueueTable}
 use Rattle.model_system.specs.System.{System}
@@ -24,35 +24,35 @@ use Rattle.model_system.specs.Jobs.{Job, job_of}
 use Rattle.model_machine.specs.declared.entry.ControlCall.TheVariants.{Turn}
 use Rattle.model_machine.specs.declared.entry.Turned.{Turned}
 use Rattle.model_machine.specs.declared.entry.Turned.TheVariants.{Scheduled, Called, Next, QC, Done, Abended, Idle, Held, Waits, Backed}
-use Rattle.model_machine.specs.Lasting.{LastingStep, applied}
-use Rattle.model_machine.specs.Lasting.LastingStep.{Completes, Discards}
+use Rattle.model_machine.specs.LastingSteps.{LastingStep, applied}
+use Rattle.model_machine.specs.LastingSteps.LastingStep.{Completes, Discards}
 use Rattle.model_machine.specs.Machine.{LastingState, Moment, Slot, slot_at, message_at}
 use Rattle.model_machine.specs.Pick.{Candidate}
-use Rattle.model_machine.specs.Requests.{BreaksAt, BreaksWhere, asked_table, blocked_now, changes_now, slot_requests, table_after, table_by, without_victims}
-use Rattle.model_machine.specs.Steps.{After, AtWork, blocked_answer, ended_step, ending_step, lasting_step, need_now, next_message, pick_now, schedule_answer, slot_after, slot_answer, slot_work, step_in_turn, sync_answer, turn_answer, turn_by, turn_step, unless_blocked, work_answer, work_by}
+use Rattle.model_machine.specs.Requests.{BreaksRingsAt, BreaksWhere, asked_table, blocked_now, changes_now, slot_requests, table_after, table_by, without_victims}
+use Rattle.model_machine.specs.MachineCalls.{After, AtWork, blocked_answer, ended_step, ending_step, lasting_step, need_now, next_message, pick_now, schedule_answer, slot_after, slot_answer, slot_work, step_in_turn, sync_answer, turn_answer, turn_by, turn_step, unless_blocked, work_answer, work_by}
 use Rattle.model_machine.specs.Trial.{Advance, Trial, outputs_of, pad_of, trial_of}
 use Rattle.model_machine.specs.Trial.Advance.{Goes, Stops}
 use Rattle.model_machine.specs.Trial.WorkEnd.{Ends, Syncs, Abends}
-use Rattle.model_machine.specs.Work.{given_now}
+use Rattle.model_machine.specs.WorkSoFar.{given_now}
 use Rattle.model_image.specs.States.{has_right_pad}
 use Rattle.log_records.specs.declared.record.Record.{Record}
-use Rattle.log_records.specs.Spelling.{spelling}
+use Rattle.log_records.specs.RecordSpelling.{record_spelling}
 use Rattle.seg_store.specs.Slots.{rows_of_slots}
-use Rattle.model_image.specs.Records.{step_records}
-use Rattle.system_types.specs.Valid.{IsSystem}
+use Rattle.model_image.specs.StepRecords.{step_records}
+use Rattle.system_types.specs.ValidSystem.{IsSystem}
 use Rattle.image_law.proofs.Rows.{rows_aside}
-use Rattle.image_law.specs.Rooms.{StaysSound}
+use Rattle.image_law.specs.SoundMachine.{StaysSound}
 use Rattle.image_law.proofs.Steps.{stays_sound}
 use Rattle.image_law.proofs.Works.{SendsWell, work_sends}
 use Rattle.disk_law.specs.Life.{LifeOnDisk}
 use Rattle.disk_law.proofs.Recovering.{index_found}
-use Rattle.journal.specs.Counts.{AreUnspent}
-use Rattle.program_rows.specs.Open.{HoldsAlone}
-use Rattle.program_rows.specs.OnSlots.{SlotsState, HaveSlots, CommitsSo}
-use Rattle.journal.specs.Doing.{DoesSo, QuietUnlessCalled}
-use Rattle.journal.specs.Turning.{AreNumbered, next_after, unit_of, units_after, with_unit, without_units}
-use Rattle.journal.specs.Carried.{resource_of, HoldTouched, IsCarriedBy, IsLifeOf}
-use Rattle.journal.specs.Going.{Continues, GoesOn, StepsOn}
+use Rattle.journal.specs.UnspentCounts.{AreUnspent}
+use Rattle.program_rows.specs.OpenUnits.{HoldsAlone}
+use Rattle.program_rows.specs.SlotsState.{SlotsState, HaveSlots, CommitsSo}
+use Rattle.journal.specs.TurnChanges.{DoesSo, QuietUnlessCalled}
+use Rattle.journal.specs.UnitNumbers.{AreUnitsNumbered, next_after, unit_of_region, units_after, with_unit, without_units}
+use Rattle.journal.specs.CarriedLife.{resource_of, HoldTouched, IsCarriedBy, IsLifeOf}
+use Rattle.journal.specs.LifeByCall.{Continues, LifeGoesOn, LifeStepsOn}
 use Rattle.journal.proofs.Calls.{call_goes}
 use Rattle.journal.proofs.Ended.{get_of_index}
 use Rattle.journal.proofs.Ending.{complete_goes, discard_goes}
@@ -68,8 +68,8 @@ told_by unit lasting step = option_map_or (λ s. step_records unit s lasting) st
 
 -- a call with a step takes it, and one without goes on
 abbrev pub GoesBy : Option LastingStep → List ℕ → System → Moment → SlotsState → List ℕ → ℕ → LifeOnDisk → Type 0
-GoesBy None bytes system moment slots units next life = GoesOn bytes system moment slots units next life
-GoesBy (Some step) bytes system moment slots units next life = StepsOn bytes system moment slots units next life
+GoesBy None bytes system moment slots units next life = LifeGoesOn bytes system moment slots units next life
+GoesBy (Some step) bytes system moment slots units next life = LifeStepsOn bytes system moment slots units next life
 
 pub room_of : (some records : List Record) (life : LifeOnDisk) → some ≡ records → HasRoom some life → HasRoom records life
 room_of some records life same room = subst (λ (rs : List Record). HasRoom rs life) same room
@@ -84,7 +84,7 @@ victims_leave (v ∷ victims) was now leave other resource alone = victims_leave
     by : (b : Bool) → one == v.region ≡ b → HoldsAlone (released v.region now) one r
     by true e =
         let same : one ≡ v.region = eqb-true one v.region e in
-        let none : held one r (released v.region was).holds ≡ None = ap (λ k. held k r (released v.region was).holds) same ∙ released_itself v.region r was in
+        let none : held_mode one r (released v.region was).holds ≡ None = ap (λ k. held_mode k r (released v.region was).holds) same ∙ released_itself v.region r was in
         let clash : None ≡ Some Exclusive = sym none ∙ held_one in absurd cc
     by false e = release_leaves v.region one now r e (leave one r (sym (released_others v.region one r was e) ∙ held_one))
 
@@ -128,7 +128,7 @@ completed_rows id lines outputs pad lasting = sym (ap (λ (x : LastingState). x.
 module _ (system : System) (valid : IsSystem system) (n : ℕ) (moment : Moment) (old new : SlotsState) (units : List ℕ) (next : ℕ) (life : LifeOnDisk)
     (c : IsCarriedBy system moment old units next life) (unspent : AreUnspent moment.lasting)
     (have : HaveSlots system.databases n old) (had : HaveSlots system.databases n new) (one_sector : AllByRecursion (λ dbd. dbd.sectors ≤ 1) system.databases) (holds : HoldTouched moment.enqueues old)
-    (region : ℕ) (least : 1 ≤ region) (most : region ≤ n) (victims : List Victim) (right_victims : BreaksAt system moment region victims (slot_at moment region))
+    (region : ℕ) (least : 1 ≤ region) (most : region ≤ n) (victims : List Victim) (right_victims : BreaksRingsAt system moment region victims (slot_at moment region))
     (right : list_all (has_right_pad system) (After system moment (Turn region) victims).lasting.conversations ≡ true)
     (holds_then : HoldTouched (After system moment (Turn region) victims).enqueues new) (rows_are : map (λ s. rows_of_slots s.slots) new.committed ≡ (After system moment (Turn region) victims).lasting.rows)
     (records : List Record) where
@@ -136,14 +136,14 @@ module _ (system : System) (valid : IsSystem system) (n : ℕ) (moment : Moment)
   after = After system moment (Turn region) victims
 
   abbrev unit : ℕ
-  unit = unit_of units region
+  unit = unit_of_region units region
 
   sound : StaysSound system after
   sound = stays_sound system valid moment (has_terminals system moment.lasting c.is.names) c.sound (Turn region) victims right_victims right
 
   -- a life that goes with what the machine comes to is carried by it
   carried : (bytes : List ℕ) (lasting : LastingState) (regions : List (Option Slot)) (table : EnqueueTable) (units_then : List ℕ) (next_then : ℕ) → after.lasting ≡ lasting → after.slots ≡ regions → after.enqueues ≡ table
-      → Continues bytes (IsLifeOf system lasting regions table new units_then next_then) life → GoesOn bytes system after new units_then next_then life
+      → Continues bytes (IsLifeOf system lasting regions table new units_then next_then) life → LifeGoesOn bytes system after new units_then next_then life
   carried bytes lasting regions table units_then next_then a b d goes = record {
     behind = goes.behind;
     text = goes.text;
@@ -160,11 +160,11 @@ module _ (system : System) (valid : IsSystem system) (n : ℕ) (moment : Moment)
   }
 
   -- what is told without a step
-  no_step : (bytes : List ℕ) (units_then : List ℕ) (next_then : ℕ) → bytes ≡ flat_map spelling (records ++ []) → GoesOn bytes system after new units_then next_then life → GoesOn (flat_map spelling (records ++ [])) system after new units_then next_then life
-  no_step bytes units_then next_then same goes = subst (λ (b : List ℕ). GoesOn b system after new units_then next_then life) same goes
+  no_step : (bytes : List ℕ) (units_then : List ℕ) (next_then : ℕ) → bytes ≡ flat_map record_spelling (records ++ []) → LifeGoesOn bytes system after new units_then next_then life → LifeGoesOn (flat_map record_spelling (records ++ [])) system after new units_then next_then life
+  no_step bytes units_then next_then same goes = subst (λ (b : List ℕ). LifeGoesOn b system after new units_then next_then life) same goes
 
-  nothing_told : records ≡ [] → [] ≡ flat_map spelling (records ++ [])
-  nothing_told none = sym (ap (λ (rs : List Record). flat_map spelling (rs ++ [])) none)
+  nothing_told : records ≡ [] → [] ≡ flat_map record_spelling (records ++ [])
+  nothing_told none = sym (ap (λ (rs : List Record). flat_map record_spelling (rs ++ [])) none)
 
   -- what a turn comes to, by its step, the region's slot before it, and its answer
   abbrev ComesTo : Option LastingStep → Option Slot → Turned → Type 0
@@ -174,7 +174,7 @@ module _ (system : System) (valid : IsSystem system) (n : ℕ) (moment : Moment)
       → after.enqueues ≡ table_after turned region (table_by system moment region found)
       → QuietUnlessCalled records turned → DoesSo system.databases n moment.slots old new unit region records turned
       → HasRoom (records ++ told_by unit moment.lasting step) life
-      → GoesBy step (flat_map spelling (records ++ told_by unit moment.lasting step)) system after new (units_after turned region next units) (next_after turned next) life
+      → GoesBy step (flat_map record_spelling (records ++ told_by unit moment.lasting step)) system after new (units_after turned region next units) (next_after turned next) life
 
   -- the number of a region goes with its slot
   number_fits : (found : Option Slot) → slot_at moment region ≡ found → (u : ℕ) → slice_get units (region - 1) ≡ Some u → nat_lt 0 u ≡ is_some found
@@ -188,7 +188,7 @@ module _ (system : System) (valid : IsSystem system) (n : ℕ) (moment : Moment)
     by None e f = absurd (get_past moment.slots (region - 1) (omega (arith, slice_get_within units (region - 1) u is, c.is.numbers.count)) e)
     by (Some slot) e f = c.is.numbers.busy (region - 1) u slot is e ∙ ap is_some f
 
-  kept_numbers : (found : Option Slot) → slot_at moment region ≡ found → AreNumbered (slice_set moment.slots (region - 1) found) units next
+  kept_numbers : (found : Option Slot) → slot_at moment region ≡ found → AreUnitsNumbered (slice_set moment.slots (region - 1) found) units next
   kept_numbers found here = numbered_kept moment.slots units next c.is.numbers (region - 1) found (number_fits found here)
 
   without_none : (regions : List (Option Slot)) → victims ≡ [] → without_victims victims regions ≡ regions
@@ -201,7 +201,7 @@ module _ (system : System) (valid : IsSystem system) (n : ℕ) (moment : Moment)
   -- ---- nothing happens, but that a region may have asked
 
   still : (found : Option Slot) → slot_at moment region ≡ found → victims ≡ [] → after.lasting ≡ moment.lasting → after.slots ≡ without_victims victims (slice_set moment.slots (region - 1) found) → after.enqueues ≡ table_by system moment region found
-      → records ≡ [] → new ≡ old → GoesOn (flat_map spelling (records ++ [])) system after new units next life
+      → records ≡ [] → new ≡ old → LifeGoesOn (flat_map record_spelling (records ++ [])) system after new units next life
   still found here none a b d quiet same =
       no_step [] units next (nothing_told quiet)
       (carried [] moment.lasting (slice_set moment.slots (region - 1) found) (table_by system moment region found) units next a (b ∙ without_none (slice_set moment.slots (region - 1) found) none) d
@@ -285,9 +285,9 @@ module _ (system : System) (valid : IsSystem system) (n : ℕ) (moment : Moment)
     called function pcb status none a b d quiet does room =
         let slot_then : Slot = record slot { calls = slot.calls + 1 } in
         let regions : List (Option Slot) = slice_set moment.slots (region - 1) (Some slot_then) in
-        let same_bytes : flat_map spelling records ≡ flat_map spelling (records ++ []) = ap (λ (rs : List Record). flat_map spelling rs) (sym (append-nil records)) in
-        no_step (flat_map spelling records) units next same_bytes
-        (carried (flat_map spelling records) moment.lasting regions asked units next a (b ∙ without_none regions none) d
+        let same_bytes : flat_map record_spelling records ≡ flat_map record_spelling (records ++ []) = ap (λ (rs : List Record). flat_map record_spelling rs) (sym (append-nil records)) in
+        no_step (flat_map record_spelling records) units next same_bytes
+        (carried (flat_map record_spelling records) moment.lasting regions asked units next a (b ∙ without_none regions none) d
         (call_goes system n moment.lasting moment.slots regions moment.enqueues asked old new units next life c.is have had one_sector holds
         (subst (λ (t : EnqueueTable). HoldTouched t new) d holds_then) (asked_leave (Some slot))
         (numbered_kept moment.slots units next c.is.numbers (region - 1) (Some slot_then) (λ u is. number_fits (Some slot) here u is))
@@ -316,15 +316,15 @@ module _ (system : System) (valid : IsSystem system) (n : ℕ) (moment : Moment)
 
       -- it is completed, and the region's slot is this one then, its number that one
       completed : (turned : Turned) (slot_then : Option Slot) (number later : ℕ) → (number ≡ 0) ⊎ (next ≤ number) → number < later → next ≤ later
-          → AreNumbered (slice_set moment.slots (region - 1) slot_then) (with_unit region number units) later → victims ≡ [] → table_after turned region asked ≡ released region asked
+          → AreUnitsNumbered (slice_set moment.slots (region - 1) slot_then) (with_unit region number units) later → victims ≡ [] → table_after turned region asked ≡ released region asked
           → after.lasting ≡ applied completion moment.lasting → after.slots ≡ without_victims victims (slice_set moment.slots (region - 1) slot_then) → after.enqueues ≡ table_after turned region asked
           → records ≡ [] → CommitsSo region old new → HasRoom (records ++ step_records unit completion moment.lasting) life
-          → StepsOn (flat_map spelling (records ++ step_records unit completion moment.lasting)) system after new (with_unit region number units) later life
+          → LifeStepsOn (flat_map record_spelling (records ++ step_records unit completion moment.lasting)) system after new (with_unit region number units) later life
       completed turned slot_then number later fresh low more numbers none table a b d quiet commits room =
           let same : records ++ step_records unit completion moment.lasting ≡ step_records unit completion moment.lasting = ap (λ (rs : List Record). rs ++ step_records unit completion moment.lasting) quiet in
-          subst (λ (rs : List Record). StepsOn (flat_map spelling rs) system after new (with_unit region number units) later life) (sym same)
+          subst (λ (rs : List Record). LifeStepsOn (flat_map record_spelling rs) system after new (with_unit region number units) later life) (sym same)
           (complete_goes system valid n moment after old new units next life c sound unspent have had one_sector holds unit region least found_unit some (leaves turned table d) number later fresh low more
-          (subst (λ (rs : List (Option Slot)). AreNumbered rs (with_unit region number units) later) (sym (b ∙ without_none (slice_set moment.slots (region - 1) slot_then) none)) numbers)
+          (subst (λ (rs : List (Option Slot)). AreUnitsNumbered rs (with_unit region number units) later) (sym (b ∙ without_none (slice_set moment.slots (region - 1) slot_then) none)) numbers)
           slot.id its_message.message its_message.at its_message.its trial.databases.rows (outputs_of trial) (pad_of trial) a sends.bytes sends.receivers (sends.flagged its_message.message its_message.at) commits
           (rows_are ∙ ap (λ (l : LastingState). l.rows) a ∙ completed_rows slot.id trial.databases.rows (outputs_of trial) (pad_of trial) moment.lasting)
           (room_of (records ++ step_records unit completion moment.lasting) (step_records unit completion moment.lasting) life same room))
@@ -345,10 +345,10 @@ module _ (system : System) (valid : IsSystem system) (n : ℕ) (moment : Moment)
       abended abend none a b d quiet does room =
           let step : LastingStep = Discards slot.id abend in
           let same : records ++ step_records unit step moment.lasting ≡ step_records unit step moment.lasting = ap (λ (rs : List Record). rs ++ step_records unit step moment.lasting) quiet in
-          subst (λ (rs : List Record). StepsOn (flat_map spelling rs) system after new (with_unit region 0 units) next life) (sym same)
+          subst (λ (rs : List Record). LifeStepsOn (flat_map record_spelling rs) system after new (with_unit region 0 units) next life) (sym same)
           (discard_goes system valid n moment after old new units next life c sound unspent have had one_sector holds unit region least found_unit some (leaves (Abended slot.code slot.id abend) refl d)
           0 next (inl refl) c.is.numbers.some (omega arith)
-          (subst (λ (rs : List (Option Slot)). AreNumbered rs (with_unit region 0 units) next) (sym (b ∙ without_none (slice_set moment.slots (region - 1) None) none)) (numbered_ended moment.slots units next (region - 1) c.is.numbers))
+          (subst (λ (rs : List (Option Slot)). AreUnitsNumbered rs (with_unit region 0 units) next) (sym (b ∙ without_none (slice_set moment.slots (region - 1) None) none)) (numbered_ended moment.slots units next (region - 1) c.is.numbers))
           slot.id its_message.message its_message.at its_message.its abend a does
           (room_of (records ++ step_records unit step moment.lasting) (step_records unit step moment.lasting) life same room))
 
@@ -368,15 +368,15 @@ module _ (system : System) (valid : IsSystem system) (n : ℕ) (moment : Moment)
     busy_goes (Some blocked) are = blocked_goes blocked victims refl
     busy_goes None are = works_goes are (slot_work system moment.lasting slot) refl
 
-  turn_by_slot : (found : Option Slot) → slot_at moment region ≡ found → BreaksAt system moment region victims found → ComesTo (option_and_then (step_in_turn system moment region) found) found (turn_by system moment region victims found)
+  turn_by_slot : (found : Option Slot) → slot_at moment region ≡ found → BreaksRingsAt system moment region victims found → ComesTo (option_and_then (step_in_turn system moment region) found) found (turn_by system moment region victims found)
   turn_by_slot None here are = scheduled here are (pick_now system moment region) (need_now moment) (nat_lt system.qbytes (need_now moment)) refl
   turn_by_slot (Some slot) here are = busy_goes slot here (blocked_now system moment region slot) are
 
   -- The region has its turn.
   pub turn_goes : (turned : Turned) → turned ≡ turn_answer system moment region victims → QuietUnlessCalled records turned → DoesSo system.databases n moment.slots old new unit region records turned
       → HasRoom (records ++ told_by unit moment.lasting (lasting_step system moment (Turn region))) life
-      → GoesBy (lasting_step system moment (Turn region)) (flat_map spelling (records ++ told_by unit moment.lasting (lasting_step system moment (Turn region)))) system after new
+      → GoesBy (lasting_step system moment (Turn region)) (flat_map record_spelling (records ++ told_by unit moment.lasting (lasting_step system moment (Turn region)))) system after new
       (units_after turned region next units) (next_after turned next) life
   turn_goes turned is quiet does room =
-      subst (λ (t : Turned). GoesBy (lasting_step system moment (Turn region)) (flat_map spelling (records ++ told_by unit moment.lasting (lasting_step system moment (Turn region)))) system after new (units_after t region next units) (next_after t next) life) (sym is)
+      subst (λ (t : Turned). GoesBy (lasting_step system moment (Turn region)) (flat_map record_spelling (records ++ told_by unit moment.lasting (lasting_step system moment (Turn region)))) system after new (units_after t region next units) (next_after t next) life) (sym is)
       (turn_by_slot (slot_at moment region) refl right_victims refl refl refl (subst (QuietUnlessCalled records) is quiet) (subst (DoesSo system.databases n moment.slots old new unit region records) is does) room)

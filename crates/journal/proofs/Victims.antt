@@ -8,7 +8,7 @@ use Rattle.std.proofs.lemmas.Option.{slice_get_within}
 use Rattle.disk_law.proofs.Recovering.{index_found}
 use Rattle.model_system.specs.System.{System}
 use Rattle.model_data.specs.declared.victim.Victim.{Victim}
-use Rattle.model_data.specs.Ask.{released}
+use Rattle.model_data.specs.EnqueueRequests.{released}
 use Rattle.model_data.specs.Cycle.{after_victims}
 use Rattle.model_data.specs.Table.{EnqueueTable}
 use Rattle.model_machine.specs.Machine.{LastingState, Slot, slot_in}
@@ -17,13 +17,13 @@ use Rattle.pi_enqueue.proofs.Keeping.{kept_released}
 use Rattle.log_writer.specs.Writer.{Writer}
 use Rattle.unit_work.specs.declared.change.Change.{Change}
 use Rattle.disk_law.specs.Life.{LifeOnDisk}
-use Rattle.disk_law.specs.Changes.{with_bytes}
-use Rattle.program_rows.specs.Open.{HoldsAlone}
-use Rattle.program_rows.specs.OnSlots.{SlotsState, HaveSlots, GivesUpSo, touched_in}
-use Rattle.journal.specs.Doing.{GiveUpSo}
-use Rattle.journal.specs.Turning.{AreNumbered, unit_of, with_unit, without_units}
-use Rattle.journal.specs.Carried.{resource_of, HoldTouched, IsLifeOf}
-use Rattle.journal.specs.Going.{Continues}
+use Rattle.disk_law.specs.SlotChanges.{with_bytes_behind}
+use Rattle.program_rows.specs.OpenUnits.{HoldsAlone}
+use Rattle.program_rows.specs.SlotsState.{SlotsState, HaveSlots, GivesUpSo, touched_in}
+use Rattle.journal.specs.TurnChanges.{GiveUpInOrder}
+use Rattle.journal.specs.UnitNumbers.{AreUnitsNumbered, unit_of_region, with_unit, without_units}
+use Rattle.journal.specs.CarriedLife.{resource_of, HoldTouched, IsLifeOf}
+use Rattle.journal.specs.LifeByCall.{Continues}
 use Rattle.journal.proofs.Ended.{get_of_index, none_touched, touched_else}
 use Rattle.journal.proofs.Holding.{release_leaves}
 use Rattle.journal.proofs.Numbers.{same_or_apart, numbered_ended}
@@ -35,7 +35,7 @@ continues_then first second P Q life c d = record {
   behind = d.behind;
   text = d.text ∙ c.text;
   now = d.now ∙ c.now;
-  log = d.log ∙ ap (λ (w : Writer). with_bytes second w) c.log ∙ ap (λ (b : List ℕ). record life.log { appended = b }) (Rattle.std.proofs.Common.append_assoc life.log.appended first second);
+  log = d.log ∙ ap (λ (w : Writer). with_bytes_behind second w) c.log ∙ ap (λ (b : List ℕ). record life.log { appended = b }) (Rattle.std.proofs.Common.append_assoc life.log.appended first second);
   kept = λ image k. d.kept image (c.kept image k);
   is = d.is;
 }
@@ -58,7 +58,7 @@ held_behind table old new region least holds up = record { held = held_then; com
         (sym (touched_else old new.touched region other [] least low apart up.touched)) (stay other apart (touched_in other old) (holds.held other low))
 
 -- a region that has a message has a number
-pub some_unit : (regions : List (Option Slot)) (units : List ℕ) (next region : ℕ) → AreNumbered regions units next → IsSome (slot_in regions region) → 0 < unit_of units region
+pub some_unit : (regions : List (Option Slot)) (units : List ℕ) (next region : ℕ) → AreUnitsNumbered regions units next → IsSome (slot_in regions region) → 0 < unit_of_region units region
 some_unit regions units next region n busy = by (slice_get regions (region - 1)) refl (slice_get units (region - 1)) refl busy where
   get_some : {A : Type 0} (xs : List A) (k : ℕ) (x : A) → slice_get xs k ≡ Some x → k < length xs
   get_some xs k x is = slice_get_within xs k x is
@@ -68,7 +68,7 @@ some_unit regions units next region n busy = by (slice_get regions (region - 1))
   get_past (x ∷ xs) zero low is = cc
   get_past (x ∷ xs) (suc k) low is = get_past xs k (omega (arith, low)) is
 
-  by : (o : Option (Option Slot)) → slice_get regions (region - 1) ≡ o → (p : Option ℕ) → slice_get units (region - 1) ≡ p → is_some (unwrap_or o None) ≡ true → 0 < unit_of units region
+  by : (o : Option (Option Slot)) → slice_get regions (region - 1) ≡ o → (p : Option ℕ) → slice_get units (region - 1) ≡ p → is_some (unwrap_or o None) ≡ true → 0 < unit_of_region units region
   by None e p f h = absurd cc
   by (Some slot) e None f h = absurd (get_past units (region - 1) (omega (arith, n.count, get_some regions (region - 1) slot e)) f)
   by (Some slot) e (Some unit) f h =
@@ -78,13 +78,13 @@ some_unit regions units next region n busy = by (slice_get regions (region - 1))
 module _ (system : System) (n : ℕ) (lasting : LastingState) (next : ℕ) (one_sector : AllByRecursion (λ dbd. dbd.sectors ≤ 1) system.databases) where
   -- All of them give up.
   pub victims_go : (victims : List Victim) (regions : List (Option Slot)) (table : EnqueueTable) (old new : SlotsState) (units : List ℕ) (life : LifeOnDisk) → IsLifeOf system lasting regions table old units next life
-      → HaveSlots system.databases n old → HoldTouched table old → GiveUpSo system.databases n regions victims old new
+      → HaveSlots system.databases n old → HoldTouched table old → GiveUpInOrder system.databases n regions victims old new
       → Continues [] (IsLifeOf system lasting (without_victims victims regions) (after_victims victims table) new (without_units victims units) next) life
   victims_go [] regions table old new units life l have holds up =
       subst (λ (slots : SlotsState). Continues [] (IsLifeOf system lasting regions table slots units next) life) (sym up)
       (stays_as system lasting regions regions table table old units next life l (λ other d image alone. alone) l.numbers)
   victims_go (v ∷ victims) regions table old new units life l have holds up =
-      let unit : ℕ = unit_of units v.region in
+      let unit : ℕ = unit_of_region units v.region in
       let some : 0 < unit = some_unit regions units next v.region l.numbers up.busy in
       let found : slice_get units (v.region - 1) ≡ Some unit = get_of_index units (v.region - 1) unit refl some in
       let first =

@@ -4,22 +4,22 @@ ghost use Rattle.tm_disk.specs.Disk.{Stays, Within, Follows, Only, WritesAtMost,
 ghost use Rattle.restart_data.specs.Restart.{IsRestart};
 ghost use Rattle.restart_data.specs.Snapshot as sectors;
 ghost use Rattle.model_image.specs.Areas.{data_first};
-ghost use Rattle.seg_store.specs.WriteBack.{changed_count};
-ghost use Rattle.checkpointing.specs.Parts.{parts_of, sequence_behind, next_restart, next_writer, AreFree, IsOver};
-ghost use Rattle.checkpointing.specs.Written.{AreOf};
+ghost use Rattle.seg_store.specs.WrittenSlots.{changed_count};
+ghost use Rattle.checkpointing.specs.CheckpointParts.{checkpoint_parts_of, sequence_behind, next_restart, next_writer, AreAreasFree, IsOver};
+ghost use Rattle.checkpointing.specs.DirtySlots.{AreStoresOf};
 ghost use Rattle.checkpointing.specs.Checkpoint.{KeepsRecovery, IsCheckpointed};
-ghost use Rattle.checkpointing.specs.Texts.{KeepsText};
-ghost use Rattle.checkpointing.specs.Steps.{Takes};
-ghost use Rattle.checkpointing.specs.Conditions.{HasRestart, NoneIsAhead, ChangedAreNamed, ForceKeeps, SnapshotKeeps};
-ghost use Rattle.log_writer.specs.Log.{sectors_of, IsReady, AddsFront, AddsAll};
+ghost use Rattle.checkpointing.specs.DefinitionText.{KeepsText};
+ghost use Rattle.checkpointing.specs.CheckpointSteps.{Takes};
+ghost use Rattle.checkpointing.specs.CheckpointNeeds.{HasRestart, NoneIsAhead, ChangedAreNamed, ForceKeeps, SnapshotKeeps};
+ghost use Rattle.log_writer.specs.ForcedLog.{log_sectors_of, IsWriterReady, AddsFront, AddsAll};
 ghost use Rattle.disk_law.specs.Life.{LifeOnDisk};
-ghost use Rattle.disk_law.specs.Kept.{AreKept};
-ghost use Rattle.disk_law.specs.Steps.{StepOnDisk, after_step};
+ghost use Rattle.disk_law.specs.KeptImages.{AreImagesKept};
+ghost use Rattle.disk_law.specs.LifeSteps.{StepOnDisk, after_step, forced_by_step};
 ghost use Rattle.log_records.specs.declared.record.Record.{Record};
-ghost use Rattle.disk_law.specs.Committed.{Touches};
-ghost use Rattle.disk_law.specs.Checkpointing.{after_checkpoint};
-ghost use Rattle.journal.specs.State.{TellsRoom, TellsAllRoom, holding, forced, IsStepOf, RecoverEither};
-ghost use Rattle.journal.specs.Checkpoints.{parts_for, IsOf, CanCheckpoint};
+ghost use Rattle.disk_law.specs.CommittedBytes.{Touches};
+ghost use Rattle.disk_law.specs.LifeCheckpoint.{after_checkpoint};
+ghost use Rattle.journal.specs.JournalDisk.{TellsRoom, TellsAllRoom, holding, IsStepOf, RecoverEither};
+ghost use Rattle.journal.specs.CheckpointFor.{parts_for, AreCheckpointPartsOf, CanCheckpoint};
 
 use checkpointing::{PartsView, take};
 use image_loading::{log_first, snapshot_area, snapshot_first};
@@ -42,7 +42,7 @@ pub struct Journal {
 }
 
 impl Model for Journal {
-    ghost use Rattle.disk_law.specs.Journal.{JournalState};
+    ghost use Rattle.disk_law.specs.JournalState.{JournalState};
 
     ghost Value = { JournalState };
 
@@ -99,7 +99,7 @@ impl Journal {
     /// Exchanges what was appended for these bytes, for which the log area has room. This takes no memory: the records of a
     /// call are told behind what was appended before the call changes anything, and appended with it.
     pub fn exchange(&mut self, bytes: &mut Vec<u8>)
-        requires fits { self.old.log.place + sectors_of (length bytes.old.items) ≤ self.old.log.count }
+        requires fits { self.old.log.place + log_sectors_of (length bytes.old.items) ≤ self.old.log.count }
         ensures log { self.new.log ≡ holding bytes.old.items self.old.log }
         ensures bytes { bytes.new.items ≡ self.old.log.appended }
         ensures restart { self.new.restart ≡ self.old.restart }
@@ -113,20 +113,20 @@ impl Journal {
     pub fn force<D: Disk>(&mut self, disk: &mut D) -> Result<(), DiskFault>
         requires area { self.old.log.first + self.old.log.count ≤ (D.state disk.old).size }
         requires sequences { self.old.log.sequence + self.old.log.count < 2 ^ 64 }
-        requires ready { IsReady self.old.log (D.state disk.old) }
+        requires ready { IsWriterReady self.old.log (D.state disk.old) }
 
         ensures stays { Stays (D.state disk.old) (D.state disk.new) }
         // Whenever a crash comes, the log has gained a front of the records, and once it is done, all of them.
         ensures any_moment { Within (AddsFront self.old.log) (D.state disk.old) (D.state disk.new) }
         ensures done { OnOk result (Follows (AddsAll self.old.log) (D.state disk.old) (D.state disk.new)) }
         // So the image recovers to what lasted or to what lasts with the step, and then is one of the life behind it.
-        ensures crash { (life : LifeOnDisk) → (step : StepOnDisk) → IsStepOf self.old.log life step → AreKept life (D.state disk.old) → RecoverEither life.system life.lasting step.lasting (D.state disk.old) (D.state disk.new) }
-        ensures kept { OnOk result ((life : LifeOnDisk) → (step : StepOnDisk) → IsStepOf self.old.log life step → AreKept life (D.state disk.old) → AreKept (after_step step life) (D.state disk.new)) }
-        ensures log { OnOk result (self.new.log ≡ forced self.old.log) }
-        ensures ready { OnOk result (IsReady self.new.log (D.state disk.new)) }
+        ensures crash { (life : LifeOnDisk) → (step : StepOnDisk) → IsStepOf self.old.log life step → AreImagesKept life (D.state disk.old) → RecoverEither life.system life.lasting step.lasting (D.state disk.old) (D.state disk.new) }
+        ensures kept { OnOk result ((life : LifeOnDisk) → (step : StepOnDisk) → IsStepOf self.old.log life step → AreImagesKept life (D.state disk.old) → AreImagesKept (after_step step life) (D.state disk.new)) }
+        ensures log { OnOk result (self.new.log ≡ forced_by_step self.old.log) }
+        ensures ready { OnOk result (IsWriterReady self.new.log (D.state disk.new)) }
         ensures restart { self.new.restart ≡ self.old.restart }
 
-        ensures writes { WritesAtMost (sectors_of (length self.old.log.appended)) (D.state disk.old) (D.state disk.new) }
+        ensures writes { WritesAtMost (log_sectors_of (length self.old.log.appended)) (D.state disk.old) (D.state disk.new) }
         ensures no_fault { OnOk result ((D.state disk.new).faults ≡ (D.state disk.old).faults) }
         ensures cause { OnErr result (FailedSince (D.state disk.old) (D.state disk.new)) }
     {
@@ -137,14 +137,14 @@ impl Journal {
     fn write<D: Disk>(&mut self, disk: &mut D) -> Result<(), DiskFault>
         requires area { self.old.log.first + self.old.log.count ≤ (D.state disk.old).size }
         requires sequences { self.old.log.sequence + self.old.log.count < 2 ^ 64 }
-        requires ready { IsReady self.old.log (D.state disk.old) }
+        requires ready { IsWriterReady self.old.log (D.state disk.old) }
         ensures stays { Stays (D.state disk.old) (D.state disk.new) }
         ensures any_moment { Within (AddsFront self.old.log) (D.state disk.old) (D.state disk.new) }
         ensures done { OnOk result (Follows (AddsAll self.old.log) (D.state disk.old) (D.state disk.new)) }
-        ensures ready { OnOk result (IsReady self.new.log (D.state disk.new)) }
-        ensures log { OnOk result (self.new.log ≡ forced self.old.log) }
+        ensures ready { OnOk result (IsWriterReady self.new.log (D.state disk.new)) }
+        ensures log { OnOk result (self.new.log ≡ forced_by_step self.old.log) }
         ensures restart { self.new.restart ≡ self.old.restart }
-        ensures writes { WritesAtMost (sectors_of (length self.old.log.appended)) (D.state disk.old) (D.state disk.new) }
+        ensures writes { WritesAtMost (log_sectors_of (length self.old.log.appended)) (D.state disk.old) (D.state disk.new) }
         ensures no_fault { OnOk result ((D.state disk.new).faults ≡ (D.state disk.old).faults) }
         ensures cause { OnErr result (FailedSince (D.state disk.old) (D.state disk.new)) }
     {
@@ -174,13 +174,13 @@ impl Journal {
         ensures steps { Within (Takes (parts_for system.entry.now self.old.restart snapshot.entry.now) self.old.log stores.now) (D.state disk.old) (D.state disk.new) }
         ensures done { OnOk result (Follows (IsCheckpointed (parts_for system.entry.now self.old.restart snapshot.entry.now) self.old.log stores.now) (D.state disk.old) (D.state disk.new)) }
         // Each image is one of the life behind the checkpoint.
-        ensures kept { OnOk result ((life : LifeOnDisk) → (touches : Touches) → (told : List Record) → IsOf system.entry.now self.old stores.now snapshot.entry.now touches told (D.state disk.old) life → AreKept (after_checkpoint snapshot.entry.now touches life) (D.state disk.new)) }
+        ensures kept { OnOk result ((life : LifeOnDisk) → (touches : Touches) → (told : List Record) → AreCheckpointPartsOf system.entry.now self.old stores.now snapshot.entry.now touches told (D.state disk.old) life → AreImagesKept (after_checkpoint snapshot.entry.now touches life) (D.state disk.new)) }
         ensures restart { OnOk result (self.new.restart ≡ next_restart (parts_for system.entry.now self.old.restart snapshot.entry.now) self.old.log) }
         ensures log { OnOk result (self.new.log ≡ next_writer (parts_for system.entry.now self.old.restart snapshot.entry.now) self.old.log) }
-        ensures ready { OnOk result (IsReady self.new.log (D.state disk.new)) }
+        ensures ready { OnOk result (IsWriterReady self.new.log (D.state disk.new)) }
         ensures synced { OnOk result (Only (D.state disk.new).shown (D.state disk.new)) }
 
-        ensures writes { WritesAtMost (sectors_of (length self.old.log.appended) + changed_count stores.now.changed + sectors.sectors_of (length snapshot.entry.now) + 1) (D.state disk.old) (D.state disk.new) }
+        ensures writes { WritesAtMost (log_sectors_of (length self.old.log.appended) + changed_count stores.now.changed + sectors.snapshot_sectors_of (length snapshot.entry.now) + 1) (D.state disk.old) (D.state disk.new) }
         ensures no_fault { OnOk result ((D.state disk.new).faults ≡ (D.state disk.old).faults) }
         ensures cause { OnErr result (FailedSince (D.state disk.old) (D.state disk.new)) }
     {
@@ -207,30 +207,30 @@ impl Journal {
     ) -> Result<(), DiskFault>
         requires areas { data_first parts.now.system.now (length parts.now.system.now.databases) ≤ (D.state disk.old).size }
         requires now { HasRestart parts.now.system.now parts.now.now.now (D.state disk.old) }
-        requires free { AreFree (parts_of parts.now) }
+        requires free { AreAreasFree (checkpoint_parts_of parts.now) }
         requires some { 0 < length parts.now.snapshot.now }
         requires fits { length parts.now.snapshot.now ≤ parts.now.snapshot_sectors * 4064 }
-        requires next { IsRestart (next_restart (parts_of parts.now) self.old.log) }
-        requires stores { AreOf parts.now.system.now stores.now }
-        requires named { ChangedAreNamed (parts_of parts.now) self.old.log stores.now (D.state disk.old) }
-        requires over { IsOver (parts_of parts.now) self.old.log }
+        requires next { IsRestart (next_restart (checkpoint_parts_of parts.now) self.old.log) }
+        requires stores { AreStoresOf parts.now.system.now stores.now }
+        requires named { ChangedAreNamed (checkpoint_parts_of parts.now) self.old.log stores.now (D.state disk.old) }
+        requires over { IsOver (checkpoint_parts_of parts.now) self.old.log }
         requires log_area { self.old.log.first + self.old.log.count ≤ (D.state disk.old).size }
-        requires ready { IsReady self.old.log (D.state disk.old) }
+        requires ready { IsWriterReady self.old.log (D.state disk.old) }
         requires ahead { NoneIsAhead parts.now.system.now parts.now.now.now.epoch (sequence_behind self.old.log) (D.state disk.old) }
-        requires force_keeps { ForceKeeps (parts_of parts.now) self.old.log (D.state disk.old) }
-        requires snapshot_keeps { SnapshotKeeps (parts_of parts.now) self.old.log stores.now (D.state disk.old) }
+        requires force_keeps { ForceKeeps (checkpoint_parts_of parts.now) self.old.log (D.state disk.old) }
+        requires snapshot_keeps { SnapshotKeeps (checkpoint_parts_of parts.now) self.old.log stores.now (D.state disk.old) }
 
         ensures stays { Stays (D.state disk.old) (D.state disk.new) }
         ensures any_moment { Within (KeepsRecovery parts.entry.now.system.now) (D.state disk.old) (D.state disk.new) }
         ensures texts { Within (KeepsText parts.entry.now.system.now) (D.state disk.old) (D.state disk.new) }
-        ensures steps { Within (Takes (parts_of parts.entry.now) self.old.log stores.now) (D.state disk.old) (D.state disk.new) }
-        ensures done { OnOk result (Follows (IsCheckpointed (parts_of parts.entry.now) self.old.log stores.now) (D.state disk.old) (D.state disk.new)) }
-        ensures restart { OnOk result (self.new.restart ≡ next_restart (parts_of parts.entry.now) self.old.log) }
-        ensures log { OnOk result (self.new.log ≡ next_writer (parts_of parts.entry.now) self.old.log) }
-        ensures ready { OnOk result (IsReady self.new.log (D.state disk.new)) }
+        ensures steps { Within (Takes (checkpoint_parts_of parts.entry.now) self.old.log stores.now) (D.state disk.old) (D.state disk.new) }
+        ensures done { OnOk result (Follows (IsCheckpointed (checkpoint_parts_of parts.entry.now) self.old.log stores.now) (D.state disk.old) (D.state disk.new)) }
+        ensures restart { OnOk result (self.new.restart ≡ next_restart (checkpoint_parts_of parts.entry.now) self.old.log) }
+        ensures log { OnOk result (self.new.log ≡ next_writer (checkpoint_parts_of parts.entry.now) self.old.log) }
+        ensures ready { OnOk result (IsWriterReady self.new.log (D.state disk.new)) }
         ensures synced { OnOk result (Only (D.state disk.new).shown (D.state disk.new)) }
 
-        ensures writes { WritesAtMost (sectors_of (length self.old.log.appended) + changed_count stores.now.changed + sectors.sectors_of (length parts.entry.now.snapshot.now) + 1) (D.state disk.old) (D.state disk.new) }
+        ensures writes { WritesAtMost (log_sectors_of (length self.old.log.appended) + changed_count stores.now.changed + sectors.snapshot_sectors_of (length parts.entry.now.snapshot.now) + 1) (D.state disk.old) (D.state disk.new) }
         ensures no_fault { OnOk result ((D.state disk.new).faults ≡ (D.state disk.old).faults) }
         ensures cause { OnErr result (FailedSince (D.state disk.old) (D.state disk.new)) }
     {

@@ -8,7 +8,7 @@ use Rattle.tm_types.specs.declared.abend.AbendCode.{AbendCode}
 use Rattle.tm_types.specs.Name.{IsName, is_name_byte}
 use Rattle.tm_types.specs.Digits.{digit, four_digits}
 use Rattle.tm_types.specs.Segment.{IsSegmentText, is_printable}
-use Rattle.model_machine.specs.Lasting.{abend_text}
+use Rattle.model_machine.specs.LastingSteps.{dfs555i_text}
 
 abbrev Printable : List ℕ → Type 0
 Printable text = list_all is_printable text ≡ true
@@ -38,7 +38,7 @@ digits_print n =
     and_from (is_printable (digit (n / 1000))) _ (digit_prints (n / 1000)) (and_from (is_printable (digit (n / 100))) _ (digit_prints (n / 100))
     (and_from (is_printable (digit (n / 10))) _ (digit_prints (n / 10)) (and_from (is_printable (digit n)) true (digit_prints n) refl)))
 
-pub text_is : (code : List ℕ) (abend : AbendCode) (text : List ℕ) → IsName code → text ≡ abend_text code abend → IsSegmentText text
+pub text_is : (code : List ℕ) (abend : AbendCode) (text : List ℕ) → IsName code → text ≡ dfs555i_text code abend → IsSegmentText text
 text_is code abend text named is =
     let start = codes "DFS555I TRAN " in
     let middle = codes " ABEND U" in

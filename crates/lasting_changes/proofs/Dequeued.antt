@@ -6,12 +6,12 @@ use Rattle.std.proofs.lemmas.Bool.{eq-eqb}
 use Rattle.std.proofs.lemmas.Bool.Decides.{nat_tests}
 use Rattle.tm_types.specs.declared.message.Reply.{Reply}
 use Rattle.model_messages.specs.declared.replies.TerminalReplies.{TerminalReplies}
-use Rattle.model_messages.specs.Outputs.{IsTerminal, first_number, is_of, replies_at, reply_at, with_terminal, without_first}
-use Rattle.model_machine.specs.Lasting.{without_replies}
+use Rattle.model_messages.specs.Outputs.{IsTerminal, first_number, are_replies_of, replies_at, reply_at, with_terminal, without_first}
+use Rattle.model_machine.specs.LastingSteps.{without_replies}
 use Rattle.out_queues.specs.declared.outputs.AckAhead.{AckAhead}
 use Rattle.out_queues.specs.declared.outputs.Acked.{Acked}
 use Rattle.out_queues.specs.declared.outputs.Acked.TheVariants.{Removed, Already}
-use Rattle.out_queues.specs.Acknowledged.{ack_answer, left_by}
+use Rattle.out_queues.specs.Acknowledgement.{replies_ack_answer, left_by_acknowledgement}
 
 -- ---- the first
 
@@ -23,7 +23,7 @@ no_first t none = ap (λ rs. record t { replies = rs }) (by t.replies none) wher
 
 none_kept : (name : List ℕ) (ts : List TerminalReplies) → reply_at name 0 ts ≡ None → ts ≡ with_terminal name without_first ts
 none_kept name [] none = refl
-none_kept name (t ∷ ts) none = by (is_of name t) none (none_kept name ts) where
+none_kept name (t ∷ ts) none = by (are_replies_of name t) none (none_kept name ts) where
   by : (b : Bool) → option_and_then (λ u. slice_get u.replies 0) (if b then Some t else replies_at name ts) ≡ None → (reply_at name 0 ts ≡ None → ts ≡ with_terminal name without_first ts)
       → t ∷ ts ≡ (if b then without_first t ∷ ts else t ∷ with_terminal name without_first ts)
   by true e later = ap (λ u. u ∷ ts) (sym (no_first t e))
@@ -43,9 +43,9 @@ first_there name ts number e = by (replies_at name ts) e where
   by (Some t) f = refl
   by None f = cc
 
-removed_by : (t : TerminalReplies) (number : ℕ) → Some number ≡ option_map (λ (r : Reply). r.number) (slice_get t.replies 0) → ack_answer t number ≡ Ok Removed
+removed_by : (t : TerminalReplies) (number : ℕ) → Some number ≡ option_map (λ (r : Reply). r.number) (slice_get t.replies 0) → replies_ack_answer t number ≡ Ok Removed
 removed_by t number e = by (slice_get t.replies 0) refl e where
-  by : (o : Option Reply) → slice_get t.replies 0 ≡ o → Some number ≡ option_map (λ (r : Reply). r.number) o → ack_answer t number ≡ Ok Removed
+  by : (o : Option Reply) → slice_get t.replies 0 ≡ o → Some number ≡ option_map (λ (r : Reply). r.number) o → replies_ack_answer t number ≡ Ok Removed
   by None is f = cc
   by (Some r) is f =
       let same : number ≡ r.number = cc in
@@ -62,13 +62,13 @@ removed_by t number e = by (slice_get t.replies 0) refl e where
         tests false false b e1 e2 e3 = cc
 
 pub first_removed : (name : List ℕ) (ts new : List TerminalReplies) (number : ℕ) (result : Result Acked AckAhead) → Some number ≡ option_map (λ r. r.number) (reply_at name 0 ts)
-    → IsSomeAnd (replies_at name ts) (λ t. result ≡ ack_answer t number) → IfOk result (λ acked. new ≡ left_by acked name ts) → new ≡ with_terminal name without_first ts
+    → IsSomeAnd (replies_at name ts) (λ t. result ≡ replies_ack_answer t number) → IfOk result (λ acked. new ≡ left_by_acknowledgement acked name ts) → new ≡ with_terminal name without_first ts
 first_removed name ts new number result e answers left =
     by (replies_at name ts) e answers where
       done : result ≡ Ok Removed → new ≡ with_terminal name without_first ts
-      done is = subst (λ r. IfOk r (λ acked. new ≡ left_by acked name ts)) is left
+      done is = subst (λ r. IfOk r (λ acked. new ≡ left_by_acknowledgement acked name ts)) is left
 
-      by : (o : Option TerminalReplies) → Some number ≡ option_map (λ (r : Reply). r.number) (option_and_then (λ u. slice_get u.replies 0) o) → IsSomeAnd o (λ t. result ≡ ack_answer t number)
+      by : (o : Option TerminalReplies) → Some number ≡ option_map (λ (r : Reply). r.number) (option_and_then (λ u. slice_get u.replies 0) o) → IsSomeAnd o (λ t. result ≡ replies_ack_answer t number)
           → new ≡ with_terminal name without_first ts
       by (Some t) f a = done (a ∙ removed_by t number f)
       by None f a = absurd a
@@ -82,8 +82,8 @@ kept_at name ts = option_map_or (λ t. length t.replies) (replies_at name ts) 0
 
 pub all_before : (name : List ℕ) (ts : List TerminalReplies) → with_terminal name without_replies (with_terminal name without_first ts) ≡ with_terminal name without_replies ts
 all_before name [] = refl
-all_before name (t ∷ ts) = by (is_of name t) refl (all_before name ts) where
-  by : (b : Bool) → is_of name t ≡ b → with_terminal name without_replies (with_terminal name without_first ts) ≡ with_terminal name without_replies ts
+all_before name (t ∷ ts) = by (are_replies_of name t) refl (all_before name ts) where
+  by : (b : Bool) → are_replies_of name t ≡ b → with_terminal name without_replies (with_terminal name without_first ts) ≡ with_terminal name without_replies ts
       → with_terminal name without_replies (if b then without_first t ∷ ts else t ∷ with_terminal name without_first ts) ≡ (if b then without_replies t ∷ ts else t ∷ with_terminal name without_replies ts)
   by true is later = ap (λ b. if b then without_replies t ∷ ts else without_first t ∷ with_terminal name without_replies ts) is
   by false is later =
@@ -96,8 +96,8 @@ fewer (r ∷ rs) = omega arith
 
 pub one_fewer : (name : List ℕ) (ts : List TerminalReplies) → kept_at name (with_terminal name without_first ts) ≡ kept_at name ts - 1
 one_fewer name [] = refl
-one_fewer name (t ∷ ts) = by (is_of name t) refl (one_fewer name ts) where
-  by : (b : Bool) → is_of name t ≡ b → kept_at name (with_terminal name without_first ts) ≡ kept_at name ts - 1
+one_fewer name (t ∷ ts) = by (are_replies_of name t) refl (one_fewer name ts) where
+  by : (b : Bool) → are_replies_of name t ≡ b → kept_at name (with_terminal name without_first ts) ≡ kept_at name ts - 1
       → kept_at name (if b then without_first t ∷ ts else t ∷ with_terminal name without_first ts) ≡ option_map_or (λ u. length u.replies) (if b then Some t else replies_at name ts) 0 - 1
   by true is later = ap (λ b. option_map_or (λ (u : TerminalReplies). length u.replies) (if b then Some (without_first t) else replies_at name ts) 0) is ∙ fewer t.replies
   by false is later = ap (λ b. option_map_or (λ (u : TerminalReplies). length u.replies) (if b then Some t else replies_at name (with_terminal name without_first ts)) 0) is ∙ later
@@ -110,7 +110,7 @@ no_replies t none = ap (λ rs. record t { replies = rs }) (by t.replies none) wh
 
 pub none_left : (name : List ℕ) (ts : List TerminalReplies) → kept_at name ts ≡ 0 → ts ≡ with_terminal name without_replies ts
 none_left name [] none = refl
-none_left name (t ∷ ts) none = by (is_of name t) none (none_left name ts) where
+none_left name (t ∷ ts) none = by (are_replies_of name t) none (none_left name ts) where
   by : (b : Bool) → option_map_or (λ u. length u.replies) (if b then Some t else replies_at name ts) 0 ≡ 0 → (kept_at name ts ≡ 0 → ts ≡ with_terminal name without_replies ts)
       → t ∷ ts ≡ (if b then without_replies t ∷ ts else t ∷ with_terminal name without_replies ts)
   by true e later = ap (λ u. u ∷ ts) (sym (no_replies t e))

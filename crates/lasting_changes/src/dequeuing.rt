@@ -2,7 +2,7 @@
 ghost use Rattle.std.specs.Prelude.{◌≡◌, length};
 ghost use Rattle.std.specs.Option.{option_map, option_map_or};
 ghost use Rattle.model_messages.specs.Outputs.{replies_at, reply_at, with_terminal, without_first};
-ghost use Rattle.model_machine.specs.Lasting.{without_replies};
+ghost use Rattle.model_machine.specs.LastingSteps.{without_replies};
 
 use out_queues::Outputs;
 use tm_types::Name;

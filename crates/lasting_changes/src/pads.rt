@@ -1,6 +1,6 @@
 //! What becomes of conversations.
 ghost use Rattle.std.specs.Prelude.{◌≡◌};
-ghost use Rattle.model_machine.specs.Lasting.{with_begun, padded, discarded_pad};
+ghost use Rattle.model_machine.specs.LastingSteps.{with_begun, with_pad_changed, discarded_pad};
 
 use conversation::Conversations;
 use model_messages::{Conversation, PadChange};
@@ -18,7 +18,7 @@ pub fn begin(conversations: &mut Conversations, terminal: &Name, begins: Option<
 
 /// This becomes of the pad of the origin's conversation.
 pub fn change_pad(conversations: &mut Conversations, origin: &Name, change: PadChange)
-    ensures { conversations.new ≡ padded change origin.now conversations.old }
+    ensures { conversations.new ≡ with_pad_changed change origin.now conversations.old }
 {
     match change {
         PadChange::Stays => {}

@@ -3,7 +3,7 @@ ghost use Rattle.std.specs.Prelude.{◌≡◌, ◌<◌, Some, IfSome, length};
 ghost use Rattle.std.specs.Str.{bytes_eq};
 ghost use Rattle.model_system.specs.Lists.{change_at};
 ghost use Rattle.model_machine.specs.Machine.{setting_place, terminal_place};
-ghost use Rattle.model_machine.specs.Lasting.{stopped_code, stopped_terminal};
+ghost use Rattle.model_machine.specs.LastingSteps.{stopped_code, stopped_terminal};
 
 use model_machine::{CodeSetting, TerminalState};
 use tm_types::Name;

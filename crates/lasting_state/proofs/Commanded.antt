@@ -3,9 +3,9 @@ use Rattle.std.proofs.Common.{◌≡◌, List, refl, ap, ◌∙◌}
 use Rattle.tm_types.specs.declared.command.LastingCommand.{LastingCommand}
 use Rattle.tm_types.specs.declared.command.LastingCommand.TheVariants.{StartTransaction, StopTransaction, StartTerminal, StopTerminal, DequeueFirst, DequeueAll, Exit}
 use Rattle.model_machine.specs.declared.lasting.CodeSetting.{CodeSetting}
-use Rattle.model_machine.specs.Lasting.{applied}
-use Rattle.model_machine.specs.Lasting.LastingStep.{Commands}
-use Rattle.lasting_state.specs.Commands.{AppliesCommand, command_done, command_set}
+use Rattle.model_machine.specs.LastingSteps.{applied}
+use Rattle.model_machine.specs.LastingSteps.LastingStep.{Commands}
+use Rattle.lasting_state.specs.DoneCommands.{AppliesCommand, command_done, command_set}
 use Rattle.lasting_state.specs.Tables.{TablesState, lasting_of}
 
 applies : (command : LastingCommand) (t : TablesState) (settings : List CodeSetting) → lasting_of (command_set command settings) (command_done command t) ≡ applied (Commands command) (lasting_of settings t)

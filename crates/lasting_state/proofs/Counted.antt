@@ -9,16 +9,16 @@ use Rattle.std.proofs.lemmas.List.{append_assoc, drop_more, take_more}
 use Rattle.std.proofs.lemmas.List.Sums.{sum_by_push}
 use Rattle.model_messages.specs.declared.conversation.PadChange.{PadChange}
 use Rattle.model_messages.specs.declared.replies.TerminalReplies.{TerminalReplies}
-use Rattle.model_messages.specs.Outputs.{is_of, next_of, replies_at, with_terminal, with_reply}
+use Rattle.model_messages.specs.Outputs.{are_replies_of, next_of, replies_at, with_terminal, with_reply}
 use Rattle.model_messages.specs.declared.ended_message.EndedMessage.{EndedMessage}
 use Rattle.model_machine.specs.Machine.{LastingState}
-use Rattle.model_machine.specs.Lasting.{replied, switched}
+use Rattle.model_machine.specs.LastingSteps.{replied, switched}
 use Rattle.log_records.specs.declared.record.Record.{Record}
 use Rattle.log_records.specs.declared.record.Record.TheVariants.{Input, Reply, Completed, SyncPoint}
-use Rattle.log_records.specs.Spelling.{spelling, IsRecord}
-use Rattle.model_image.specs.Records.{output_records, completion_records}
-use Rattle.lasting_state.specs.Ranges.{HaveCounts}
-use Rattle.lasting_state.specs.Counted.{goes_to, counted_record, counted_records, counted_completion, id_after}
+use Rattle.log_records.specs.RecordSpelling.{record_spelling, IsLogRecord}
+use Rattle.model_image.specs.StepRecords.{output_records, completion_records}
+use Rattle.lasting_state.specs.RecordRanges.{HaveCounts}
+use Rattle.lasting_state.specs.OutputRecords.{goes_to, counted_record, counted_records, counted_completion, id_after}
 
 -- ---- a terminal with one reply more
 
@@ -26,9 +26,9 @@ use Rattle.lasting_state.specs.Counted.{goes_to, counted_record, counted_records
 pub there_still : (other name : List ℕ) (segments : List (List ℕ)) (outputs : List TerminalReplies)
     → is_some (replies_at other (with_terminal name (with_reply segments) outputs)) ≡ is_some (replies_at other outputs)
 there_still other name segments [] = refl
-there_still other name segments (t ∷ ts) = by (is_of name t) (is_of other t) refl (there_still other name segments ts)
+there_still other name segments (t ∷ ts) = by (are_replies_of name t) (are_replies_of other t) refl (there_still other name segments ts)
   where
-    by : (b c : Bool) → is_of other t ≡ c → is_some (replies_at other (with_terminal name (with_reply segments) ts)) ≡ is_some (replies_at other ts)
+    by : (b c : Bool) → are_replies_of other t ≡ c → is_some (replies_at other (with_terminal name (with_reply segments) ts)) ≡ is_some (replies_at other ts)
         → is_some (replies_at other (cond b (with_reply segments t ∷ ts) (t ∷ with_terminal name (with_reply segments) ts))) ≡ is_some (cond c (Some t) (replies_at other ts))
     by true true q rest = ap (λ c. is_some (cond c (Some (with_reply segments t)) (replies_at other ts))) q
     by true false q rest = ap (λ c. is_some (cond c (Some (with_reply segments t)) (replies_at other ts))) q
@@ -42,9 +42,9 @@ next_by found = option_map_or (λ t. t.next) found 1
 own_next : (name : List ℕ) (segments : List (List ℕ)) (outputs : List TerminalReplies) → is_some (replies_at name outputs) ≡ true
     → next_of name (with_terminal name (with_reply segments) outputs) ≡ next_of name outputs + 1
 own_next name segments [] there = let clash : false ≡ true = there in absurd (cc)
-own_next name segments (t ∷ ts) there = by (is_of name t) refl there (own_next name segments ts)
+own_next name segments (t ∷ ts) there = by (are_replies_of name t) refl there (own_next name segments ts)
   where
-    by : (b : Bool) → is_of name t ≡ b → is_some (cond b (Some t) (replies_at name ts)) ≡ true
+    by : (b : Bool) → are_replies_of name t ≡ b → is_some (cond b (Some t) (replies_at name ts)) ≡ true
         → (is_some (replies_at name ts) ≡ true → next_of name (with_terminal name (with_reply segments) ts) ≡ next_of name ts + 1)
         → next_by (replies_at name (cond b (with_reply segments t ∷ ts) (t ∷ with_terminal name (with_reply segments) ts))) ≡ next_by (cond b (Some t) (replies_at name ts)) + 1
     by true q g rest = ap (λ b. next_by (cond b (Some (with_reply segments t)) (replies_at name ts))) q
@@ -54,9 +54,9 @@ own_next name segments (t ∷ ts) there = by (is_of name t) refl there (own_next
 other_next : (name to : List ℕ) (segments : List (List ℕ)) (outputs : List TerminalReplies) → bytes_eq to name ≡ false
     → next_of name (with_terminal to (with_reply segments) outputs) ≡ next_of name outputs
 other_next name to segments [] apart = refl
-other_next name to segments (t ∷ ts) apart = by (is_of to t) (is_of name t) refl refl (other_next name to segments ts apart)
+other_next name to segments (t ∷ ts) apart = by (are_replies_of to t) (are_replies_of name t) refl refl (other_next name to segments ts apart)
   where
-    by : (b c : Bool) → is_of to t ≡ b → is_of name t ≡ c → next_of name (with_terminal to (with_reply segments) ts) ≡ next_of name ts
+    by : (b c : Bool) → are_replies_of to t ≡ b → are_replies_of name t ≡ c → next_of name (with_terminal to (with_reply segments) ts) ≡ next_of name ts
         → next_by (replies_at name (cond b (with_reply segments t ∷ ts) (t ∷ with_terminal to (with_reply segments) ts))) ≡ next_by (cond c (Some t) (replies_at name ts))
     by true true p q rest =
         let first : t.terminal ≡ to = (bytes_eq-Decides t.terminal to).0 p in
@@ -170,23 +170,23 @@ completion_counted unit origin id outputs pad terminals next lasting same_output
 -- ---- one output more is put
 pub put_more : (unit : ℕ) (origin : List ℕ) (terminals : List TerminalReplies) (outputs : List EndedMessage) (place id next earlier : ℕ) (output : EndedMessage) (before after whole : List ℕ)
     → place < length outputs → output ≡ get_or outputs place output
-    → before ++ flat_map spelling (counted_records unit origin (take place outputs) (drop place outputs) terminals id) ≡ whole
+    → before ++ flat_map record_spelling (counted_records unit origin (take place outputs) (drop place outputs) terminals id) ≡ whole
     → HaveCounts (drop place outputs)
     → earlier ≡ count_by (goes_to output.to) (take place outputs)
-    → after ≡ before ++ spelling (counted_record unit origin earlier output terminals id) → next ≡ id_after output terminals id
-    → (after ++ flat_map spelling (counted_records unit origin (take (place + 1) outputs) (drop (place + 1) outputs) terminals next) ≡ whole) × HaveCounts (drop (place + 1) outputs)
+    → after ≡ before ++ record_spelling (counted_record unit origin earlier output terminals id) → next ≡ id_after output terminals id
+    → (after ++ flat_map record_spelling (counted_records unit origin (take (place + 1) outputs) (drop (place + 1) outputs) terminals next) ≡ whole) × HaveCounts (drop (place + 1) outputs)
 put_more unit origin terminals outputs place id next earlier output before after whole below here so counts counted is moved =
     let rest : drop place outputs ≡ output ∷ drop (place + 1) outputs = drop_more outputs place output below ∙ ap (λ o. o ∷ drop (place + 1) outputs) (sym here) in
     let done : take (place + 1) outputs ≡ take place outputs ++ output ∷ [] = take_more outputs place output below ∙ ap (λ o. take place outputs ++ o ∷ []) (sym here) in
     let record_is : counted_record unit origin earlier output terminals id ≡ counted_record unit origin (count_by (goes_to output.to) (take place outputs)) output terminals id =
     ap (λ n. counted_record unit origin n output terminals id) counted in (
-      ap (λ bs. bs ++ flat_map spelling (counted_records unit origin (take (place + 1) outputs) (drop (place + 1) outputs) terminals next)) is
-          ∙ ap (λ n. (before ++ spelling (counted_record unit origin earlier output terminals id)) ++ flat_map spelling (counted_records unit origin (take (place + 1) outputs) (drop (place + 1) outputs) terminals n)) moved
-          ∙ ap (λ os. (before ++ spelling (counted_record unit origin earlier output terminals id)) ++ flat_map spelling (counted_records unit origin os (drop (place + 1) outputs) terminals (id_after output terminals id))) done
-          ∙ ap (λ r. (before ++ spelling r) ++ flat_map spelling (counted_records unit origin (take place outputs ++ output ∷ []) (drop (place + 1) outputs) terminals (id_after output terminals id))) record_is
-          ∙ append_assoc before (spelling (counted_record unit origin (count_by (goes_to output.to) (take place outputs)) output terminals id))
-          (flat_map spelling (counted_records unit origin (take place outputs ++ output ∷ []) (drop (place + 1) outputs) terminals (id_after output terminals id)))
-          ∙ ap (λ os. before ++ flat_map spelling (counted_records unit origin (take place outputs) os terminals id)) (sym rest)
+      ap (λ bs. bs ++ flat_map record_spelling (counted_records unit origin (take (place + 1) outputs) (drop (place + 1) outputs) terminals next)) is
+          ∙ ap (λ n. (before ++ record_spelling (counted_record unit origin earlier output terminals id)) ++ flat_map record_spelling (counted_records unit origin (take (place + 1) outputs) (drop (place + 1) outputs) terminals n)) moved
+          ∙ ap (λ os. (before ++ record_spelling (counted_record unit origin earlier output terminals id)) ++ flat_map record_spelling (counted_records unit origin os (drop (place + 1) outputs) terminals (id_after output terminals id))) done
+          ∙ ap (λ r. (before ++ record_spelling r) ++ flat_map record_spelling (counted_records unit origin (take place outputs ++ output ∷ []) (drop (place + 1) outputs) terminals (id_after output terminals id))) record_is
+          ∙ append_assoc before (record_spelling (counted_record unit origin (count_by (goes_to output.to) (take place outputs)) output terminals id))
+          (flat_map record_spelling (counted_records unit origin (take place outputs ++ output ∷ []) (drop (place + 1) outputs) terminals (id_after output terminals id)))
+          ∙ ap (λ os. before ++ flat_map record_spelling (counted_records unit origin (take place outputs) os terminals id)) (sym rest)
           ∙ so,
       (subst HaveCounts rest counts).1,
     )
@@ -194,16 +194,16 @@ put_more unit origin terminals outputs place id next earlier output before after
 -- and it is a record, so that all are where those to come are
 pub valid_more : (unit : ℕ) (origin : List ℕ) (terminals : List TerminalReplies) (outputs : List EndedMessage) (place id next earlier : ℕ) (output : EndedMessage) (whole : Type 0)
     → place < length outputs → output ≡ get_or outputs place output
-    → (AllByRecursion IsRecord (counted_records unit origin (take place outputs) (drop place outputs) terminals id) → whole)
+    → (AllByRecursion IsLogRecord (counted_records unit origin (take place outputs) (drop place outputs) terminals id) → whole)
     → earlier ≡ count_by (goes_to output.to) (take place outputs)
-    → IsRecord (counted_record unit origin earlier output terminals id) → next ≡ id_after output terminals id
-    → AllByRecursion IsRecord (counted_records unit origin (take (place + 1) outputs) (drop (place + 1) outputs) terminals next) → whole
+    → IsLogRecord (counted_record unit origin earlier output terminals id) → next ≡ id_after output terminals id
+    → AllByRecursion IsLogRecord (counted_records unit origin (take (place + 1) outputs) (drop (place + 1) outputs) terminals next) → whole
 valid_more unit origin terminals outputs place id next earlier output whole below here so counted valid moved later =
     let rest : drop place outputs ≡ output ∷ drop (place + 1) outputs = drop_more outputs place output below ∙ ap (λ o. o ∷ drop (place + 1) outputs) (sym here) in
     let done : take (place + 1) outputs ≡ take place outputs ++ output ∷ [] = take_more outputs place output below ∙ ap (λ o. take place outputs ++ o ∷ []) (sym here) in
     so
-    (subst (λ (os : List EndedMessage). AllByRecursion IsRecord (counted_records unit origin (take place outputs) os terminals id)) (sym rest) (
-      subst (λ n. IsRecord (counted_record unit origin n output terminals id)) counted valid,
-      subst (λ n. AllByRecursion IsRecord (counted_records unit origin (take place outputs ++ output ∷ []) (drop (place + 1) outputs) terminals n)) moved
-          (subst (λ (os : List EndedMessage). AllByRecursion IsRecord (counted_records unit origin os (drop (place + 1) outputs) terminals next)) done later),
+    (subst (λ (os : List EndedMessage). AllByRecursion IsLogRecord (counted_records unit origin (take place outputs) os terminals id)) (sym rest) (
+      subst (λ n. IsLogRecord (counted_record unit origin n output terminals id)) counted valid,
+      subst (λ n. AllByRecursion IsLogRecord (counted_records unit origin (take place outputs ++ output ∷ []) (drop (place + 1) outputs) terminals n)) moved
+          (subst (λ (os : List EndedMessage). AllByRecursion IsLogRecord (counted_records unit origin os (drop (place + 1) outputs) terminals next)) done later),
     ))

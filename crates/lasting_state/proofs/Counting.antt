@@ -3,7 +3,7 @@ use Rattle.std.proofs.Common.{◌≡◌, ℕ, ◌+◌, ◌<◌, true, false, Lis
 use Rattle.std.specs.Prelude.{count_by}
 use Rattle.std.proofs.lemmas.List.Sums.{count_by_more_yes, count_by_more_no}
 use Rattle.model_messages.specs.declared.ended_message.EndedMessage.{EndedMessage}
-use Rattle.lasting_state.specs.Counted.{goes_to}
+use Rattle.lasting_state.specs.OutputRecords.{goes_to}
 
 pub counted_output : (name : List ℕ) (outputs : List EndedMessage) (index n : ℕ) (output : EndedMessage) → index < length outputs → output ≡ get_or outputs index output
     → n ≡ count_by (goes_to name) (take index outputs) → goes_to name output ≡ true → n + 1 ≡ count_by (goes_to name) (take (index + 1) outputs)

@@ -7,8 +7,8 @@ use Rattle.std.proofs.lemmas.Option.{slice_get_within, get_or_from_slice_get}
 use Rattle.std.proofs.lemmas.Bool.{and_parts, ne_eqb}
 use Rattle.tm_types.specs.Segment.{IsSegmentText, is_printable}
 use Rattle.tm_types.specs.Words.{operands}
-use Rattle.model_machine.specs.Lasting.{without_word}
-use Rattle.lasting_state.specs.Kept.{kept_at}
+use Rattle.model_machine.specs.LastingSteps.{without_word}
+use Rattle.lasting_state.specs.KeptInputs.{kept_at}
 
 drop_prints : (n : ℕ) (text : List ℕ) → list_all is_printable text ≡ true → list_all is_printable (drop n text) ≡ true
 drop_prints zero text h = h

@@ -10,40 +10,40 @@ use Rattle.model_messages.specs.declared.conversation.PadChange.{PadChange}
 use Rattle.model_messages.specs.declared.conversation.TerminalConversation.{TerminalConversation}
 use Rattle.model_messages.specs.declared.queued.Queued.{Queued}
 use Rattle.model_messages.specs.declared.replies.TerminalReplies.{TerminalReplies}
-use Rattle.model_messages.specs.Queue.{QueuesState, IsNewId, has_id, queued_at, message_at, messages_of, without}
+use Rattle.model_messages.specs.Queue.{QueuesState, IsNewId, has_id, queued_at, queued_message, messages_of, without_id_queued}
 use Rattle.model_messages.specs.Outputs.{replies_at, with_terminal, with_reply}
 use Rattle.model_messages.proofs.Laws.{found_message, found_behind, message_found, new_id_without, messages_without}
 use Rattle.model_messages.specs.declared.ended_message.EndedMessage.{EndedMessage}
 use Rattle.model_machine.specs.Machine.{LastingState}
 use Rattle.model_machine.specs.declared.lasting.CodeSetting.{CodeSetting}
-use Rattle.model_machine.specs.Lasting.{finished as finished_state, finished_by, all_sent, switched, replied, without_message, abend_outputs, discarded_pad, padded, with_pad_by}
-use Rattle.model_machine.specs.Lasting.LastingStep.{Completes, Discards}
+use Rattle.model_machine.specs.LastingSteps.{finished as finished_state, finished_by, all_sent, switched, replied, without_message, abend_outputs, discarded_pad, with_pad_changed, with_pad_by}
+use Rattle.model_machine.specs.LastingSteps.LastingStep.{Completes, Discards}
 use Rattle.tm_types.specs.declared.abend.AbendCode.{AbendCode}
 use Rattle.model_data.specs.declared.row.Row.{Row}
-use Rattle.program_rows.specs.State.{DatabasesState, region_at, rows_of}
-use Rattle.program_rows.specs.Answering.{IsCommitted, IsGivenUp}
-use Rattle.lasting_state.specs.Tables.{TablesState, lasting_of, closed, finished, Applies, IsFinished, IsClosed}
-use Rattle.lasting_state.specs.Sending.{switches, switched_message, switched_messages, with_messages, with_replies, IsSent}
+use Rattle.program_rows.specs.DatabasesState.{DatabasesState, region_at, rows_of_stores}
+use Rattle.program_rows.specs.CallAnswers.{IsCommitted, IsGivenUp}
+use Rattle.lasting_state.specs.Tables.{TablesState, lasting_of, message_closed, message_finished, Applies, IsMessageFinished, IsMessageClosed}
+use Rattle.lasting_state.specs.SentOutputs.{outputs_to_codes, switched_message, switched_messages, with_messages, with_replies, IsSent}
 use Rattle.lasting_state.proofs.Sent.{with_terminal_none, switches_still, switches_code, switches_terminal}
 
-abbrev waiting : Message → Queued
+abbrev pub waiting : Message → Queued
 waiting message = record { message = message; holder = None }
 
 -- ---- the messages behind all others
 -- one that was there before goes, and they stay
 rest_stays : (origin : List ℕ) (outputs : List EndedMessage) (next id : ℕ) → id < next
-    → without id (map waiting (switched_messages origin outputs next)) ≡ map waiting (switched_messages origin outputs next)
+    → without_id_queued id (map waiting (switched_messages origin outputs next)) ≡ map waiting (switched_messages origin outputs next)
 rest_stays origin [] next id h = refl
 rest_stays origin (output ∷ outputs) next id h =
-    ap (λ b. cond (not b) (waiting (switched_message origin output next) ∷ without id (map waiting (switched_messages origin outputs (next + 1)))) (without id (map waiting (switched_messages origin outputs (next + 1)))))
+    ap (λ b. cond (not b) (waiting (switched_message origin output next) ∷ without_id_queued id (map waiting (switched_messages origin outputs (next + 1)))) (without_id_queued id (map waiting (switched_messages origin outputs (next + 1)))))
     (ne_eqb next id (λ e. absurd (omega (arith, h, e))))
     ∙ ap (λ qs. waiting (switched_message origin output next) ∷ qs) (rest_stays origin outputs (next + 1) id (omega (arith, h)))
 
 pub gone_before : (origin : List ℕ) (outputs : List EndedMessage) (next id : ℕ) (queued : List Queued) → id < next
-    → without id (with_messages (switched_messages origin outputs next) queued) ≡ with_messages (switched_messages origin outputs next) (without id queued)
+    → without_id_queued id (with_messages (switched_messages origin outputs next) queued) ≡ with_messages (switched_messages origin outputs next) (without_id_queued id queued)
 gone_before origin outputs next id queued h =
     filter-append (λ q. not (has_id id q)) queued (map waiting (switched_messages origin outputs next))
-    ∙ ap (λ qs. without id queued ++ qs) (rest_stays origin outputs next id h)
+    ∙ ap (λ qs. without_id_queued id queued ++ qs) (rest_stays origin outputs next id h)
 
 -- what is found has an id below a new one
 pub found_below : (id next : ℕ) (queued : List Queued) → IsNewId next queued → IsSome (queued_at id queued) → id < next
@@ -84,33 +84,33 @@ new_id_sent origin outputs next queued h =
 
 -- the next id stays above all when a message is finished
 pub new_id_finished : (t : TablesState) (message : Message) (outputs : List EndedMessage) → IsNewId t.next_id t.queues.queued
-    → IsNewId (finished t message outputs).next_id (finished t message outputs).queues.queued
+    → IsNewId (message_finished t message outputs).next_id (message_finished t message outputs).queues.queued
 new_id_finished t message outputs h =
-    new_id_sent message.origin (switches t.outputs outputs) t.next_id (without message.id t.queues.queued) (new_id_without t.next_id message.id t.queues.queued h)
+    new_id_sent message.origin (outputs_to_codes t.outputs outputs) t.next_id (without_id_queued message.id t.queues.queued) (new_id_without t.next_id message.id t.queues.queued h)
 
 -- ---- the machine's own definition
 -- sending, on what lasts: the messages behind all others, the replies, and the next id
 abbrev sent_by : List ℕ → List EndedMessage → LastingState → LastingState
 sent_by origin outputs lasting = record lasting {
-  messages = lasting.messages ++ switched_messages origin (switches lasting.outputs outputs) lasting.next_id;
-  next_id = lasting.next_id + length (switches lasting.outputs outputs);
+  messages = lasting.messages ++ switched_messages origin (outputs_to_codes lasting.outputs outputs) lasting.next_id;
+  next_id = lasting.next_id + length (outputs_to_codes lasting.outputs outputs);
   outputs = with_replies outputs lasting.outputs;
 }
 
 module _ (origin : List ℕ) (output : EndedMessage) (outputs : List EndedMessage) (lasting : LastingState) where
   sent_code : is_some (replies_at output.to lasting.outputs) ≡ false → sent_by origin outputs (switched origin output lasting) ≡ sent_by origin (output ∷ outputs) lasting
   sent_code e =
-      let moved : switches lasting.outputs (output ∷ outputs) ≡ output ∷ switches lasting.outputs outputs = switches_code lasting.outputs output outputs e in
+      let moved : outputs_to_codes lasting.outputs (output ∷ outputs) ≡ output ∷ outputs_to_codes lasting.outputs outputs = switches_code lasting.outputs output outputs e in
       let same : with_terminal output.to (with_reply output.segments) lasting.outputs ≡ lasting.outputs = with_terminal_none output.to (with_reply output.segments) lasting.outputs e in
-      ap {A = List Message} (λ ms. record lasting { messages = ms; next_id = lasting.next_id + 1 + length (switches lasting.outputs outputs); outputs = with_replies outputs lasting.outputs })
-      (append_assoc lasting.messages (switched_message origin output lasting.next_id ∷ []) (switched_messages origin (switches lasting.outputs outputs) (lasting.next_id + 1)))
-      ∙ (ap {A = ℕ} (λ n. record lasting { messages = lasting.messages ++ switched_messages origin (output ∷ switches lasting.outputs outputs) lasting.next_id; next_id = n; outputs = with_replies outputs lasting.outputs }) (omega arith)
+      ap {A = List Message} (λ ms. record lasting { messages = ms; next_id = lasting.next_id + 1 + length (outputs_to_codes lasting.outputs outputs); outputs = with_replies outputs lasting.outputs })
+      (append_assoc lasting.messages (switched_message origin output lasting.next_id ∷ []) (switched_messages origin (outputs_to_codes lasting.outputs outputs) (lasting.next_id + 1)))
+      ∙ (ap {A = ℕ} (λ n. record lasting { messages = lasting.messages ++ switched_messages origin (output ∷ outputs_to_codes lasting.outputs outputs) lasting.next_id; next_id = n; outputs = with_replies outputs lasting.outputs }) (omega arith)
       ∙ (ap {A = List EndedMessage} (λ os. record lasting { messages = lasting.messages ++ switched_messages origin os lasting.next_id; next_id = lasting.next_id + length os; outputs = with_replies outputs lasting.outputs }) (sym moved)
       ∙ ap {A = List TerminalReplies} (λ ts. record (sent_by origin (output ∷ outputs) lasting) { outputs = with_replies outputs ts }) (sym same)))
 
   sent_terminal : is_some (replies_at output.to lasting.outputs) ≡ true → sent_by origin outputs (replied output lasting) ≡ sent_by origin (output ∷ outputs) lasting
   sent_terminal e =
-      let same : switches (with_terminal output.to (with_reply output.segments) lasting.outputs) outputs ≡ switches lasting.outputs (output ∷ outputs) =
+      let same : outputs_to_codes (with_terminal output.to (with_reply output.segments) lasting.outputs) outputs ≡ outputs_to_codes lasting.outputs (output ∷ outputs) =
       switches_still output.to output.segments lasting.outputs outputs ∙ sym (switches_terminal lasting.outputs output outputs e) in
       ap {A = List EndedMessage} (λ os. record (sent_by origin (output ∷ outputs) lasting) { messages = lasting.messages ++ switched_messages origin os lasting.next_id; next_id = lasting.next_id + length os }) same
 
@@ -137,77 +137,77 @@ abbrev state_then : List CodeSetting → TablesState → List (List Row) → Las
 state_then settings t rows = record (lasting_of settings t) { rows = rows }
 
 closed_lasting : (settings : List CodeSetting) (t : TablesState) (message : Message) (pad : PadChange) (outputs : List EndedMessage) (databases : DatabasesState)
-    → lasting_of settings (closed databases pad t message outputs)
-    ≡ record (finished_state message outputs (record (state_then settings t (rows_of databases.committed)) { conversations = padded pad message.origin t.conversations })) { steps = t.steps + 1 }
+    → lasting_of settings (message_closed databases pad t message outputs)
+    ≡ record (finished_state message outputs (record (state_then settings t (rows_of_stores databases.committed)) { conversations = with_pad_changed pad message.origin t.conversations })) { steps = t.steps + 1 }
 closed_lasting settings t message pad outputs databases =
-    ap {A = List Message} (λ ms. record (lasting_of settings (closed databases pad t message outputs)) { messages = ms })
-    (messages_both (without message.id t.queues.queued) (switched_messages message.origin (switches t.outputs outputs) t.next_id)
-    ∙ ap (λ ms. ms ++ switched_messages message.origin (switches t.outputs outputs) t.next_id) (messages_without message.id t.queues.queued))
+    ap {A = List Message} (λ ms. record (lasting_of settings (message_closed databases pad t message outputs)) { messages = ms })
+    (messages_both (without_id_queued message.id t.queues.queued) (switched_messages message.origin (outputs_to_codes t.outputs outputs) t.next_id)
+    ∙ ap (λ ms. ms ++ switched_messages message.origin (outputs_to_codes t.outputs outputs) t.next_id) (messages_without message.id t.queues.queued))
     ∙ sym (ap {A = LastingState} (λ l. record l { steps = t.steps + 1 })
     (all_sent_is message.origin outputs
-    (record (state_then settings t (rows_of databases.committed)) { messages = without_message (messages_of t.queues.queued) message.id; conversations = padded pad message.origin t.conversations })))
+    (record (state_then settings t (rows_of_stores databases.committed)) { messages = without_message (messages_of t.queues.queued) message.id; conversations = with_pad_changed pad message.origin t.conversations })))
 
 -- which message it is, by the queues or by the machine
 abbrev done_by : List CodeSetting → TablesState → (Message → PadChange) → (Message → List EndedMessage) → List (List Row) → Option Message → LastingState
 done_by settings old pads sends rows found =
     record (finished_by found sends (with_pad_by found pads (state_then settings old rows))) { steps = old.steps + 1 }
 
-closed_by : (databases : DatabasesState) (pads : Message → PadChange) (sends : Message → List EndedMessage) (old new : TablesState) (id : ℕ) → IsClosed databases pads sends old new id
+closed_by : (databases : DatabasesState) (pads : Message → PadChange) (sends : Message → List EndedMessage) (old new : TablesState) (id : ℕ) → IsMessageClosed databases pads sends old new id
     → (settings : List CodeSetting)
-    → lasting_of settings new ≡ done_by settings old pads sends (rows_of databases.committed) (find (λ m. m.id == id) (messages_of old.queues.queued))
+    → lasting_of settings new ≡ done_by settings old pads sends (rows_of_stores databases.committed) (find (λ m. m.id == id) (messages_of old.queues.queued))
 closed_by databases pads sends old new id h settings =
-    by (message_at id old.queues.queued) refl h
-    ∙ ap (done_by settings old pads sends (rows_of databases.committed)) (sym (message_found id old.queues.queued))
+    by (queued_message id old.queues.queued) refl h
+    ∙ ap (done_by settings old pads sends (rows_of_stores databases.committed)) (sym (message_found id old.queues.queued))
   where
-    by : (found : Option Message) → message_at id old.queues.queued ≡ found
-        → IsSomeAnd found (λ message. (message.id ≡ id) × (new ≡ closed databases (pads message) old message (sends message)))
-        → lasting_of settings new ≡ done_by settings old pads sends (rows_of databases.committed) found
+    by : (found : Option Message) → queued_message id old.queues.queued ≡ found
+        → IsSomeAnd found (λ message. (message.id ≡ id) × (new ≡ message_closed databases (pads message) old message (sends message)))
+        → lasting_of settings new ≡ done_by settings old pads sends (rows_of_stores databases.committed) found
     by (Some message) e g = ap (lasting_of settings) g.1 ∙ closed_lasting settings old message (pads message) (sends message) databases
     by None e g = absurd g
 
 pub completes_is : (region : ℕ) (old new : TablesState) (id : ℕ) (outputs : List EndedMessage) (pad : PadChange) → IsCommitted region old.databases new.databases
-    → IsClosed new.databases (λ _. pad) (λ _. outputs) old new id → Applies (Completes id (region_at region old.databases).rows outputs pad) old new
+    → IsMessageClosed new.databases (λ _. pad) (λ _. outputs) old new id → Applies (Completes id (region_at region old.databases).rows outputs pad) old new
 completes_is region old new id outputs pad stays h settings =
     closed_by new.databases (λ _. pad) (λ _. outputs) old new id h settings
     ∙ ap {A = List (List Row)} (λ rows. done_by settings old (λ _. pad) (λ _. outputs) rows (find (λ m. m.id == id) (messages_of old.queues.queued)))
     stays.rows
 
 pub discards_is : (region : ℕ) (old new : TablesState) (id : ℕ) (abend : AbendCode) → IsGivenUp region old.databases new.databases
-    → IsClosed new.databases discarded_pad (λ message. abend_outputs message abend) old new id → Applies (Discards id abend) old new
+    → IsMessageClosed new.databases discarded_pad (λ message. abend_outputs message abend) old new id → Applies (Discards id abend) old new
 discards_is region old new id abend back h settings =
     closed_by new.databases discarded_pad (λ message. abend_outputs message abend) old new id h settings
     ∙ ap {A = List (List Row)} (λ rows. done_by settings old discarded_pad (λ message. abend_outputs message abend) rows (find (λ m. m.id == id) (messages_of old.queues.queued)))
-    (ap rows_of back.committed)
+    (ap rows_of_stores back.committed)
 
 -- what was finished, with the pad and the databases then
 pub closes : (databases : DatabasesState) (conversations : List TerminalConversation) (pads : Message → PadChange) (sends : Message → List EndedMessage) (pad : PadChange) (outputs : List EndedMessage)
     (origin : List ℕ) (old middle new : TablesState) (id : ℕ)
-    → IsSomeAnd (message_at id old.queues.queued) (λ message. (outputs ≡ sends message) × (pad ≡ pads message)) → IsFinished old middle id outputs
-    → IsSomeAnd (message_at id old.queues.queued) (λ message. origin ≡ message.origin)
-    → conversations ≡ padded pad origin middle.conversations
-    → new ≡ record middle { databases = databases; conversations = conversations } → IsClosed databases pads sends old new id
-closes databases conversations pads sends pad outputs origin old middle new id sent done from padded_so is = by (message_at id old.queues.queued) sent done from
+    → IsSomeAnd (queued_message id old.queues.queued) (λ message. (outputs ≡ sends message) × (pad ≡ pads message)) → IsMessageFinished old middle id outputs
+    → IsSomeAnd (queued_message id old.queues.queued) (λ message. origin ≡ message.origin)
+    → conversations ≡ with_pad_changed pad origin middle.conversations
+    → new ≡ record middle { databases = databases; conversations = conversations } → IsMessageClosed databases pads sends old new id
+closes databases conversations pads sends pad outputs origin old middle new id sent done from padded_so is = by (queued_message id old.queues.queued) sent done from
   where
     by : (found : Option Message) → IsSomeAnd found (λ message. (outputs ≡ sends message) × (pad ≡ pads message))
-        → IsSomeAnd found (λ message. (message.id ≡ id) × (middle ≡ finished old message outputs))
+        → IsSomeAnd found (λ message. (message.id ≡ id) × (middle ≡ message_finished old message outputs))
         → IsSomeAnd found (λ message. origin ≡ message.origin)
-        → IsSomeAnd found (λ message. (message.id ≡ id) × (new ≡ closed databases (pads message) old message (sends message)))
+        → IsSomeAnd found (λ message. (message.id ≡ id) × (new ≡ message_closed databases (pads message) old message (sends message)))
     by (Some message) s d f = (
       d.0,
       is
           ∙ ap {A = List TerminalConversation} (λ cs. record middle { databases = databases; conversations = cs }) padded_so
-          ∙ ap {A = TablesState} (λ t. record t { databases = databases; conversations = padded pad origin t.conversations }) d.1
-          ∙ ap {A = List ℕ} (λ o. record (finished old message outputs) { databases = databases; conversations = padded pad o old.conversations }) f
-          ∙ ap (closed databases pad old message) s.0
-          ∙ ap (λ p. closed databases p old message (sends message)) s.1,
+          ∙ ap {A = TablesState} (λ t. record t { databases = databases; conversations = with_pad_changed pad origin t.conversations }) d.1
+          ∙ ap {A = List ℕ} (λ o. record (message_finished old message outputs) { databases = databases; conversations = with_pad_changed pad o old.conversations }) f
+          ∙ ap (message_closed databases pad old message) s.0
+          ∙ ap (λ p. message_closed databases p old message (sends message)) s.1,
     )
     by None s d f = absurd d
 
 -- what holds of the message that is lent holds of the one that is there
-pub found_message_and : (id : ℕ) (queued : List Queued) (message : Message) (P : Message → Type 0) → Some message ≡ message_at id queued → P message → IsSomeAnd (message_at id queued) P
+pub found_message_and : (id : ℕ) (queued : List Queued) (message : Message) (P : Message → Type 0) → Some message ≡ queued_message id queued → P message → IsSomeAnd (queued_message id queued) P
 found_message_and id queued message P e h = rw (sym e) h
 
-pub some_message : (id : ℕ) (queued : List Queued) (P : Message → Type 0) → IsSome (queued_at id queued) → ((message : Message) → P message) → IsSomeAnd (message_at id queued) P
+pub some_message : (id : ℕ) (queued : List Queued) (P : Message → Type 0) → IsSome (queued_at id queued) → ((message : Message) → P message) → IsSomeAnd (queued_message id queued) P
 some_message id queued P there h = by (queued_at id queued) there
   where
     by : (found : Option Queued) → IsSome found → IsSomeAnd (option_map (λ q. q.message) found) P
@@ -216,20 +216,20 @@ some_message id queued P there h = by (queued_at id queued) there
 
 -- ---- the call
 pub finished_is : (old : TablesState) (sent_queues queues : QueuesState) (outputs : List TerminalReplies) (next id : ℕ) (sends : List EndedMessage) (message : Message)
-    → Some message ≡ message_at id old.queues.queued → id < old.next_id
+    → Some message ≡ queued_message id old.queues.queued → id < old.next_id
     → IsSent message.origin sends old.queues sent_queues old.outputs outputs old.next_id next
-    → queues ≡ record sent_queues { queued = without id sent_queues.queued }
-    → IsFinished old (record old { queues = queues; next_id = next; outputs = outputs; steps = old.steps + 1 }) id sends
+    → queues ≡ record sent_queues { queued = without_id_queued id sent_queues.queued }
+    → IsMessageFinished old (record old { queues = queues; next_id = next; outputs = outputs; steps = old.steps + 1 }) id sends
 finished_is old sent_queues queues outputs next id sends message found below h left =
     rw (sym found) (
       same,
       ap {A = QueuesState} (λ q. record old { queues = q; next_id = next; outputs = outputs; steps = old.steps + 1 })
           (left
-          ∙ (ap {A = QueuesState} (λ q. record q { queued = without id q.queued }) h.queues
-          ∙ (ap {A = List Queued} (λ qs. record old.queues { queued = qs }) (gone_before message.origin (switches old.outputs sends) old.next_id id old.queues.queued below)
-          ∙ ap {A = ℕ} (λ n. record old.queues { queued = with_messages (switched_messages message.origin (switches old.outputs sends) old.next_id) (without n old.queues.queued) }) (sym same))))
-          ∙ (ap {A = ℕ} (λ n. record (finished old message sends) { next_id = n; outputs = outputs }) h.next_id
-          ∙ ap {A = List TerminalReplies} (λ ts. record (finished old message sends) { outputs = ts }) h.replies),
+          ∙ (ap {A = QueuesState} (λ q. record q { queued = without_id_queued id q.queued }) h.queues
+          ∙ (ap {A = List Queued} (λ qs. record old.queues { queued = qs }) (gone_before message.origin (outputs_to_codes old.outputs sends) old.next_id id old.queues.queued below)
+          ∙ ap {A = ℕ} (λ n. record old.queues { queued = with_messages (switched_messages message.origin (outputs_to_codes old.outputs sends) old.next_id) (without_id_queued n old.queues.queued) }) (sym same))))
+          ∙ (ap {A = ℕ} (λ n. record (message_finished old message sends) { next_id = n; outputs = outputs }) h.next_id
+          ∙ ap {A = List TerminalReplies} (λ ts. record (message_finished old message sends) { outputs = ts }) h.replies),
     )
   where
     same : message.id ≡ id
@@ -238,11 +238,11 @@ finished_is old sent_queues queues outputs next id sends message found below h l
 pub finished_new : (origin : List ℕ) (sends : List EndedMessage) (old sent_queues queues : QueuesState) (terminals outputs : List TerminalReplies) (next after id : ℕ)
     → IsNewId next old.queued
     → IsSent origin sends old sent_queues terminals outputs next after
-    → queues ≡ record sent_queues { queued = without id sent_queues.queued }
+    → queues ≡ record sent_queues { queued = without_id_queued id sent_queues.queued }
     → IsNewId after queues.queued
 finished_new origin sends old sent_queues queues terminals outputs next after id fresh h left =
     subst (λ q. IsNewId after q.queued) (sym left)
     (new_id_without after id sent_queues.queued
     (subst (λ q. IsNewId after q.queued) (sym h.queues)
-    (subst (λ n. IsNewId n (with_messages (switched_messages origin (switches terminals sends) next) old.queued)) (sym h.next_id)
-    (new_id_sent origin (switches terminals sends) next old.queued fresh))))
+    (subst (λ n. IsNewId n (with_messages (switched_messages origin (outputs_to_codes terminals sends) next) old.queued)) (sym h.next_id)
+    (new_id_sent origin (outputs_to_codes terminals sends) next old.queued fresh))))

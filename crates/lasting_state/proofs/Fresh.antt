@@ -12,14 +12,14 @@ use Rattle.model_messages.specs.Outputs.{fresh_terminal}
 use Rattle.model_system.specs.System.{System}
 use Rattle.model_machine.specs.declared.lasting.TerminalState.{TerminalState}
 use Rattle.model_machine.specs.Machine.{fresh_terminal_state, first_setting, empty_state}
-use Rattle.program_rows.specs.State.{DatabasesState, rows_of, dbds_of}
+use Rattle.program_rows.specs.DatabasesState.{DatabasesState, rows_of_stores, dbds_of}
 use Rattle.lasting_state.specs.Tables.{lasting_of}
 
 rows_free : (count : ℕ) → rows_of_slots (free_slots count) ≡ []
 rows_free zero = refl
 rows_free (suc count) = rows_free count
 
-rows_empty : (dbds : List Dbd) → rows_of (empty_stores dbds) ≡ map {A = Dbd} {B = List Row} (λ _. []) dbds
+rows_empty : (dbds : List Dbd) → rows_of_stores (empty_stores dbds) ≡ map {A = Dbd} {B = List Row} (λ _. []) dbds
 rows_empty [] = refl
 rows_empty (dbd ∷ dbds) = λ i. rows_free dbd.roots i ∷ rows_empty dbds i
 
@@ -35,7 +35,7 @@ pub fresh_is : (system : System) (databases : DatabasesState) (queues : QueuesSt
     → lasting_of (map first_setting system.codes) (record { databases = databases; queues = queues; next_id = 1; terminals = terminals; outputs = outputs; conversations = conversations; steps = 0 }) ≡ empty_state system
 fresh_is system databases queues terminals outputs conversations d q i o v =
     λ j. record {
-      rows = (ap rows_of d ∙ rows_empty system.databases) j;
+      rows = (ap rows_of_stores d ∙ rows_empty system.databases) j;
       messages = ap messages_of q j;
       next_id = 1;
       terminals = i j;

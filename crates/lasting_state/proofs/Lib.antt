@@ -6,4 +6,4 @@ pub mod Told
 pub mod Commanded
 pub mod Counting
 pub mod Counted
-pub mod StepTellingLimits
+pub mod RecordLimits

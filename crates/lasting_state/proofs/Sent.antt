@@ -7,19 +7,19 @@ use Rattle.std.specs.Option.{is_some}
 use Rattle.tm_types.specs.declared.message.Message.{Message}
 use Rattle.model_messages.specs.declared.queued.Queued.{Queued}
 use Rattle.model_messages.specs.declared.replies.TerminalReplies.{TerminalReplies}
-use Rattle.model_messages.specs.Queue.{QueuesState, with_message, without, IsNewId, has_id, queued_at}
+use Rattle.model_messages.specs.Queue.{QueuesState, with_message, without_id_queued, IsNewId, has_id, queued_at}
 use Rattle.model_messages.proofs.TakenBack.{taken_back}
-use Rattle.model_messages.specs.Outputs.{is_of, replies_at, with_terminal, with_reply, without_last}
+use Rattle.model_messages.specs.Outputs.{are_replies_of, replies_at, with_terminal, with_reply, without_last}
 use Rattle.model_messages.specs.declared.ended_message.EndedMessage.{EndedMessage}
 use Rattle.lasting_state.proofs.Counted.{there_still}
-use Rattle.lasting_state.specs.Sending.{switches, switched_message, switched_messages, with_messages, with_replies, IsSent}
+use Rattle.lasting_state.specs.SentOutputs.{outputs_to_codes, switched_message, switched_messages, with_messages, with_replies, IsSent}
 
 -- ---- which terminals are there
 -- a terminal that isn't there can't be changed
 pub with_terminal_none : (name : List ℕ) (change : TerminalReplies → TerminalReplies) (outputs : List TerminalReplies)
     → is_some (replies_at name outputs) ≡ false → with_terminal name change outputs ≡ outputs
 with_terminal_none name change [] e = refl
-with_terminal_none name change (t ∷ ts) e = by (is_of name t) e (λ h. with_terminal_none name change ts h)
+with_terminal_none name change (t ∷ ts) e = by (are_replies_of name t) e (λ h. with_terminal_none name change ts h)
   where
     by : (b : Bool) → is_some (cond b (Some t) (replies_at name ts)) ≡ false → (is_some (replies_at name ts) ≡ false → with_terminal name change ts ≡ ts)
         → cond b (change t ∷ ts) (t ∷ with_terminal name change ts) ≡ t ∷ ts
@@ -27,20 +27,20 @@ with_terminal_none name change (t ∷ ts) e = by (is_of name t) e (λ h. with_te
     by false h rest = ap (λ us. t ∷ us) (rest h)
 
 pub switches_still : (name : List ℕ) (segments : List (List ℕ)) (terminals : List TerminalReplies) (outputs : List EndedMessage)
-    → switches (with_terminal name (with_reply segments) terminals) outputs ≡ switches terminals outputs
+    → outputs_to_codes (with_terminal name (with_reply segments) terminals) outputs ≡ outputs_to_codes terminals outputs
 switches_still name segments terminals [] = refl
 switches_still name segments terminals (output ∷ outputs) =
     λ i. cond (not (there_still output.to name segments terminals i)) (output ∷ switches_still name segments terminals outputs i) (switches_still name segments terminals outputs i)
 
 pub switches_code : (terminals : List TerminalReplies) (output : EndedMessage) (outputs : List EndedMessage) → is_some (replies_at output.to terminals) ≡ false
-    → switches terminals (output ∷ outputs) ≡ output ∷ switches terminals outputs
+    → outputs_to_codes terminals (output ∷ outputs) ≡ output ∷ outputs_to_codes terminals outputs
 switches_code terminals output outputs none =
-    ap (λ b. cond (not b) (output ∷ switches terminals outputs) (switches terminals outputs)) none
+    ap (λ b. cond (not b) (output ∷ outputs_to_codes terminals outputs) (outputs_to_codes terminals outputs)) none
 
 pub switches_terminal : (terminals : List TerminalReplies) (output : EndedMessage) (outputs : List EndedMessage) → is_some (replies_at output.to terminals) ≡ true
-    → switches terminals (output ∷ outputs) ≡ switches terminals outputs
+    → outputs_to_codes terminals (output ∷ outputs) ≡ outputs_to_codes terminals outputs
 switches_terminal terminals output outputs there =
-    ap (λ b. cond (not b) (output ∷ switches terminals outputs) (switches terminals outputs)) there
+    ap (λ b. cond (not b) (output ∷ outputs_to_codes terminals outputs) (outputs_to_codes terminals outputs)) there
 
 -- ---- one output more was sent before the others
 module _ (origin : List ℕ) (output : EndedMessage) (outputs : List EndedMessage) (old new : QueuesState) (terminals replied : List TerminalReplies) (next after : ℕ) where
@@ -52,10 +52,10 @@ module _ (origin : List ℕ) (output : EndedMessage) (outputs : List EndedMessag
       let moved = switches_code terminals output outputs none in
       record {
         queues = h.queues
-            ∙ (ap {A = QueuesState} (λ q. record q { queued = with_messages (switched_messages origin (switches terminals outputs) (next + 1)) q.queued }) e
+            ∙ (ap {A = QueuesState} (λ q. record q { queued = with_messages (switched_messages origin (outputs_to_codes terminals outputs) (next + 1)) q.queued }) e
             ∙ (ap (λ qs. record old { queued = qs })
             (append_assoc old.queued (record { message = switched_message origin output next; holder = None } ∷ [])
-            (map (λ message. record { message = message; holder = None }) (switched_messages origin (switches terminals outputs) (next + 1))))
+            (map (λ message. record { message = message; holder = None }) (switched_messages origin (outputs_to_codes terminals outputs) (next + 1))))
             ∙ ap (λ os. record old { queued = with_messages (switched_messages origin os next) old.queued }) (sym moved)));
         replies = h.replies ∙ ap (λ ts. with_replies outputs ts) (sym (with_terminal_none output.to (with_reply output.segments) terminals none));
         next_id = h.next_id ∙ (omega arith ∙ ap (λ os. next + length os) (sym moved));
@@ -66,8 +66,8 @@ module _ (origin : List ℕ) (output : EndedMessage) (outputs : List EndedMessag
       → IsSent origin outputs old new mid replied next after
       → IsSent origin (output ∷ outputs) old new terminals replied next after
   sent_to_terminal mid there e h =
-      let same : switches mid outputs ≡ switches terminals (output ∷ outputs) =
-      ap (λ ts. switches ts outputs) e ∙ (switches_still output.to output.segments terminals outputs ∙ sym (switches_terminal terminals output outputs there)) in
+      let same : outputs_to_codes mid outputs ≡ outputs_to_codes terminals (output ∷ outputs) =
+      ap (λ ts. outputs_to_codes ts outputs) e ∙ (switches_still output.to output.segments terminals outputs ∙ sym (switches_terminal terminals output outputs there)) in
       record {
         queues = h.queues ∙ ap (λ os. record old { queued = with_messages (switched_messages origin os next) old.queued }) same;
         replies = h.replies ∙ ap (λ ts. with_replies outputs ts) e;
@@ -93,26 +93,26 @@ added_found id message (q ∷ queued) e = by (has_id id q) (added_found id messa
     by false rest = rest
 
 -- where no message has an id none goes
-pub none_without : (id : ℕ) (queued : List Queued) → IsNewId id queued → without id queued ≡ queued
+pub none_without : (id : ℕ) (queued : List Queued) → IsNewId id queued → without_id_queued id queued ≡ queued
 none_without id [] h = refl
 none_without id (q ∷ queued) h =
-    ap (λ b. cond (not b) (q ∷ without id queued) (without id queued)) (ne_eqb q.message.id id (λ e. absurd (omega (arith, h.0, e))))
+    ap (λ b. cond (not b) (q ∷ without_id_queued id queued) (without_id_queued id queued)) (ne_eqb q.message.id id (λ e. absurd (omega (arith, h.0, e))))
     ∙ ap (λ qs. q ∷ qs) (none_without id queued h.1)
 
 -- and one that was added last goes alone
-pub added_without : (id : ℕ) (message : Message) (queued : List Queued) → message.id ≡ id → IsNewId id queued → without id (with_message message queued) ≡ queued
+pub added_without : (id : ℕ) (message : Message) (queued : List Queued) → message.id ≡ id → IsNewId id queued → without_id_queued id (with_message message queued) ≡ queued
 added_without id message [] e h = ap (λ b. cond (not b) (record { message = message; holder = None } ∷ []) []) (eq-eqb message.id id e)
 added_without id message (q ∷ queued) e h =
-    ap (λ b. cond (not b) (q ∷ without id (with_message message queued)) (without id (with_message message queued))) (ne_eqb q.message.id id (λ e. absurd (omega (arith, h.0, e))))
+    ap (λ b. cond (not b) (q ∷ without_id_queued id (with_message message queued)) (without_id_queued id (with_message message queued))) (ne_eqb q.message.id id (λ e. absurd (omega (arith, h.0, e))))
     ∙ ap (λ qs. q ∷ qs) (added_without id message queued e h.1)
 
 -- a terminal to which a reply was sent keeps one
 pub reply_kept : (name : List ℕ) (segments : List (List ℕ)) (terminals : List TerminalReplies) → IsSome (replies_at name terminals)
     → IsSomeAnd (replies_at name (with_terminal name (with_reply segments) terminals)) (λ t. 1 ≤ length t.replies)
 reply_kept name segments [] h = let clash : false ≡ true = h in absurd (cc)
-reply_kept name segments (t ∷ ts) h = by (is_of name t) refl h (reply_kept name segments ts)
+reply_kept name segments (t ∷ ts) h = by (are_replies_of name t) refl h (reply_kept name segments ts)
   where
-    by : (b : Bool) → is_of name t ≡ b → IsSome (cond b (Some t) (replies_at name ts))
+    by : (b : Bool) → are_replies_of name t ≡ b → IsSome (cond b (Some t) (replies_at name ts))
         → (IsSome (replies_at name ts) → IsSomeAnd (replies_at name (with_terminal name (with_reply segments) ts)) (λ u. 1 ≤ length u.replies))
         → IsSomeAnd (replies_at name (cond b (with_reply segments t ∷ ts) (t ∷ with_terminal name (with_reply segments) ts))) (λ u. 1 ≤ length u.replies)
     by true q g rest =
@@ -122,10 +122,10 @@ reply_kept name segments (t ∷ ts) h = by (is_of name t) refl h (reply_kept nam
         subst (λ b. IsSomeAnd (cond b (Some t) (replies_at name (with_terminal name (with_reply segments) ts))) (λ u. 1 ≤ length u.replies)) (sym q) (rest g)
 
 pub code_taken_back : (id : ℕ) (message : Message) (old mid left new : QueuesState) → message.id ≡ id → IsNewId id old.queued
-    → mid ≡ record old { queued = with_message message old.queued } → left ≡ mid → new ≡ record left { queued = without id left.queued } → new ≡ old
+    → mid ≡ record old { queued = with_message message old.queued } → left ≡ mid → new ≡ record left { queued = without_id_queued id left.queued } → new ≡ old
 code_taken_back id message old mid left new e fresh added same gone =
     gone
-    ∙ (ap {A = QueuesState} (λ q. record q { queued = without id q.queued }) (same ∙ added)
+    ∙ (ap {A = QueuesState} (λ q. record q { queued = without_id_queued id q.queued }) (same ∙ added)
     ∙ ap {A = List Queued} (λ qs. record old { queued = qs }) (added_without id message old.queued e fresh))
 
 pub reply_taken_back : (name : List ℕ) (segments : List (List ℕ)) (old mid left new : List TerminalReplies)

@@ -8,7 +8,7 @@ use Rattle.tm_types.specs.declared.message.Message.{Message}
 use Rattle.tm_types.specs.declared.abend.AbendCode.{AbendCode}
 use Rattle.model_messages.specs.declared.conversation.PadChange.{PadChange}
 use Rattle.model_data.specs.declared.row.Row.{Row}
-use Rattle.model_messages.specs.Queue.{message_at}
+use Rattle.model_messages.specs.Queue.{queued_message}
 use Rattle.tm_types.specs.declared.message.Reply.{Reply}
 use Rattle.model_messages.specs.declared.replies.TerminalReplies.{TerminalReplies}
 use Rattle.model_messages.specs.Outputs.{first_number, next_of}
@@ -21,41 +21,41 @@ use Rattle.model_machine.specs.declared.entry.AckRefused.{AckRefused}
 use Rattle.model_machine.specs.declared.entry.AckRefused.TheVariants.{Unknown, Ahead, Fault}
 use Rattle.model_machine.specs.declared.entry.ControlFault.{ControlFault}
 use Rattle.model_machine.specs.Machine.{LastingState, output_at}
-use Rattle.model_machine.specs.Steps.{ack_by}
-use Rattle.model_machine.specs.Lasting.{LastingStep}
-use Rattle.model_machine.specs.Lasting.LastingStep.{Acknowledges, Completes, Discards}
+use Rattle.model_machine.specs.MachineCalls.{ack_by}
+use Rattle.model_machine.specs.LastingSteps.{LastingStep}
+use Rattle.model_machine.specs.LastingSteps.LastingStep.{Acknowledges, Completes, Discards}
 use Rattle.log_records.specs.declared.record.Record.{Record}
 use Rattle.log_records.specs.declared.record.Record.TheVariants.{Acknowledged, Discarded, SyncPoint}
-use Rattle.log_records.specs.Telling.{spelled, IsUntold, Tells as RecordsTell}
+use Rattle.log_records.specs.ToldRecords.{spelled_records, AreRecordsUntold, TellsInRoom as RecordsTell}
 use Rattle.log_records.specs.declared.untold.Untold.{Untold}
 use Rattle.log_records.specs.declared.untold.Untold.TheVariants.{Memory, Full}
-use Rattle.model_image.specs.Records.{completion_records, completed_by, discarded_by, step_records}
-use Rattle.lasting_state.specs.Untold.{WhereFull}
+use Rattle.model_image.specs.StepRecords.{completion_records, completed_by_step, discarded_by, step_records}
+use Rattle.lasting_state.specs.UntoldSteps.{WhereFull}
 use Rattle.lasting_state.specs.Tables.{TablesState, lasting_of}
-use Rattle.lasting_state.specs.Telling.{IsLonger, Tells, TellsAcknowledged, is_first_of, removes_by}
+use Rattle.lasting_state.specs.ToldSteps.{AreRecordsLonger, TellsStep, TellsAcknowledged, is_first_of, removes_by}
 
 -- what is told of a step's records, whatever the settings of the codes are
 module _ (unit room : ℕ) (step : LastingStep) (old : TablesState) where
-  pub tells : (before after : List ℕ) → ((settings : List CodeSetting) → RecordsTell (step_records unit step (lasting_of settings old)) room before after) → Tells unit room step old before after
+  pub tells : (before after : List ℕ) → ((settings : List CodeSetting) → RecordsTell (step_records unit step (lasting_of settings old)) room before after) → TellsStep unit room step old before after
   tells before after h = record {
     told = λ settings. (h settings).told;
     valid = λ settings. (h settings).valid;
     fits = λ settings. (h settings).fits;
   }
 
-  pub longer : (error : Untold) → ((settings : List CodeSetting) → IsUntold (step_records unit step (lasting_of settings old)) room error) → WhereFull (IsLonger unit room step old) error
+  pub longer : (error : Untold) → ((settings : List CodeSetting) → AreRecordsUntold (step_records unit step (lasting_of settings old)) room error) → WhereFull (AreRecordsLonger unit room step old) error
   longer Memory h = tt
   longer Full h = h
 
-pub completion_are : (unit : ℕ) (old : TablesState) (id : ℕ) (outputs : List EndedMessage) (pad : PadChange) (message : Message) → Some message ≡ message_at id old.queues.queued
+pub completion_are : (unit : ℕ) (old : TablesState) (id : ℕ) (outputs : List EndedMessage) (pad : PadChange) (message : Message) → Some message ≡ queued_message id old.queues.queued
     → (rows : List (List Row)) (settings : List CodeSetting)
     → completion_records unit message.origin id outputs (lasting_of settings old) ++ SyncPoint unit pad ∷ [] ≡ step_records unit (Completes id rows outputs pad) (lasting_of settings old)
 completion_are unit old id outputs pad message found rows settings =
     let lasting : LastingState = lasting_of settings old in
     ap (λ i. completion_records unit message.origin i outputs lasting ++ SyncPoint unit pad ∷ []) (sym (found_message id old.queues.queued message (sym found)))
-    ∙ ap (λ m. completed_by unit m outputs pad lasting) (found ∙ sym (message_found id old.queues.queued))
+    ∙ ap (λ m. completed_by_step unit m outputs pad lasting) (found ∙ sym (message_found id old.queues.queued))
 
-pub discarding_are : (unit : ℕ) (old : TablesState) (id : ℕ) (abend : AbendCode) (message : Message) (number : ℕ) → Some message ≡ message_at id old.queues.queued → number ≡ next_of message.origin old.outputs
+pub discarding_are : (unit : ℕ) (old : TablesState) (id : ℕ) (abend : AbendCode) (message : Message) (number : ℕ) → Some message ≡ queued_message id old.queues.queued → number ≡ next_of message.origin old.outputs
     → (settings : List CodeSetting) → Discarded unit id abend number ∷ [] ≡ step_records unit (Discards id abend) (lasting_of settings old)
 discarding_are unit old id abend message number found numbered settings =
     let lasting : LastingState = lasting_of settings old in
@@ -75,7 +75,7 @@ err_is P result error is h = subst (λ r. IfErr r P) (sym is) h
 -- what is cut back to what was there
 pub cut_back : (records : List Record) (room start : ℕ) (before told after : List ℕ) → RecordsTell records room before told → start ≡ length before → after ≡ take start told → after ≡ before
 cut_back records room start before told after h at cut =
-    cut ∙ (ap (λ n. take n told) at ∙ (ap (take (length before)) h.told ∙ take-append_seam before (spelled records)))
+    cut ∙ (ap (λ n. take n told) at ∙ (ap (take (length before)) h.told ∙ take-append_seam before (spelled_records records)))
 
 -- ---- acknowledgements
 
@@ -136,6 +136,6 @@ declined_told old terminal number room told (Err (Ahead first)) none e = refl
 declined_told old terminal number room told (Err (Fault fault)) none e = no_fault (output_at old.outputs terminal) number fault (sym e)
 
 pub removed_told : (old : TablesState) (terminal : List ℕ) (number room : ℕ) (told now : List ℕ) (answer : Result Acked AckRefused) → removes_by (output_at old.outputs terminal) number ≡ true
-    → answer ≡ ack_by (output_at old.outputs terminal) number → Tells 0 room (Acknowledges terminal) old told now → TellsAcknowledged old terminal room told now answer
+    → answer ≡ ack_by (output_at old.outputs terminal) number → TellsStep 0 room (Acknowledges terminal) old told now → TellsAcknowledged old terminal room told now answer
 removed_told old terminal number room told now answer removes e t =
     subst (TellsAcknowledged old terminal room told now) (sym (e ∙ (removes_so (output_at old.outputs terminal) number removes).0)) t

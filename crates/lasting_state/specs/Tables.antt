@@ -5,7 +5,7 @@ use Rattle.tm_types.specs.Segment.{counted_bytes}
 use Rattle.model_messages.specs.declared.conversation.PadChange.{PadChange}
 use Rattle.model_messages.specs.declared.conversation.TerminalConversation.{TerminalConversation}
 use Rattle.model_messages.specs.declared.replies.TerminalReplies.{TerminalReplies}
-use Rattle.model_messages.specs.Queue.{QueuesState, messages_of, message_at, with_message, with_holder, without}
+use Rattle.model_messages.specs.Queue.{QueuesState, messages_of, queued_message, with_message, with_holder, without_id_queued}
 use Rattle.model_messages.specs.Outputs.{with_terminal, without_first, outputs_bytes}
 use Rattle.model_messages.specs.Room.{input_needs, messages_bytes}
 use Rattle.model_messages.specs.declared.ended_message.EndedMessage.{EndedMessage}
@@ -17,13 +17,13 @@ use Rattle.model_machine.specs.declared.entry.AckRefused.TheVariants.{Unknown, A
 use Rattle.model_machine.specs.declared.lasting.TerminalState.{TerminalState}
 use Rattle.model_machine.specs.declared.lasting.CodeSetting.{CodeSetting}
 use Rattle.model_machine.specs.Machine.{LastingState, terminal_place, output_at}
-use Rattle.model_machine.specs.Lasting.{KeptInput, LastingStep, input_message, padded, with_begun, with_last, applied}
-use Rattle.model_machine.specs.Lasting.LastingStep.{Accepts}
-use Rattle.model_machine.specs.Steps.{ack_by}
-use Rattle.program_rows.specs.State.{DatabasesState, rows_of}
+use Rattle.model_machine.specs.LastingSteps.{KeptInput, LastingStep, input_message, with_pad_changed, with_begun, with_last_number, applied}
+use Rattle.model_machine.specs.LastingSteps.LastingStep.{Accepts}
+use Rattle.model_machine.specs.MachineCalls.{ack_by}
+use Rattle.program_rows.specs.DatabasesState.{DatabasesState, rows_of_stores}
 use Rattle.lasting_state.specs.declared.tables.Enqueued.{Enqueued}
 use Rattle.lasting_state.specs.declared.tables.Enqueued.TheVariants.{New, Full}
-use Rattle.lasting_state.specs.Sending.{switches, switched_messages, with_messages, with_replies}
+use Rattle.lasting_state.specs.SentOutputs.{outputs_to_codes, switched_messages, with_messages, with_replies}
 
 -- the databases with what each region has changed, holds and waits for; the queues with the region that has
 -- each message; and what else lasts but the settings of the codes
@@ -39,7 +39,7 @@ pub record TablesState : Type 0 where
 -- what lasts, with these settings of the codes
 abbrev pub lasting_of : List CodeSetting → TablesState → LastingState
 lasting_of settings t = record {
-  rows = rows_of t.databases.committed;
+  rows = rows_of_stores t.databases.committed;
   messages = messages_of t.queues.queued;
   next_id = t.next_id;
   terminals = t.terminals;
@@ -54,23 +54,23 @@ abbrev pub Applies : LastingStep → TablesState → TablesState → Type 0
 Applies step old new = (settings : List CodeSetting) → lasting_of settings new ≡ applied step (lasting_of settings old)
 
 -- the bytes of all messages and replies
-abbrev pub content_of : TablesState → ℕ
-content_of t = messages_bytes (messages_of t.queues.queued) + outputs_bytes t.outputs
+abbrev pub tables_content : TablesState → ℕ
+tables_content t = messages_bytes (messages_of t.queues.queued) + outputs_bytes t.outputs
 
 -- the tables with these databases
 abbrev pub with_databases : TablesState → DatabasesState → TablesState
 with_databases t new = record t { databases = new }
 
 -- what an input of these segments needs, with so many busy regions
-abbrev pub needs : TablesState → List (List ℕ) → ℕ → ℕ
-needs t segments busy = input_needs (content_of t) (counted_bytes segments) busy
+abbrev pub tables_input_needs : TablesState → List (List ℕ) → ℕ → ℕ
+tables_input_needs t segments busy = input_needs (tables_content t) (counted_bytes segments) busy
 
 -- the input stands behind all other messages, under the next id, and the conversation that it begins at its terminal
 abbrev pub enqueued : TablesState → List ℕ → ℕ → KeptInput → TablesState
 enqueued t terminal number kept = record t {
   queues = record t.queues { queued = with_message (input_message t.next_id terminal kept) t.queues.queued };
   next_id = t.next_id + 1;
-  terminals = change_at t.terminals (terminal_place t.terminals terminal) (with_last number);
+  terminals = change_at t.terminals (terminal_place t.terminals terminal) (with_last_number number);
   conversations = with_begun terminal kept.begins t.conversations;
   steps = t.steps + 1;
 }
@@ -78,14 +78,14 @@ enqueued t terminal number kept = record t {
 -- The input is accepted under the next id where there is room for it, and else nothing changes.
 abbrev pub IsEnqueued : TablesState → TablesState → List ℕ → ℕ → KeptInput → ℕ → Enqueued → Type 0
 IsEnqueued old new terminal number kept busy (New id) =
-    (id ≡ old.next_id) × (needs old kept.segments busy ≤ old.queues.limit) × (new ≡ enqueued old terminal number kept)
+    (id ≡ old.next_id) × (tables_input_needs old kept.segments busy ≤ old.queues.limit) × (new ≡ enqueued old terminal number kept)
     × Applies (Accepts terminal number kept) old new
 IsEnqueued old new terminal number kept busy (Full needed limit) =
-    (needed ≡ needs old kept.segments busy) × (limit ≡ old.queues.limit) × (limit < needed) × (new ≡ old)
+    (needed ≡ tables_input_needs old kept.segments busy) × (limit ≡ old.queues.limit) × (limit < needed) × (new ≡ old)
 
 -- a region has a message
-abbrev pub held : TablesState → ℕ → ℕ → TablesState
-held t id region = record t { queues = record t.queues { queued = with_holder id (Some region) t.queues.queued } }
+abbrev pub message_held : TablesState → ℕ → ℕ → TablesState
+message_held t id region = record t { queues = record t.queues { queued = with_holder id (Some region) t.queues.queued } }
 
 -- no region has a message any more, which keeps its place
 abbrev pub given_back : TablesState → ℕ → TablesState
@@ -93,28 +93,28 @@ given_back t id = record t { queues = record t.queues { queued = with_holder id 
 
 -- A message is gone, and what it sends was sent: to codes, as messages behind all others, and to
 -- terminals, as replies. One step more was done; databases and conversations stay.
-abbrev pub finished : TablesState → Message → List EndedMessage → TablesState
-finished t message outputs = record t {
-  queues = record t.queues { queued = with_messages (switched_messages message.origin (switches t.outputs outputs) t.next_id) (without message.id t.queues.queued) };
-  next_id = t.next_id + length (switches t.outputs outputs);
+abbrev pub message_finished : TablesState → Message → List EndedMessage → TablesState
+message_finished t message outputs = record t {
+  queues = record t.queues { queued = with_messages (switched_messages message.origin (outputs_to_codes t.outputs outputs) t.next_id) (without_id_queued message.id t.queues.queued) };
+  next_id = t.next_id + length (outputs_to_codes t.outputs outputs);
   outputs = with_replies outputs t.outputs;
   steps = t.steps + 1;
 }
 
-abbrev pub IsFinished : TablesState → TablesState → ℕ → List EndedMessage → Type 0
-IsFinished old new id outputs =
-    IsSomeAnd (message_at id old.queues.queued) (λ message. (message.id ≡ id) × (new ≡ finished old message outputs))
+abbrev pub IsMessageFinished : TablesState → TablesState → ℕ → List EndedMessage → Type 0
+IsMessageFinished old new id outputs =
+    IsSomeAnd (queued_message id old.queues.queued) (λ message. (message.id ≡ id) × (new ≡ message_finished old message outputs))
 
 -- a message is gone, this became of the pad of its origin, and the databases are then these
-abbrev pub closed : DatabasesState → PadChange → TablesState → Message → List EndedMessage → TablesState
-closed databases pad t message outputs =
-    record (finished t message outputs) { databases = databases; conversations = padded pad message.origin t.conversations }
+abbrev pub message_closed : DatabasesState → PadChange → TablesState → Message → List EndedMessage → TablesState
+message_closed databases pad t message outputs =
+    record (message_finished t message outputs) { databases = databases; conversations = with_pad_changed pad message.origin t.conversations }
 
 -- The message of an id is gone, what it sends was sent, this became of the pad of its origin, and the databases are
 -- then these.
-abbrev pub IsClosed : DatabasesState → (Message → PadChange) → (Message → List EndedMessage) → TablesState → TablesState → ℕ → Type 0
-IsClosed databases pads sends old new id =
-    IsSomeAnd (message_at id old.queues.queued) (λ message. (message.id ≡ id) × (new ≡ closed databases (pads message) old message (sends message)))
+abbrev pub IsMessageClosed : DatabasesState → (Message → PadChange) → (Message → List EndedMessage) → TablesState → TablesState → ℕ → Type 0
+IsMessageClosed databases pads sends old new id =
+    IsSomeAnd (queued_message id old.queues.queued) (λ message. (message.id ≡ id) × (new ≡ message_closed databases (pads message) old message (sends message)))
 
 -- the terminal's first reply is gone
 abbrev pub removed : TablesState → List ℕ → TablesState

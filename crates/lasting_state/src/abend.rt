@@ -1,6 +1,6 @@
 //! What the origin of a message is sent where the work on it ended abnormally.
 ghost use Rattle.std.specs.Prelude.{◌≡◌, IfOk};
-ghost use Rattle.model_machine.specs.Lasting.{abend_outputs};
+ghost use Rattle.model_machine.specs.LastingSteps.{abend_outputs};
 
 use lasting_changes::abend_segments;
 use model_messages::EndedMessage;

@@ -1,9 +1,9 @@
 //! Commands of an operator that last.
 ghost use Rattle.std.specs.Prelude.{◌≡◌, ◌<◌, ◌^◌, IfErr, OnErr, OnOk};
-ghost use Rattle.model_machine.specs.Lasting.LastingStep.{Commands};
-ghost use Rattle.lasting_state.specs.Untold.{WhereFull};
-ghost use Rattle.lasting_state.specs.Commands.{AppliesCommand, command_done, commanded};
-ghost use Rattle.lasting_state.specs.Telling.{IsLonger, Tells};
+ghost use Rattle.model_machine.specs.LastingSteps.LastingStep.{Commands};
+ghost use Rattle.lasting_state.specs.UntoldSteps.{WhereFull};
+ghost use Rattle.lasting_state.specs.DoneCommands.{AppliesCommand, command_done, tables_commanded};
+ghost use Rattle.lasting_state.specs.ToldSteps.{AreRecordsLonger, TellsStep};
 
 use crate::limits::COUNT_LIMIT;
 use crate::tables::Tables;
@@ -27,10 +27,10 @@ impl Tables {
     ) -> Result<(), Untold>
         ensures done { OnOk result (self.new ≡ command_done command.now self.old) }
         ensures applies { OnOk result (AppliesCommand command.now self.old self.new) }
-        ensures told { OnOk result (Tells 0 room (Commands command.now) self.old told.old.items told.new.items) }
+        ensures told { OnOk result (TellsStep 0 room (Commands command.now) self.old told.old.items told.new.items) }
         ensures err { OnErr result (self.new ≡ self.old) }
         ensures untold { OnErr result (told.new.items ≡ told.old.items) }
-        ensures full { IfErr result (WhereFull (IsLonger 0 room (Commands command.now) self.old)) }
+        ensures full { IfErr result (WhereFull (AreRecordsLonger 0 room (Commands command.now) self.old)) }
     {
         if self.steps >= COUNT_LIMIT {
             return Err(Untold::Memory);
@@ -50,7 +50,7 @@ impl Tables {
 
     // What the command changes but for the count of steps.
     fn change(&mut self, command: &LastingCommand)
-        ensures { self.new ≡ commanded command.now self.old }
+        ensures { self.new ≡ tables_commanded command.now self.old }
     {
         match command {
             LastingCommand::StartTransaction(_) => {}

@@ -3,8 +3,8 @@ ghost use Rattle.std.specs.Prelude.{◌≡◌, ◌-◌, true, Some, IfOk};
 ghost use Rattle.tm_types.specs.Segment.{IsSegmentText};
 ghost use Rattle.tm_types.specs.Words.{operands};
 ghost use Rattle.model_messages.specs.Pads.{begun};
-ghost use Rattle.model_machine.specs.Lasting.{without_word};
-ghost use Rattle.lasting_state.specs.Kept.{kept_as, kept_at};
+ghost use Rattle.model_machine.specs.LastingSteps.{without_word};
+ghost use Rattle.lasting_state.specs.KeptInputs.{kept_as, kept_at};
 
 use conversation::begun;
 use model_messages::Conversation;
@@ -26,7 +26,7 @@ pub struct KeptInput {
 }
 
 impl Model for KeptInput {
-    ghost use Rattle.model_machine.specs.Lasting.{KeptInput};
+    ghost use Rattle.model_machine.specs.LastingSteps.{KeptInput};
 
     ghost Value = { KeptInput };
 

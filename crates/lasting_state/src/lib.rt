@@ -24,7 +24,7 @@ mod opening;
 mod outputs;
 mod sending;
 mod shown;
-mod step_telling_telling;
+mod step_records;
 mod tables;
 mod telling;
 
@@ -32,7 +32,7 @@ pub use conversing::{KeptInput, kept_first};
 pub use limits::COUNT_LIMIT;
 pub use log_records::Untold;
 pub use shown::Shown;
-pub use step_telling_telling::{
+pub use step_records::{
     tell_acknowledged, tell_command, tell_completion, tell_discarded, tell_input,
 };
 pub use tables::{Enqueued, Tables};

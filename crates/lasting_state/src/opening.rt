@@ -2,8 +2,8 @@
 ghost use Rattle.std.specs.Prelude.{◌≡◌, [], length, map, replicate};
 ghost use Rattle.model_messages.specs.Queue.{IsNewId};
 ghost use Rattle.seg_store.specs.Stores.{no_changed};
-ghost use Rattle.program_rows.specs.State.{clean_region, committed_rows, dbds_of, rows_of, AreRowsOf};
-ghost use Rattle.program_rows.specs.OnSlots.{slots_in};
+ghost use Rattle.program_rows.specs.DatabasesState.{clean_region, committed_rows, dbds_of, rows_of_stores, AreRowsOf};
+ghost use Rattle.program_rows.specs.SlotsState.{slots_state_of};
 
 use crate::tables::Tables;
 use conversation::Conversations;
@@ -27,8 +27,8 @@ impl Tables {
         requires written { stores.changed ≡ no_changed (map (λ s. s.dbd) stores.stores) }
         requires ids { IsNewId next_id queues.queued }
         ensures tables { self.new ≡ record { databases = self.new.databases; queues = queues; next_id = next_id; terminals = terminals.items; outputs = outputs; conversations = conversations; steps = steps } }
-        ensures slots { slots_in self.new.databases ≡ record { stores = stores.stores; changed = stores.changed; committed = stores.stores; touched = replicate (length self.old.databases.regions) [] } }
-        ensures regions { self.new.databases.regions ≡ replicate (length self.old.databases.regions) (clean_region (rows_of stores.stores)) }
+        ensures slots { slots_state_of self.new.databases ≡ record { stores = stores.stores; changed = stores.changed; committed = stores.stores; touched = replicate (length self.old.databases.regions) [] } }
+        ensures regions { self.new.databases.regions ≡ replicate (length self.old.databases.regions) (clean_region (rows_of_stores stores.stores)) }
         ensures table { self.new.databases.table ≡ self.old.databases.table }
         ensures rows { AreRowsOf (dbds_of self.new.databases) (committed_rows self.new.databases) }
     {

@@ -1,9 +1,9 @@
 //! The records of what a unit sends.
 ghost use Rattle.std.specs.Prelude.{◌≡◌, ◌≤◌, ◌++◌, ◌∷◌, [], take, length, count_by, IfOk, OnErr, OnOk};
 ghost use Rattle.std.specs.List.{flat_map, AllByRecursion};
-ghost use Rattle.log_records.specs.Spelling.{spelling, IsCount, IsRecord};
-ghost use Rattle.lasting_state.specs.Counted.{goes_to, counted_record, counted_records, id_after};
-ghost use Rattle.lasting_state.specs.Ranges.{HaveCounts};
+ghost use Rattle.log_records.specs.RecordSpelling.{record_spelling, IsCount, IsLogRecord};
+ghost use Rattle.lasting_state.specs.OutputRecords.{goes_to, counted_record, counted_records, id_after};
+ghost use Rattle.lasting_state.specs.RecordRanges.{HaveCounts};
 
 use log_records::{append_input, append_reply};
 use model_messages::EndedMessage;
@@ -44,8 +44,8 @@ fn put_output(
     earlier: u64,
 ) -> Result<u64, Memory>
     requires { IsCount output.now.segments }
-    ensures ok { OnOk result (bytes.new.items ≡ bytes.old.items ++ spelling (counted_record unit origin.now earlier output.now terminals.now id)) }
-    ensures valid { OnOk result (IsRecord (counted_record unit origin.now earlier output.now terminals.now id)) }
+    ensures ok { OnOk result (bytes.new.items ≡ bytes.old.items ++ record_spelling (counted_record unit origin.now earlier output.now terminals.now id)) }
+    ensures valid { OnOk result (IsLogRecord (counted_record unit origin.now earlier output.now terminals.now id)) }
     ensures next { IfOk result (λ next. next ≡ id_after output.now terminals.now id) }
     ensures unwritten { OnErr result (bytes.new.items ≡ bytes.old.items) }
 {
@@ -83,8 +83,8 @@ pub fn put_outputs(
     outputs: &VecDeque<EndedMessage>,
 ) -> Result<(), Memory>
     requires { HaveCounts outputs.now.items }
-    ensures ok { OnOk result (bytes.new.items ≡ bytes.old.items ++ flat_map spelling (counted_records unit origin.now [] outputs.now.items terminals.now next_id)) }
-    ensures valid { OnOk result (AllByRecursion IsRecord (counted_records unit origin.now [] outputs.now.items terminals.now next_id)) }
+    ensures ok { OnOk result (bytes.new.items ≡ bytes.old.items ++ flat_map record_spelling (counted_records unit origin.now [] outputs.now.items terminals.now next_id)) }
+    ensures valid { OnOk result (AllByRecursion IsLogRecord (counted_records unit origin.now [] outputs.now.items terminals.now next_id)) }
     ensures kept { OnErr result (take (length bytes.old.items) bytes.new.items ≡ bytes.old.items) }
 {
     let mut id = next_id;

@@ -3,7 +3,7 @@ ghost use Rattle.std.specs.Prelude.{◌≡◌, ◌≤◌, ◌+◌, ◌^◌, IfOk
 ghost use Rattle.tm_types.specs.Segment.{counted_bytes};
 ghost use Rattle.model_messages.specs.Queue.{IsNewId, with_message};
 ghost use Rattle.model_messages.specs.Outputs.{replies_at, with_terminal, with_reply};
-ghost use Rattle.lasting_state.specs.Sending.{switched_message, IsSent};
+ghost use Rattle.lasting_state.specs.SentOutputs.{switched_message, IsSent};
 
 use crate::limits::COUNT_LIMIT;
 use lasting_changes::bytes_of;

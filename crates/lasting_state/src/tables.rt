@@ -1,16 +1,16 @@
 //! What lasts of a control region: databases, messages, replies and numbers.
 ghost use Rattle.std.specs.Prelude.{◌≡◌, ◌<◌, ◌^◌, [], IfOk, OnOk, OnErr, IsSome, IsSomeAnd, None, Some, length, map, replicate, slice_get};
 ghost use Rattle.std.specs.Borrow.{sem};
-ghost use Rattle.model_messages.specs.Queue.{AreInOrder, IsNewId, message_at, queued_at};
+ghost use Rattle.model_messages.specs.Queue.{AreInOrder, IsNewId, queued_message, queued_at};
 ghost use Rattle.model_machine.specs.Machine.{output_at, empty_state, first_setting, terminal_place};
-ghost use Rattle.model_machine.specs.Steps.{ack_by};
-ghost use Rattle.model_machine.specs.Lasting.{abend_outputs, discarded_pad};
-ghost use Rattle.model_machine.specs.Lasting.LastingStep.{Completes, Discards};
+ghost use Rattle.model_machine.specs.MachineCalls.{ack_by};
+ghost use Rattle.model_machine.specs.LastingSteps.{abend_outputs, discarded_pad};
+ghost use Rattle.model_machine.specs.LastingSteps.LastingStep.{Completes, Discards};
 ghost use Rattle.model_data.specs.Table.{empty_table};
-ghost use Rattle.program_rows.specs.State.{clean_region, committed_rows, dbds_of, region_at, AreRowsOf, IsRegionOf};
-ghost use Rattle.program_rows.specs.Answering.{IsCommitted, IsGivenUp};
-ghost use Rattle.lasting_state.specs.Tables.{lasting_of, content_of, with_databases, held, given_back, Applies, IsEnqueued, IsFinished, IsClosed, IsAcknowledged};
-ghost use Rattle.lasting_state.specs.Showing.{IsShown};
+ghost use Rattle.program_rows.specs.DatabasesState.{clean_region, committed_rows, dbds_of, region_at, AreRowsOf, IsRegionOf};
+ghost use Rattle.program_rows.specs.CallAnswers.{IsCommitted, IsGivenUp};
+ghost use Rattle.lasting_state.specs.Tables.{lasting_of, tables_content, with_databases, message_held, given_back, Applies, IsEnqueued, IsMessageFinished, IsMessageClosed, IsAcknowledged};
+ghost use Rattle.lasting_state.specs.ShownTerminal.{IsShown};
 
 use crate::Shown;
 use crate::abend::abend_outputs;
@@ -69,7 +69,7 @@ impl Model for Tables {
 }
 
 impl Tables {
-    ghost use Rattle.lasting_state.specs.Lending.{LendsDatabases};
+    ghost use Rattle.lasting_state.specs.LentDatabases.{LendsDatabases};
 
     /// The tables of an empty control region of this system.
     pub fn new(alloc: Global, system: &System) -> Result<Tables, Memory>
@@ -94,7 +94,7 @@ impl Tables {
 
     /// The bytes of all messages and replies.
     pub fn content(&self) -> u64
-        ensures value { result ≡ content_of self.now }
+        ensures value { result ≡ tables_content self.now }
         ensures small { result < 2 ^ 63 }
     {
         self.queues.content() + self.outputs.content()
@@ -198,7 +198,7 @@ impl Tables {
     /// Gives a message that no region has to a region. This takes no memory.
     pub fn hold(&mut self, id: u64, region: u32)
         requires { IsSomeAnd (queued_at id self.old.queues.queued) (λ q. q.holder ≡ None) }
-        ensures { self.new ≡ held self.old id region }
+        ensures { self.new ≡ message_held self.old id region }
     {
         self.queues.hold(id, region);
     }
@@ -228,7 +228,7 @@ impl Tables {
         requires region { IsRegionOf self.old.databases region }
         requires found { IsSome (queued_at id self.old.queues.queued) }
         ensures step { OnOk result (Applies (Completes id (region_at region self.old.databases).rows outputs.items pad) self.old self.new) }
-        ensures closed { OnOk result (IsClosed self.new.databases (λ _. pad) (λ _. outputs.items) self.old self.new id) }
+        ensures closed { OnOk result (IsMessageClosed self.new.databases (λ _. pad) (λ _. outputs.items) self.old self.new id) }
         ensures databases { OnOk result (IsCommitted region self.old.databases self.new.databases) }
         ensures rows { OnOk result (AreRowsOf (dbds_of self.new.databases) (committed_rows self.new.databases)) }
         ensures dbds { dbds_of self.new.databases ≡ dbds_of self.old.databases }
@@ -252,7 +252,7 @@ impl Tables {
         requires region { IsRegionOf self.old.databases region }
         requires found { IsSome (queued_at id self.old.queues.queued) }
         ensures step { OnOk result (Applies (Discards id abend) self.old self.new) }
-        ensures closed { OnOk result (IsClosed self.new.databases discarded_pad (λ message. abend_outputs message abend) self.old self.new id) }
+        ensures closed { OnOk result (IsMessageClosed self.new.databases discarded_pad (λ message. abend_outputs message abend) self.old self.new id) }
         ensures databases { OnOk result (IsGivenUp region self.old.databases self.new.databases) }
         ensures dbds { dbds_of self.new.databases ≡ dbds_of self.old.databases }
         ensures err { OnErr result (self.new ≡ self.old) }
@@ -273,8 +273,8 @@ impl Tables {
     /// conversations stay.
     fn finish(&mut self, id: u64, outputs: VecDeque<EndedMessage>) -> Result<Name, Memory>
         requires { IsSome (queued_at id self.old.queues.queued) }
-        ensures ok { OnOk result (IsFinished self.old self.new id outputs.items) }
-        ensures origin { IfOk result (λ origin. IsSomeAnd (message_at id self.old.queues.queued) (λ message. origin ≡ message.origin)) }
+        ensures ok { OnOk result (IsMessageFinished self.old self.new id outputs.items) }
+        ensures origin { IfOk result (λ origin. IsSomeAnd (queued_message id self.old.queues.queued) (λ message. origin ≡ message.origin)) }
         ensures databases { self.new.databases ≡ self.old.databases }
         ensures err { OnErr result (self.new ≡ self.old) }
         ensures above { IsNewId self.old.next_id self.old.queues.queued }

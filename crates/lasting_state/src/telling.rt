@@ -6,17 +6,17 @@ ghost use Rattle.std.specs.Option.{option_copied};
 ghost use Rattle.model_messages.specs.Queue.{IsNewId, queued_at};
 ghost use Rattle.model_messages.specs.Outputs.{next_of};
 ghost use Rattle.model_machine.specs.Machine.{output_at, terminal_place};
-ghost use Rattle.model_machine.specs.Lasting.{abend_outputs, discarded_pad};
-ghost use Rattle.model_machine.specs.Lasting.LastingStep.{Completes, Discards};
+ghost use Rattle.model_machine.specs.LastingSteps.{abend_outputs, discarded_pad};
+ghost use Rattle.model_machine.specs.LastingSteps.LastingStep.{Completes, Discards};
 ghost use Rattle.log_records.specs.declared.record.Record.TheVariants.{Input};
-ghost use Rattle.log_records.specs.Spelling.{IsAbend, IsCount};
-ghost use Rattle.log_records.specs.Telling.{IsUntold, Tells as RecordsTell};
-ghost use Rattle.program_rows.specs.State.{committed_rows, dbds_of, region_at, AreRowsOf, IsRegionOf};
-ghost use Rattle.program_rows.specs.Answering.{IsCommitted, IsGivenUp};
-ghost use Rattle.lasting_state.specs.Ranges.{HaveCounts, HasShortPad};
-ghost use Rattle.lasting_state.specs.Untold.{WhereFull};
-ghost use Rattle.lasting_state.specs.Tables.{needs, Applies, IsAcknowledged, IsEnqueued, IsClosed};
-ghost use Rattle.lasting_state.specs.Telling.{IsLonger, IsRefused, Tells, TellsAcknowledged, TellsInput, WouldAcknowledge, WouldTell, is_first_of, removes_by};
+ghost use Rattle.log_records.specs.RecordSpelling.{IsAbend, IsCount};
+ghost use Rattle.log_records.specs.ToldRecords.{AreRecordsUntold, TellsInRoom as RecordsTell};
+ghost use Rattle.program_rows.specs.DatabasesState.{committed_rows, dbds_of, region_at, AreRowsOf, IsRegionOf};
+ghost use Rattle.program_rows.specs.CallAnswers.{IsCommitted, IsGivenUp};
+ghost use Rattle.lasting_state.specs.RecordRanges.{HaveCounts, HasShortPad};
+ghost use Rattle.lasting_state.specs.UntoldSteps.{WhereFull};
+ghost use Rattle.lasting_state.specs.Tables.{tables_input_needs, Applies, IsAcknowledged, IsEnqueued, IsMessageClosed};
+ghost use Rattle.lasting_state.specs.ToldSteps.{AreRecordsLonger, IsInputRefused, TellsStep, TellsAcknowledged, TellsInput, WouldAcknowledge, WouldTell, is_first_of, removes_by};
 
 use crate::conversing::KeptInput;
 use crate::limits::COUNT_LIMIT;
@@ -71,7 +71,7 @@ impl Tables {
 
     /// The bytes that an input needs beside so many busy regions, or None where they pass the limit of all counts.
     fn needed(&self, kept: &KeptInput, busy: u32) -> Option<u64>
-        ensures { IfSome result (λ bytes. bytes ≡ needs self.now kept.now.segments busy) }
+        ensures { IfSome result (λ bytes. bytes ≡ tables_input_needs self.now kept.now.segments busy) }
     {
         let bytes = bytes_of(&kept.segments)?;
         Some(self.content() + bytes + SLOT_ROOM * u64::from(busy.max(1)))
@@ -88,9 +88,9 @@ impl Tables {
     ) -> Result<Enqueued, Memory>
         requires place { terminal_place self.old.terminals terminal.now ≡ Some place }
         requires within { place < length self.old.terminals }
-        requires full { self.old.queues.limit < needs self.old kept.segments busy }
+        requires full { self.old.queues.limit < tables_input_needs self.old kept.segments busy }
         ensures ok { IfOk result (IsEnqueued self.old self.new terminal.now number kept busy) }
-        ensures full { IfOk result IsRefused }
+        ensures full { IfOk result IsInputRefused }
         ensures err { OnErr result (self.new ≡ self.old) }
         ensures above { OnOk result (IsNewId self.old.next_id self.old.queues.queued) }
     {
@@ -115,7 +115,7 @@ impl Tables {
         requires place { terminal_place self.old.terminals terminal.now ≡ Some place }
         requires within { place < length self.old.terminals }
         requires count { IsCount kept.segments }
-        requires fits { needs self.old kept.segments busy ≤ self.old.queues.limit }
+        requires fits { tables_input_needs self.old kept.segments busy ≤ self.old.queues.limit }
         ensures ok { IfOk result (IsEnqueued self.old self.new terminal.now number kept busy) }
         ensures told { IfOk result (TellsInput self.old terminal.now number kept room told.old.items told.new.items) }
         ensures err { OnErr result (self.new ≡ self.old) }
@@ -198,14 +198,14 @@ impl Tables {
         requires counts { HaveCounts outputs.items }
         requires pad { HasShortPad pad }
         ensures step { OnOk result (Applies (Completes id (region_at region self.old.databases).rows outputs.items pad) self.old self.new) }
-        ensures told { OnOk result (Tells unit room (Completes id (region_at region self.old.databases).rows outputs.items pad) self.old told.old.items told.new.items) }
-        ensures closed { OnOk result (IsClosed self.new.databases (λ _. pad) (λ _. outputs.items) self.old self.new id) }
+        ensures told { OnOk result (TellsStep unit room (Completes id (region_at region self.old.databases).rows outputs.items pad) self.old told.old.items told.new.items) }
+        ensures closed { OnOk result (IsMessageClosed self.new.databases (λ _. pad) (λ _. outputs.items) self.old self.new id) }
         ensures databases { OnOk result (IsCommitted region self.old.databases self.new.databases) }
         ensures rows { OnOk result (AreRowsOf (dbds_of self.new.databases) (committed_rows self.new.databases)) }
         ensures dbds { dbds_of self.new.databases ≡ dbds_of self.old.databases }
         ensures err { OnErr result (self.new ≡ self.old) }
         ensures untold { OnErr result (told.new.items ≡ told.old.items) }
-        ensures full { IfErr result (WhereFull (IsLonger unit room (Completes id (region_at region self.old.databases).rows outputs.items pad) self.old)) }
+        ensures full { IfErr result (WhereFull (AreRecordsLonger unit room (Completes id (region_at region self.old.databases).rows outputs.items pad) self.old)) }
         ensures above { OnOk result (IsNewId self.old.next_id self.old.queues.queued) }
     {
         let Some(message) = self.queues.find(id) else {
@@ -250,13 +250,13 @@ impl Tables {
         requires found { IsSome (queued_at id self.old.queues.queued) }
         requires abend { IsAbend abend.number }
         ensures step { OnOk result (Applies (Discards id abend) self.old self.new) }
-        ensures told { OnOk result (Tells unit room (Discards id abend) self.old told.old.items told.new.items) }
-        ensures closed { OnOk result (IsClosed self.new.databases discarded_pad (λ message. abend_outputs message abend) self.old self.new id) }
+        ensures told { OnOk result (TellsStep unit room (Discards id abend) self.old told.old.items told.new.items) }
+        ensures closed { OnOk result (IsMessageClosed self.new.databases discarded_pad (λ message. abend_outputs message abend) self.old self.new id) }
         ensures databases { OnOk result (IsGivenUp region self.old.databases self.new.databases) }
         ensures dbds { dbds_of self.new.databases ≡ dbds_of self.old.databases }
         ensures err { OnErr result (self.new ≡ self.old) }
         ensures untold { OnErr result (told.new.items ≡ told.old.items) }
-        ensures full { IfErr result (WhereFull (IsLonger unit room (Discards id abend) self.old)) }
+        ensures full { IfErr result (WhereFull (AreRecordsLonger unit room (Discards id abend) self.old)) }
         ensures above { OnOk result (IsNewId self.old.next_id self.old.queues.queued) }
     {
         let Some(message) = self.queues.find(id) else {
@@ -287,7 +287,7 @@ fn tell_kept(
     requires { IsCount kept.now.segments }
     ensures told { OnOk result (RecordsTell (Input 0 id terminal.now kept.now.code number kept.now.conversation kept.now.segments ∷ []) room told.old.items told.new.items) }
     ensures untold { OnErr result (told.new.items ≡ told.old.items) }
-    ensures full { IfErr result (IsUntold (Input 0 id terminal.now kept.now.code number kept.now.conversation kept.now.segments ∷ []) room) }
+    ensures full { IfErr result (AreRecordsUntold (Input 0 id terminal.now kept.now.code number kept.now.conversation kept.now.segments ∷ []) room) }
 {
     tell_input(
         id,

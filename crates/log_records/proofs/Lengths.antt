@@ -7,7 +7,7 @@ use Rattle.std.proofs.lemmas.List.Concat.{flat_map-cons}
 use Rattle.tm_types.specs.Segment.{IsSegmentText}
 use Rattle.log_records.specs.declared.record.Record.{Record}
 use Rattle.log_records.specs.declared.record.Record.TheVariants.{Input, Command, Reply, Discarded, Completed, Acknowledged, SyncPoint, Checkpoint, Terminal, Code, Change}
-use Rattle.log_records.specs.Spelling.{number2, number8, flag, text, segs, record_length, AreSegments, AreInRange, IsShort, IsRecord}
+use Rattle.log_records.specs.RecordSpelling.{number2, number8, flag, text, segs, record_length, AreSegments, AreInRange, IsShort, IsLogRecord}
 use Rattle.log_records.proofs.FieldLaws.{number2_length, number8_length}
 
 flag_length : (b : Bool) → length (flag b) ≡ 1
@@ -57,7 +57,7 @@ is_short_enough (Code code stopped class priority) h short = simp (length-append
 is_short_enough (Change unit database slot before after) h short =
     simp (eight, two, length-append {A = ℕ}) (omega arith)
 
-pub is_record : (r : Record) → AreInRange r → IsShort r → IsRecord r
+pub is_record : (r : Record) → AreInRange r → IsShort r → IsLogRecord r
 is_record r h short = record { fields = h; short = is_short_enough r h short }
 
 pub holds_on_ok : {X E P : Type 0} (r : Result X E) → P → OnOk r P

@@ -3,7 +3,7 @@ use Rattle.std.proofs.Common.{◌≡◌, ℕ, zero, suc, ◌+◌, ◌≤◌, Lis
 use Rattle.std.specs.List.{flat_map, slice_get, AllByRecursion}
 use Rattle.std.proofs.lemmas.Option.{same_Some, none-some}
 use Rattle.std.proofs.lemmas.List.{append-nil, take_all}
-use Rattle.log_records.specs.Spelling.{text}
+use Rattle.log_records.specs.RecordSpelling.{text}
 use Rattle.std.proofs.lemmas.List.Concat.{flat_map-cons}
 use Rattle.tm_types.specs.Segment.{IsSegmentText}
 

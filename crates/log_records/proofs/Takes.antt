@@ -3,7 +3,7 @@
 use Rattle.std.proofs.Common.{◌≡◌, ℕ, ◌<◌, ◌+◌, Bool, true, false, cond, List, ◌∷◌, ◌++◌, get_or, take, drop, Result, Ok, Err, refl, sym, ap, subst, ◌∙◌, append_assoc, arith, inl, inr, suc}
 use Rattle.std.proofs.lemmas.Bool.{cases_lt}
 use Rattle.std.proofs.lemmas.List.{length-take, get_or-drop, get_or-take, get_or_past}
-use Rattle.log_records.specs.Reading.{Fault, ◌>>=◌, Reader, ◌&◌, made}
+use Rattle.log_records.specs.RecordReader.{RecordFault, ◌>>=◌, Reader, ◌&◌, read_made}
 
 abbrev pub IsBytes : List ℕ → Type 0
 IsBytes bytes = (i : ℕ) → get_or bytes i 0 < 256
@@ -22,20 +22,20 @@ pub IsBytes-rest : (b : ℕ) (bytes : List ℕ) → IsBytes (b ∷ bytes) → Is
 IsBytes-rest b bytes h i = h (suc i)
 
 -- the value of a step that did not fail
-pub bind_ok : {A B : Type 0} (r : Result A Fault) (f : A → Result B Fault) (y : B) → (r >>= f) ≡ Ok y → (x : A) × (r ≡ Ok x) × (f x ≡ Ok y)
+pub bind_ok : {A B : Type 0} (r : Result A RecordFault) (f : A → Result B RecordFault) (y : B) → (r >>= f) ≡ Ok y → (x : A) × (r ≡ Ok x) × (f x ≡ Ok y)
 bind_ok (Ok x) f y e = (x, refl, e)
 bind_ok (Err d) f y e = absurd cc
 
 -- a test that did not fail
-pub failed_not : {A : Type 0} (b : Bool) (d : Fault) (x y : A) → cond b (Err d) (Ok x) ≡ Ok y → (b ≡ false) × (x ≡ y)
+pub failed_not : {A : Type 0} (b : Bool) (d : RecordFault) (x y : A) → cond b (Err d) (Ok x) ≡ Ok y → (b ≡ false) × (x ≡ y)
 failed_not true d x y e = absurd cc
 failed_not false d x y e = (refl, cc)
 
-pub passed : {A : Type 0} (b : Bool) (d : Fault) (x y : A) → cond b (Ok x) (Err d) ≡ Ok y → (b ≡ true) × (x ≡ y)
+pub passed : {A : Type 0} (b : Bool) (d : RecordFault) (x y : A) → cond b (Ok x) (Err d) ≡ Ok y → (b ≡ true) × (x ≡ y)
 passed true d x y e = (refl, cc)
 passed false d x y e = absurd cc
 
-abbrev pub done : {A : Type 0} → A → Result A Fault
+abbrev pub done : {A : Type 0} → A → Result A RecordFault
 done x = Ok x
 
 pub ok_is : {A : Type 0} (x y : A) → done x ≡ done y → x ≡ y
@@ -85,7 +85,7 @@ f and g = record {
 -- a value that is made of what is read, behind bytes that say which kind of value it is
 pub made_takes : {A B : Type 0} (make : A → B) (f : Field A) (front : List ℕ) (spell : B → List ℕ) (Fits : B → Type 0)
     → ((v : A) → spell (make v) ≡ front ++ f.spell v) → ((v : A) → f.Fits v → Fits (make v))
-    → (bytes : List ℕ) (x : B × List ℕ) → IsBytes bytes → made make f.read bytes ≡ Ok x → Takes (front ++ bytes) (spell x.0) x.1 × Fits x.0
+    → (bytes : List ℕ) (x : B × List ℕ) → IsBytes bytes → read_made make f.read bytes ≡ Ok x → Takes (front ++ bytes) (spell x.0) x.1 × Fits x.0
 made_takes {A = A} {B = B} make f front spell Fits same fit bytes x fits e =
     let u = bind_ok (f.read bytes) (λ (x : A × List ℕ). Ok (make x.0, x.1)) x e in
     let k = f.takes bytes u.0 fits u.1 in
@@ -96,5 +96,5 @@ made_takes {A = A} {B = B} make f front spell Fits same fit bytes x fits e =
     } in
     subst (λ (y : B × List ℕ). Takes (front ++ bytes) (spell y.0) y.1 × Fits y.0) (ok_is found x u.2) (whole, fit u.0.0 k.1)
 
-pub made_again : {A B : Type 0} (make : A → B) (f : Field A) (v : A) (rest : List ℕ) → f.Fits v → made make f.read (f.spell v ++ rest) ≡ Ok (make v, rest)
+pub made_again : {A B : Type 0} (make : A → B) (f : Field A) (v : A) (rest : List ℕ) → f.Fits v → read_made make f.read (f.spell v ++ rest) ≡ Ok (make v, rest)
 made_again make f v rest h = rw (f.again v rest h) refl

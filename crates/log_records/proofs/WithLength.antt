@@ -7,15 +7,15 @@ use Rattle.std.proofs.lemmas.List.{length-append}
 use Rattle.log_records.specs.declared.record.Record.{Record}
 use Rattle.log_records.specs.declared.record.Record.TheVariants.{SyncPoint, Terminal}
 use Rattle.model_messages.specs.declared.conversation.PadChange.TheVariants.{Stays, New, Ends}
-use Rattle.log_records.specs.Spelling.{content, IsShort, IsShortPad, AreInRange, HasRoom, IsRecord}
+use Rattle.log_records.specs.RecordSpelling.{record_content, IsShort, IsShortPad, AreInRange, HasRoomForPad, IsLogRecord}
 use Rattle.log_records.proofs.Lengths.{eight, one, text_length}
 
 -- the length is a number of two bytes
-pub is_short_from : (base before out : List ℕ) (r : Record) (start : ℕ) → before ≡ base ++ 0 ∷ 0 ∷ [] → out ≡ before ++ content r → start ≡ length base → IsRecord r → length out - start < 2 ^ 16
+pub is_short_from : (base before out : List ℕ) (r : Record) (start : ℕ) → before ≡ base ++ 0 ∷ 0 ∷ [] → out ≡ before ++ record_content r → start ≡ length base → IsLogRecord r → length out - start < 2 ^ 16
 is_short_from base before out r start room is from is_record =
-    omega (arith, is_record.short, from, ap (length {A = ℕ}) is, ap (length {A = ℕ}) room, length-append before (content r), length-append base (0 ∷ 0 ∷ []))
+    omega (arith, is_record.short, from, ap (length {A = ℕ}) is, ap (length {A = ℕ}) room, length-append before (record_content r), length-append base (0 ∷ 0 ∷ []))
 
-pub short_from : {T E : Type 0} (written : Result T E) (base before out : List ℕ) (r : Record) (start : ℕ) → before ≡ base ++ 0 ∷ 0 ∷ [] → start ≡ length base → OnOk written (out ≡ before ++ content r) → OnOk written (IsRecord r) → OnOk written (length out - start < 2 ^ 16)
+pub short_from : {T E : Type 0} (written : Result T E) (base before out : List ℕ) (r : Record) (start : ℕ) → before ≡ base ++ 0 ∷ 0 ∷ [] → start ≡ length base → OnOk written (out ≡ before ++ record_content r) → OnOk written (IsLogRecord r) → OnOk written (length out - start < 2 ^ 16)
 short_from (Ok x) base before out r start room from is is_record = is_short_from base before out r start room is from is_record
 short_from (Err e) base before out r start room from is is_record = tt
 
@@ -33,7 +33,7 @@ pub new_short : (unit : ℕ) (pad : List ℕ) → length pad ≤ 65521 → IsSho
 new_short unit pad fits = simp (eight, text_length) (omega arith)
 
 -- a terminal's record is short where its pad is
-pub terminal_short : (terminal : List ℕ) (last next : ℕ) (stopped : Bool) (conversation : Option Conversation) → AreInRange (Terminal terminal last next stopped conversation) → HasRoom conversation → IsShort (Terminal terminal last next stopped conversation)
+pub terminal_short : (terminal : List ℕ) (last next : ℕ) (stopped : Bool) (conversation : Option Conversation) → AreInRange (Terminal terminal last next stopped conversation) → HasRoomForPad conversation → IsShort (Terminal terminal last next stopped conversation)
 terminal_short terminal last next stopped None h room =
     let most = h.0.1 in
     simp (eight, one, text_length, length-append {A = ℕ}) (omega arith)
@@ -42,6 +42,6 @@ terminal_short terminal last next stopped (Some c) h room =
     let code = h.1.1.1.1.0.1 in
     simp (eight, one, text_length, length-append {A = ℕ}) (omega arith)
 
-pub short_pad : (conversation : Option Conversation) → HasRoom conversation → IsShortPad conversation
+pub short_pad : (conversation : Option Conversation) → HasRoomForPad conversation → IsShortPad conversation
 short_pad None room = tt
 short_pad (Some c) room = omega (arith, room)

@@ -1,18 +1,11 @@
 -- Bytes that are all of a kind have no first one that isn't.
-use Rattle.std.proofs.Common.{◌≡◌, ℕ, ◌<◌, Bool, true, false, not, List, length, refl, arith}
+use Rattle.std.proofs.Common.{◌≡◌, ℕ, ◌<◌, Bool, true, false, not, List, length, arith}
 use Rattle.std.specs.List.{list_all, position, position_or_len}
-use Rattle.std.specs.Prelude.{Some, None, cond, nat_lt}
+use Rattle.std.specs.Prelude.{Some, nat_lt}
 use Rattle.std.proofs.lemmas.Bool.Decides.{nat_tests}
 use Rattle.std.proofs.lemmas.List.Sums.{passes_at_first}
 use Rattle.std.proofs.lemmas.List.Folds.{list_all_at}
-
-some_if : (b : Bool) (n i : ℕ) → cond b (Some n) None ≡ Some i → b ≡ true
-some_if true n i e = refl
-some_if false n i e = cc
-
-not_so : (b : Bool) → not b ≡ true → b ≡ false
-not_so true e = cc
-not_so false e = refl
+use Rattle.tm_types.proofs.Truths.{some_if, not_so}
 
 pub none_wrong : (p : ℕ → Bool) (xs : List ℕ) (i : ℕ) → position (λ b. not (p b)) xs ≡ Some i → list_all p xs ≡ true → true ≡ false
 none_wrong p xs i e all =

@@ -1,4 +1,4 @@
-pub mod Spelling
-pub mod Telling
-pub mod Reading
-pub mod Decoding
+pub mod RecordSpelling
+pub mod ToldRecords
+pub mod RecordReader
+pub mod DecodedRecord

@@ -1,8 +1,8 @@
 //! Records, spelled from borrowed parts.
 ghost use Rattle.std.specs.Prelude.{◌≡◌, ◌<◌, ◌≤◌, ◌^◌, ◌+◌, ◌-◌, ◌++◌, length, take, drop, OnOk, OnErr};
 ghost use Rattle.log_records.specs.declared.record.Record.TheVariants.{Input, Command, Reply, Discarded, Completed, Acknowledged, SyncPoint, Checkpoint, Terminal, Code, Change};
-ghost use Rattle.log_records.specs.Spelling.{number2, spelling, IsCount, IsAbend, IsPadChange, HasRoom, IsShort, IsRecord};
-ghost use Rattle.model_data.specs.Record.{spelling as rows_spelling};
+ghost use Rattle.log_records.specs.RecordSpelling.{number2, record_spelling, IsCount, IsAbend, IsPadChange, HasRoomForPad, IsShort, IsLogRecord};
+ghost use Rattle.model_data.specs.Record.{rows_spelling as rows_spelling};
 
 use crate::encoding::{
     put_acknowledged, put_checkpoint, put_code, put_command, put_completed, put_discarded,
@@ -15,7 +15,7 @@ use tm_types::{AbendCode, Memory, Name, Segments};
 
 // The record that begins at `start` gets its length, for which it has two bytes; where there was no memory to write it
 // whole, what was written of it goes.
-#[tactic(auto, unfolding(crate::specs::Spelling::number2))]
+#[tactic(auto, unfolding(crate::specs::RecordSpelling::number2))]
 fn end_record(out: &mut Vec<u8>, start: usize, written: Result<(), Memory>) -> Result<(), Memory>
     requires room { OnOk written (start + 2 ≤ length out.old.items) }
     requires short { OnOk written (length out.old.items - start < 2 ^ 16) }
@@ -45,8 +45,8 @@ pub fn append_input(
     segments: &Segments,
 ) -> Result<(), Memory>
     requires { IsCount segments.now }
-    ensures ok { OnOk result (out.new.items ≡ out.old.items ++ spelling (Input unit id origin.now code.now number conversation segments.now)) }
-    ensures valid { OnOk result (IsRecord (Input unit id origin.now code.now number conversation segments.now)) }
+    ensures ok { OnOk result (out.new.items ≡ out.old.items ++ record_spelling (Input unit id origin.now code.now number conversation segments.now)) }
+    ensures valid { OnOk result (IsLogRecord (Input unit id origin.now code.now number conversation segments.now)) }
     ensures unwritten { OnErr result (out.new.items ≡ out.old.items) }
 {
     let start = out.len();
@@ -58,8 +58,8 @@ pub fn append_input(
 /// Appends the spelling of a command that lasts, whose text has at most 80 bytes. After `Memory` nothing of it is.
 pub fn append_command(out: &mut Vec<u8>, text: &[u8]) -> Result<(), Memory>
     requires { length text.now ≤ 80 }
-    ensures ok { OnOk result (out.new.items ≡ out.old.items ++ spelling (Command text.now)) }
-    ensures valid { OnOk result (IsRecord (Command text.now)) }
+    ensures ok { OnOk result (out.new.items ≡ out.old.items ++ record_spelling (Command text.now)) }
+    ensures valid { OnOk result (IsLogRecord (Command text.now)) }
     ensures unwritten { OnErr result (out.new.items ≡ out.old.items) }
 {
     let start = out.len();
@@ -77,8 +77,8 @@ pub fn append_reply(
     segments: &Segments,
 ) -> Result<(), Memory>
     requires { IsCount segments.now }
-    ensures ok { OnOk result (out.new.items ≡ out.old.items ++ spelling (Reply unit terminal.now number segments.now)) }
-    ensures valid { OnOk result (IsRecord (Reply unit terminal.now number segments.now)) }
+    ensures ok { OnOk result (out.new.items ≡ out.old.items ++ record_spelling (Reply unit terminal.now number segments.now)) }
+    ensures valid { OnOk result (IsLogRecord (Reply unit terminal.now number segments.now)) }
     ensures unwritten { OnErr result (out.new.items ≡ out.old.items) }
 {
     let start = out.len();
@@ -97,8 +97,8 @@ pub fn append_discarded(
     number: u64,
 ) -> Result<(), Memory>
     requires { IsAbend abend.number }
-    ensures ok { OnOk result (out.new.items ≡ out.old.items ++ spelling (Discarded unit id abend number)) }
-    ensures valid { OnOk result (IsRecord (Discarded unit id abend number)) }
+    ensures ok { OnOk result (out.new.items ≡ out.old.items ++ record_spelling (Discarded unit id abend number)) }
+    ensures valid { OnOk result (IsLogRecord (Discarded unit id abend number)) }
     ensures unwritten { OnErr result (out.new.items ≡ out.old.items) }
 {
     let start = out.len();
@@ -109,8 +109,8 @@ pub fn append_discarded(
 
 /// Appends the spelling of a message's completion. After `Memory` nothing of it is.
 pub fn append_completed(out: &mut Vec<u8>, unit: u64, id: u64) -> Result<(), Memory>
-    ensures ok { OnOk result (out.new.items ≡ out.old.items ++ spelling (Completed unit id)) }
-    ensures valid { OnOk result (IsRecord (Completed unit id)) }
+    ensures ok { OnOk result (out.new.items ≡ out.old.items ++ record_spelling (Completed unit id)) }
+    ensures valid { OnOk result (IsLogRecord (Completed unit id)) }
     ensures unwritten { OnErr result (out.new.items ≡ out.old.items) }
 {
     let start = out.len();
@@ -121,8 +121,8 @@ pub fn append_completed(out: &mut Vec<u8>, unit: u64, id: u64) -> Result<(), Mem
 
 /// Appends the spelling of a reply's acknowledgement. After `Memory` nothing of it is.
 pub fn append_acknowledged(out: &mut Vec<u8>, terminal: &Name, number: u64) -> Result<(), Memory>
-    ensures ok { OnOk result (out.new.items ≡ out.old.items ++ spelling (Acknowledged terminal.now number)) }
-    ensures valid { OnOk result (IsRecord (Acknowledged terminal.now number)) }
+    ensures ok { OnOk result (out.new.items ≡ out.old.items ++ record_spelling (Acknowledged terminal.now number)) }
+    ensures valid { OnOk result (IsLogRecord (Acknowledged terminal.now number)) }
     ensures unwritten { OnErr result (out.new.items ≡ out.old.items) }
 {
     let start = out.len();
@@ -136,8 +136,8 @@ pub fn append_acknowledged(out: &mut Vec<u8>, terminal: &Name, number: u64) -> R
 pub fn append_sync_point(out: &mut Vec<u8>, unit: u64, pad: &PadChange) -> Result<(), Memory>
     requires pad { IsPadChange pad.now }
     requires short { IsShort (SyncPoint unit pad.now) }
-    ensures ok { OnOk result (out.new.items ≡ out.old.items ++ spelling (SyncPoint unit pad.now)) }
-    ensures valid { OnOk result (IsRecord (SyncPoint unit pad.now)) }
+    ensures ok { OnOk result (out.new.items ≡ out.old.items ++ record_spelling (SyncPoint unit pad.now)) }
+    ensures valid { OnOk result (IsLogRecord (SyncPoint unit pad.now)) }
     ensures unwritten { OnErr result (out.new.items ≡ out.old.items) }
 {
     let start = out.len();
@@ -154,8 +154,8 @@ pub fn append_checkpoint(
     next_unit: u64,
     lasting_steps: u64,
 ) -> Result<(), Memory>
-    ensures ok { OnOk result (out.new.items ≡ out.old.items ++ spelling (Checkpoint checkpoint next_id next_unit lasting_steps)) }
-    ensures valid { OnOk result (IsRecord (Checkpoint checkpoint next_id next_unit lasting_steps)) }
+    ensures ok { OnOk result (out.new.items ≡ out.old.items ++ record_spelling (Checkpoint checkpoint next_id next_unit lasting_steps)) }
+    ensures valid { OnOk result (IsLogRecord (Checkpoint checkpoint next_id next_unit lasting_steps)) }
     ensures unwritten { OnErr result (out.new.items ≡ out.old.items) }
 {
     let start = out.len();
@@ -174,9 +174,9 @@ pub fn append_terminal(
     stopped: bool,
     conversation: &Option<Conversation>,
 ) -> Result<(), Memory>
-    requires pad { HasRoom conversation.now }
-    ensures ok { OnOk result (out.new.items ≡ out.old.items ++ spelling (Terminal terminal.now last_input next_output stopped conversation.now)) }
-    ensures valid { OnOk result (IsRecord (Terminal terminal.now last_input next_output stopped conversation.now)) }
+    requires pad { HasRoomForPad conversation.now }
+    ensures ok { OnOk result (out.new.items ≡ out.old.items ++ record_spelling (Terminal terminal.now last_input next_output stopped conversation.now)) }
+    ensures valid { OnOk result (IsLogRecord (Terminal terminal.now last_input next_output stopped conversation.now)) }
     ensures unwritten { OnErr result (out.new.items ≡ out.old.items) }
 {
     let start = out.len();
@@ -200,8 +200,8 @@ pub fn append_code(
     class: u8,
     priority: u8,
 ) -> Result<(), Memory>
-    ensures ok { OnOk result (out.new.items ≡ out.old.items ++ spelling (Code code.now stopped class priority)) }
-    ensures valid { OnOk result (IsRecord (Code code.now stopped class priority)) }
+    ensures ok { OnOk result (out.new.items ≡ out.old.items ++ record_spelling (Code code.now stopped class priority)) }
+    ensures valid { OnOk result (IsLogRecord (Code code.now stopped class priority)) }
     ensures unwritten { OnErr result (out.new.items ≡ out.old.items) }
 {
     let start = out.len();
@@ -222,8 +222,8 @@ pub fn append_change(
 ) -> Result<(), Memory>
     requires before { length (rows_spelling before.now) ≤ 4000 }
     requires after { length (rows_spelling after.now) ≤ 4000 }
-    ensures ok { OnOk result (out.new.items ≡ out.old.items ++ spelling (Change unit database slot (rows_spelling before.now) (rows_spelling after.now))) }
-    ensures valid { OnOk result (IsRecord (Change unit database slot (rows_spelling before.now) (rows_spelling after.now))) }
+    ensures ok { OnOk result (out.new.items ≡ out.old.items ++ record_spelling (Change unit database slot (rows_spelling before.now) (rows_spelling after.now))) }
+    ensures valid { OnOk result (IsLogRecord (Change unit database slot (rows_spelling before.now) (rows_spelling after.now))) }
     ensures unwritten { OnErr result (out.new.items ≡ out.old.items) }
 {
     let start = out.len();

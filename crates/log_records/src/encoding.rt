@@ -4,14 +4,14 @@ ghost use Rattle.log_records.specs.declared.record.Record.TheVariants.{Input, Co
 ghost use Rattle.std.specs.List.{AllByRecursion, flat_map};
 ghost use Rattle.tm_types.specs.Name.{IsName};
 ghost use Rattle.tm_types.specs.Segment.{IsSegmentText};
-ghost use Rattle.log_records.specs.Spelling.{number2, number8, flag, name, text, segs, pad_change, conversation_field, content, spelling, IsText, IsCount, AreSegments, IsAbend, IsPadChange, IsShortPad, IsConversation, KeepsLimits, AreInRange, IsEncodable, IsRecord};
+ghost use Rattle.log_records.specs.RecordSpelling.{number2, number8, flag, name, text, segs, spelled_pad_change, conversation_field, record_content, record_spelling, IsText, IsCount, AreSegments, IsAbend, IsPadChange, IsShortPad, IsConversationSpelled, KeepsLimits, AreInRange, IsEncodable, IsLogRecord};
 
 use crate::record::Record;
 use model_messages::{Conversation, PadChange};
 use std::alloc::Global;
 use tm_types::{AbendCode, Memory, Name, Segments};
 
-#[tactic(auto, unfolding(crate::specs::Spelling::number2))]
+#[tactic(auto, unfolding(crate::specs::RecordSpelling::number2))]
 pub(crate) fn put_number2(out: &mut Vec<u8>, number: u16) -> Result<(), Memory>
     ensures ok { OnOk result (out.new.items ≡ out.old.items ++ number2 number) }
     ensures kept { OnErr result (take (length out.old.items) out.new.items ≡ out.old.items) }
@@ -19,7 +19,7 @@ pub(crate) fn put_number2(out: &mut Vec<u8>, number: u16) -> Result<(), Memory>
     out.extend_from_slice(&number.to_be_bytes())
 }
 
-#[tactic(auto, unfolding(crate::specs::Spelling::number8))]
+#[tactic(auto, unfolding(crate::specs::RecordSpelling::number8))]
 fn put_number8(out: &mut Vec<u8>, number: u64) -> Result<(), Memory>
     ensures ok { OnOk result (out.new.items ≡ out.old.items ++ number8 number) }
     ensures kept { OnErr result (take (length out.old.items) out.new.items ≡ out.old.items) }
@@ -98,7 +98,7 @@ fn put_segments(out: &mut Vec<u8>, segments: &Segments) -> Result<(), Memory>
 
 fn put_pad_change(out: &mut Vec<u8>, change: &PadChange) -> Result<(), Memory>
     requires { IsPadChange change.now }
-    ensures ok { OnOk result (out.new.items ≡ out.old.items ++ pad_change change.now) }
+    ensures ok { OnOk result (out.new.items ≡ out.old.items ++ spelled_pad_change change.now) }
     ensures kept { OnErr result (take (length out.old.items) out.new.items ≡ out.old.items) }
 {
     match change {
@@ -120,7 +120,7 @@ fn put_pad_change(out: &mut Vec<u8>, change: &PadChange) -> Result<(), Memory>
 fn put_conversation(out: &mut Vec<u8>, conversation: &Option<Conversation>) -> Result<(), Memory>
     requires { IsShortPad conversation.now }
     ensures ok { OnOk result (out.new.items ≡ out.old.items ++ conversation_field conversation.now) }
-    ensures valid { OnOk result (IsConversation conversation.now) }
+    ensures valid { OnOk result (IsConversationSpelled conversation.now) }
     ensures kept { OnErr result (take (length out.old.items) out.new.items ≡ out.old.items) }
 {
     match conversation {
@@ -147,7 +147,7 @@ pub(crate) fn put_input(
     segments: &Segments,
 ) -> Result<(), Memory>
     requires { IsCount segments.now }
-    ensures ok { OnOk result (out.new.items ≡ out.old.items ++ content (Input unit id origin.now code.now number conversation segments.now)) }
+    ensures ok { OnOk result (out.new.items ≡ out.old.items ++ record_content (Input unit id origin.now code.now number conversation segments.now)) }
     ensures valid { OnOk result (AreInRange (Input unit id origin.now code.now number conversation segments.now)) }
     ensures kept { OnErr result (take (length out.old.items) out.new.items ≡ out.old.items) }
 {
@@ -161,7 +161,7 @@ pub(crate) fn put_input(
 
 pub(crate) fn put_command(out: &mut Vec<u8>, text: &[u8]) -> Result<(), Memory>
     requires { length text.now ≤ 80 }
-    ensures ok { OnOk result (out.new.items ≡ out.old.items ++ content (Command text.now)) }
+    ensures ok { OnOk result (out.new.items ≡ out.old.items ++ record_content (Command text.now)) }
     ensures valid { OnOk result (AreInRange (Command text.now)) }
     ensures kept { OnErr result (take (length out.old.items) out.new.items ≡ out.old.items) }
 {
@@ -177,7 +177,7 @@ pub(crate) fn put_reply(
     segments: &Segments,
 ) -> Result<(), Memory>
     requires { IsCount segments.now }
-    ensures ok { OnOk result (out.new.items ≡ out.old.items ++ content (Reply unit terminal.now number segments.now)) }
+    ensures ok { OnOk result (out.new.items ≡ out.old.items ++ record_content (Reply unit terminal.now number segments.now)) }
     ensures valid { OnOk result (AreInRange (Reply unit terminal.now number segments.now)) }
     ensures kept { OnErr result (take (length out.old.items) out.new.items ≡ out.old.items) }
 {
@@ -196,7 +196,7 @@ pub(crate) fn put_discarded(
     number: u64,
 ) -> Result<(), Memory>
     requires { IsAbend abend.number }
-    ensures ok { OnOk result (out.new.items ≡ out.old.items ++ content (Discarded unit id abend number)) }
+    ensures ok { OnOk result (out.new.items ≡ out.old.items ++ record_content (Discarded unit id abend number)) }
     ensures valid { OnOk result (AreInRange (Discarded unit id abend number)) }
     ensures kept { OnErr result (take (length out.old.items) out.new.items ≡ out.old.items) }
 {
@@ -207,7 +207,7 @@ pub(crate) fn put_discarded(
 }
 
 pub(crate) fn put_completed(out: &mut Vec<u8>, unit: u64, id: u64) -> Result<(), Memory>
-    ensures ok { OnOk result (out.new.items ≡ out.old.items ++ content (Completed unit id)) }
+    ensures ok { OnOk result (out.new.items ≡ out.old.items ++ record_content (Completed unit id)) }
     ensures valid { OnOk result (AreInRange (Completed unit id)) }
     ensures kept { OnErr result (take (length out.old.items) out.new.items ≡ out.old.items) }
 {
@@ -220,7 +220,7 @@ pub(crate) fn put_acknowledged(
     terminal: &Name,
     number: u64,
 ) -> Result<(), Memory>
-    ensures ok { OnOk result (out.new.items ≡ out.old.items ++ content (Acknowledged terminal.now number)) }
+    ensures ok { OnOk result (out.new.items ≡ out.old.items ++ record_content (Acknowledged terminal.now number)) }
     ensures valid { OnOk result (AreInRange (Acknowledged terminal.now number)) }
     ensures kept { OnErr result (take (length out.old.items) out.new.items ≡ out.old.items) }
 {
@@ -231,7 +231,7 @@ pub(crate) fn put_acknowledged(
 
 pub(crate) fn put_sync_point(out: &mut Vec<u8>, unit: u64, pad: &PadChange) -> Result<(), Memory>
     requires { IsPadChange pad.now }
-    ensures ok { OnOk result (out.new.items ≡ out.old.items ++ content (SyncPoint unit pad.now)) }
+    ensures ok { OnOk result (out.new.items ≡ out.old.items ++ record_content (SyncPoint unit pad.now)) }
     ensures valid { OnOk result (AreInRange (SyncPoint unit pad.now)) }
     ensures kept { OnErr result (take (length out.old.items) out.new.items ≡ out.old.items) }
 {
@@ -247,7 +247,7 @@ pub(crate) fn put_checkpoint(
     next_unit: u64,
     lasting_steps: u64,
 ) -> Result<(), Memory>
-    ensures ok { OnOk result (out.new.items ≡ out.old.items ++ content (Checkpoint checkpoint next_id next_unit lasting_steps)) }
+    ensures ok { OnOk result (out.new.items ≡ out.old.items ++ record_content (Checkpoint checkpoint next_id next_unit lasting_steps)) }
     ensures valid { OnOk result (AreInRange (Checkpoint checkpoint next_id next_unit lasting_steps)) }
     ensures kept { OnErr result (take (length out.old.items) out.new.items ≡ out.old.items) }
 {
@@ -267,7 +267,7 @@ pub(crate) fn put_terminal(
     conversation: &Option<Conversation>,
 ) -> Result<(), Memory>
     requires { IsShortPad conversation.now }
-    ensures ok { OnOk result (out.new.items ≡ out.old.items ++ content (Terminal terminal.now last_input next_output stopped conversation.now)) }
+    ensures ok { OnOk result (out.new.items ≡ out.old.items ++ record_content (Terminal terminal.now last_input next_output stopped conversation.now)) }
     ensures valid { OnOk result (AreInRange (Terminal terminal.now last_input next_output stopped conversation.now)) }
     ensures kept { OnErr result (take (length out.old.items) out.new.items ≡ out.old.items) }
 {
@@ -286,7 +286,7 @@ pub(crate) fn put_code(
     class: u8,
     priority: u8,
 ) -> Result<(), Memory>
-    ensures ok { OnOk result (out.new.items ≡ out.old.items ++ content (Code code.now stopped class priority)) }
+    ensures ok { OnOk result (out.new.items ≡ out.old.items ++ record_content (Code code.now stopped class priority)) }
     ensures valid { OnOk result (AreInRange (Code code.now stopped class priority)) }
     ensures kept { OnErr result (take (length out.old.items) out.new.items ≡ out.old.items) }
 {
@@ -319,7 +319,7 @@ fn put_change(
 ) -> Result<(), Memory>
     requires before { length before.now ≤ 4000 }
     requires after { length after.now ≤ 4000 }
-    ensures ok { OnOk result (out.new.items ≡ out.old.items ++ content (Change unit database slot before.now after.now)) }
+    ensures ok { OnOk result (out.new.items ≡ out.old.items ++ record_content (Change unit database slot before.now after.now)) }
     ensures valid { OnOk result (AreInRange (Change unit database slot before.now after.now)) }
     ensures kept { OnErr result (take (length out.old.items) out.new.items ≡ out.old.items) }
 {
@@ -330,7 +330,7 @@ fn put_change(
 
 fn put_content(out: &mut Vec<u8>, value: &Record) -> Result<(), Memory>
     requires { KeepsLimits value.now }
-    ensures ok { OnOk result (out.new.items ≡ out.old.items ++ content value.now) }
+    ensures ok { OnOk result (out.new.items ≡ out.old.items ++ record_content value.now) }
     ensures valid { OnOk result (AreInRange value.now) }
     ensures kept { OnErr result (take (length out.old.items) out.new.items ≡ out.old.items) }
 {
@@ -419,8 +419,8 @@ fn put_content(out: &mut Vec<u8>, value: &Record) -> Result<(), Memory>
 /// bytes; no other is longer.
 pub fn encode(alloc: Global, value: &Record, out: &mut Vec<u8>) -> Result<(), Memory>
     requires { IsEncodable value.now }
-    ensures ok { OnOk result (out.new.items ≡ out.old.items ++ spelling value.now) }
-    ensures valid { OnOk result (IsRecord value.now) }
+    ensures ok { OnOk result (out.new.items ≡ out.old.items ++ record_spelling value.now) }
+    ensures valid { OnOk result (IsLogRecord value.now) }
     ensures err { OnErr result (out.new.items ≡ out.old.items) }
 {
     let mut content = Vec::new(alloc);

@@ -1,8 +1,8 @@
 //! Images of records, spelled from their rows.
 ghost use Rattle.std.specs.Prelude.{◌≡◌, ◌≤◌, ◌++◌, length, take, OnOk, OnErr};
 ghost use Rattle.log_records.specs.declared.record.Record.TheVariants.{Change};
-ghost use Rattle.log_records.specs.Spelling.{content, text, AreInRange};
-ghost use Rattle.model_data.specs.Record.{row_spelling, spelling as rows_spelling};
+ghost use Rattle.log_records.specs.RecordSpelling.{record_content, text, AreInRange};
+ghost use Rattle.model_data.specs.Record.{row_spelling, rows_spelling as rows_spelling};
 
 use crate::encoding::{put_number2, put_slot};
 use model_data::Row;
@@ -19,7 +19,7 @@ pub(crate) fn put_row_change(
 ) -> Result<(), Memory>
     requires before { length (rows_spelling before.now) ≤ 4000 }
     requires after { length (rows_spelling after.now) ≤ 4000 }
-    ensures ok { OnOk result (out.new.items ≡ out.old.items ++ content (Change unit database slot (rows_spelling before.now) (rows_spelling after.now))) }
+    ensures ok { OnOk result (out.new.items ≡ out.old.items ++ record_content (Change unit database slot (rows_spelling before.now) (rows_spelling after.now))) }
     ensures valid { OnOk result (AreInRange (Change unit database slot (rows_spelling before.now) (rows_spelling after.now))) }
     ensures kept { OnErr result (take (length out.old.items) out.new.items ≡ out.old.items) }
 {

@@ -1,6 +1,6 @@
 //! The fields of each record, read.
 ghost use Rattle.std.specs.Prelude.{◌≡◌};
-ghost use Rattle.log_records.specs.Reading.{Gives, input_at, command_at, reply_at, discarded_at, completed_at, acknowledged_at, sync_point_at, checkpoint_at, terminal_at, code_at, change_at, answered_of_kind_at, answered_at, snapshot_of_kind_at, snapshot_at, content_of_code_at, content_at, record_at};
+ghost use Rattle.log_records.specs.RecordReader.{GivesRead, input_at, command_at, read_reply, discarded_at, completed_at, acknowledged_at, sync_point_at, checkpoint_at, read_terminal, read_code, read_change, answered_of_kind_at, answered_at, snapshot_of_kind_at, snapshot_at, content_of_code_at, content_at, record_at};
 
 use crate::fault::{LENGTH, ReadFault, UNKNOWN};
 use crate::fields::{
@@ -11,9 +11,9 @@ use crate::record::Record;
 use std::alloc::Global;
 use tm_types::AbendCode;
 
-#[tactic(auto, unfolding(crate::specs::Reading::input_at))]
+#[tactic(auto, unfolding(crate::specs::RecordReader::input_at))]
 fn input(alloc: Global, bytes: &[u8]) -> Result<(Record, &[u8]), ReadFault>
-    ensures { Gives (λ x. (x.0, x.1.now)) result (input_at bytes.now) }
+    ensures { GivesRead (λ x. (x.0, x.1.now)) result (input_at bytes.now) }
 {
     let (unit, rest) = number8(bytes)?;
     let (id, rest) = number8(rest)?;
@@ -36,17 +36,17 @@ fn input(alloc: Global, bytes: &[u8]) -> Result<(Record, &[u8]), ReadFault>
     ))
 }
 
-#[tactic(auto, unfolding(crate::specs::Reading::command_at))]
+#[tactic(auto, unfolding(crate::specs::RecordReader::command_at))]
 fn command(alloc: Global, bytes: &[u8]) -> Result<(Record, &[u8]), ReadFault>
-    ensures { Gives (λ x. (x.0, x.1.now)) result (command_at bytes.now) }
+    ensures { GivesRead (λ x. (x.0, x.1.now)) result (command_at bytes.now) }
 {
     let (text, rest) = text(alloc, 80, bytes)?;
     Ok((Record::Command { text }, rest))
 }
 
-#[tactic(auto, unfolding(crate::specs::Reading::reply_at))]
+#[tactic(auto, unfolding(crate::specs::RecordReader::read_reply))]
 fn reply(alloc: Global, bytes: &[u8]) -> Result<(Record, &[u8]), ReadFault>
-    ensures { Gives (λ x. (x.0, x.1.now)) result (reply_at bytes.now) }
+    ensures { GivesRead (λ x. (x.0, x.1.now)) result (read_reply bytes.now) }
 {
     let (unit, rest) = number8(bytes)?;
     let (terminal, rest) = name_text(rest)?;
@@ -63,9 +63,9 @@ fn reply(alloc: Global, bytes: &[u8]) -> Result<(Record, &[u8]), ReadFault>
     ))
 }
 
-#[tactic(auto, unfolding(crate::specs::Reading::discarded_at))]
+#[tactic(auto, unfolding(crate::specs::RecordReader::discarded_at))]
 fn discarded(bytes: &[u8]) -> Result<(Record, &[u8]), ReadFault>
-    ensures { Gives (λ x. (x.0, x.1.now)) result (discarded_at bytes.now) }
+    ensures { GivesRead (λ x. (x.0, x.1.now)) result (discarded_at bytes.now) }
 {
     let (unit, rest) = number8(bytes)?;
     let (id, rest) = number8(rest)?;
@@ -82,18 +82,18 @@ fn discarded(bytes: &[u8]) -> Result<(Record, &[u8]), ReadFault>
     ))
 }
 
-#[tactic(auto, unfolding(crate::specs::Reading::completed_at))]
+#[tactic(auto, unfolding(crate::specs::RecordReader::completed_at))]
 fn completed(bytes: &[u8]) -> Result<(Record, &[u8]), ReadFault>
-    ensures { Gives (λ x. (x.0, x.1.now)) result (completed_at bytes.now) }
+    ensures { GivesRead (λ x. (x.0, x.1.now)) result (completed_at bytes.now) }
 {
     let (unit, rest) = number8(bytes)?;
     let (id, rest) = number8(rest)?;
     Ok((Record::Completed { unit, id }, rest))
 }
 
-#[tactic(auto, unfolding(crate::specs::Reading::acknowledged_at))]
+#[tactic(auto, unfolding(crate::specs::RecordReader::acknowledged_at))]
 fn acknowledged(bytes: &[u8]) -> Result<(Record, &[u8]), ReadFault>
-    ensures { Gives (λ x. (x.0, x.1.now)) result (acknowledged_at bytes.now) }
+    ensures { GivesRead (λ x. (x.0, x.1.now)) result (acknowledged_at bytes.now) }
 {
     let (terminal, rest) = name_text(bytes)?;
     let (number, rest) = number8(rest)?;
@@ -106,18 +106,18 @@ fn acknowledged(bytes: &[u8]) -> Result<(Record, &[u8]), ReadFault>
     ))
 }
 
-#[tactic(auto, unfolding(crate::specs::Reading::sync_point_at))]
+#[tactic(auto, unfolding(crate::specs::RecordReader::sync_point_at))]
 fn sync_point(alloc: Global, bytes: &[u8]) -> Result<(Record, &[u8]), ReadFault>
-    ensures { Gives (λ x. (x.0, x.1.now)) result (sync_point_at bytes.now) }
+    ensures { GivesRead (λ x. (x.0, x.1.now)) result (sync_point_at bytes.now) }
 {
     let (unit, rest) = number8(bytes)?;
     let (pad, rest) = pad_change(alloc, rest)?;
     Ok((Record::SyncPoint { unit, pad }, rest))
 }
 
-#[tactic(auto, unfolding(crate::specs::Reading::checkpoint_at))]
+#[tactic(auto, unfolding(crate::specs::RecordReader::checkpoint_at))]
 fn checkpoint(bytes: &[u8]) -> Result<(Record, &[u8]), ReadFault>
-    ensures { Gives (λ x. (x.0, x.1.now)) result (checkpoint_at bytes.now) }
+    ensures { GivesRead (λ x. (x.0, x.1.now)) result (checkpoint_at bytes.now) }
 {
     let (checkpoint, rest) = number8(bytes)?;
     let (next_id, rest) = number8(rest)?;
@@ -134,9 +134,9 @@ fn checkpoint(bytes: &[u8]) -> Result<(Record, &[u8]), ReadFault>
     ))
 }
 
-#[tactic(auto, unfolding(crate::specs::Reading::terminal_at))]
+#[tactic(auto, unfolding(crate::specs::RecordReader::read_terminal))]
 fn terminal(alloc: Global, bytes: &[u8]) -> Result<(Record, &[u8]), ReadFault>
-    ensures { Gives (λ x. (x.0, x.1.now)) result (terminal_at bytes.now) }
+    ensures { GivesRead (λ x. (x.0, x.1.now)) result (read_terminal bytes.now) }
 {
     let (terminal, rest) = name_text(bytes)?;
     let (last_input, rest) = number8(rest)?;
@@ -155,9 +155,9 @@ fn terminal(alloc: Global, bytes: &[u8]) -> Result<(Record, &[u8]), ReadFault>
     ))
 }
 
-#[tactic(auto, unfolding(crate::specs::Reading::code_at))]
+#[tactic(auto, unfolding(crate::specs::RecordReader::read_code))]
 fn code(bytes: &[u8]) -> Result<(Record, &[u8]), ReadFault>
-    ensures { Gives (λ x. (x.0, x.1.now)) result (code_at bytes.now) }
+    ensures { GivesRead (λ x. (x.0, x.1.now)) result (read_code bytes.now) }
 {
     let (code, rest) = name_text(bytes)?;
     let (stopped, rest) = flag(rest)?;
@@ -174,9 +174,9 @@ fn code(bytes: &[u8]) -> Result<(Record, &[u8]), ReadFault>
     ))
 }
 
-#[tactic(auto, unfolding(crate::specs::Reading::change_at))]
+#[tactic(auto, unfolding(crate::specs::RecordReader::read_change))]
 fn change(alloc: Global, bytes: &[u8]) -> Result<(Record, &[u8]), ReadFault>
-    ensures { Gives (λ x. (x.0, x.1.now)) result (change_at bytes.now) }
+    ensures { GivesRead (λ x. (x.0, x.1.now)) result (read_change bytes.now) }
 {
     let (unit, rest) = number8(bytes)?;
     let (database, rest) = byte(rest)?;
@@ -195,9 +195,9 @@ fn change(alloc: Global, bytes: &[u8]) -> Result<(Record, &[u8]), ReadFault>
     ))
 }
 
-#[tactic(auto, unfolding(crate::specs::Reading::answered_of_kind_at))]
+#[tactic(auto, unfolding(crate::specs::RecordReader::answered_of_kind_at))]
 fn answered_of_kind(kind: u8, rest: &[u8]) -> Result<(Record, &[u8]), ReadFault>
-    ensures { Gives (λ x. (x.0, x.1.now)) result (answered_of_kind_at kind rest.now) }
+    ensures { GivesRead (λ x. (x.0, x.1.now)) result (answered_of_kind_at kind rest.now) }
 {
     match kind {
         0 => completed(rest),
@@ -206,17 +206,17 @@ fn answered_of_kind(kind: u8, rest: &[u8]) -> Result<(Record, &[u8]), ReadFault>
     }
 }
 
-#[tactic(auto, unfolding(crate::specs::Reading::answered_at))]
+#[tactic(auto, unfolding(crate::specs::RecordReader::answered_at))]
 fn answered(bytes: &[u8]) -> Result<(Record, &[u8]), ReadFault>
-    ensures { Gives (λ x. (x.0, x.1.now)) result (answered_at bytes.now) }
+    ensures { GivesRead (λ x. (x.0, x.1.now)) result (answered_at bytes.now) }
 {
     let (kind, rest) = byte(bytes)?;
     answered_of_kind(kind, rest)
 }
 
-#[tactic(auto, unfolding(crate::specs::Reading::snapshot_of_kind_at))]
+#[tactic(auto, unfolding(crate::specs::RecordReader::snapshot_of_kind_at))]
 fn snapshot_of_kind(alloc: Global, kind: u8, rest: &[u8]) -> Result<(Record, &[u8]), ReadFault>
-    ensures { Gives (λ x. (x.0, x.1.now)) result (snapshot_of_kind_at kind rest.now) }
+    ensures { GivesRead (λ x. (x.0, x.1.now)) result (snapshot_of_kind_at kind rest.now) }
 {
     match kind {
         0 => checkpoint(rest),
@@ -226,17 +226,17 @@ fn snapshot_of_kind(alloc: Global, kind: u8, rest: &[u8]) -> Result<(Record, &[u
     }
 }
 
-#[tactic(auto, unfolding(crate::specs::Reading::snapshot_at))]
+#[tactic(auto, unfolding(crate::specs::RecordReader::snapshot_at))]
 fn snapshot(alloc: Global, bytes: &[u8]) -> Result<(Record, &[u8]), ReadFault>
-    ensures { Gives (λ x. (x.0, x.1.now)) result (snapshot_at bytes.now) }
+    ensures { GivesRead (λ x. (x.0, x.1.now)) result (snapshot_at bytes.now) }
 {
     let (kind, rest) = byte(bytes)?;
     snapshot_of_kind(alloc, kind, rest)
 }
 
-#[tactic(auto, unfolding(crate::specs::Reading::content_of_code_at))]
+#[tactic(auto, unfolding(crate::specs::RecordReader::content_of_code_at))]
 fn content_of_code(alloc: Global, code: u8, rest: &[u8]) -> Result<(Record, &[u8]), ReadFault>
-    ensures { Gives (λ x. (x.0, x.1.now)) result (content_of_code_at code rest.now) }
+    ensures { GivesRead (λ x. (x.0, x.1.now)) result (content_of_code_at code rest.now) }
 {
     match code {
         0x01 => input(alloc, rest),
@@ -251,18 +251,18 @@ fn content_of_code(alloc: Global, code: u8, rest: &[u8]) -> Result<(Record, &[u8
     }
 }
 
-#[tactic(auto, unfolding(crate::specs::Reading::content_at))]
+#[tactic(auto, unfolding(crate::specs::RecordReader::content_at))]
 fn content(alloc: Global, bytes: &[u8]) -> Result<(Record, &[u8]), ReadFault>
-    ensures { Gives (λ x. (x.0, x.1.now)) result (content_at bytes.now) }
+    ensures { GivesRead (λ x. (x.0, x.1.now)) result (content_at bytes.now) }
 {
     let (code, rest) = byte(bytes)?;
     content_of_code(alloc, code, rest)
 }
 
 /// The record at the front of the bytes, and its length.
-#[tactic(auto, unfolding(crate::specs::Reading::record_at))]
+#[tactic(auto, unfolding(crate::specs::RecordReader::record_at))]
 pub(crate) fn record(alloc: Global, bytes: &[u8]) -> Result<(Record, usize), ReadFault>
-    ensures { Gives (λ x. x) result (record_at bytes.now) }
+    ensures { GivesRead (λ x. x) result (record_at bytes.now) }
 {
     let (length, after_length) = number2(bytes)?;
     let (record, rest) = content(alloc, after_length)?;

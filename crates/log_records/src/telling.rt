@@ -1,7 +1,7 @@
 //! Records behind others, where they fit.
 ghost use Rattle.std.specs.Prelude.{◌≡◌, ◌≤◌, ◌-◌, length, take, Err, OnOk, OnErr, IfErr};
 ghost use Rattle.log_records.specs.declared.untold.Untold.TheVariants.{Memory as NoMemory};
-ghost use Rattle.log_records.specs.Telling.{IsTooLong};
+ghost use Rattle.log_records.specs.ToldRecords.{AreRecordsTooLong};
 
 use crate::untold::Untold;
 use tm_types::Memory;
@@ -17,7 +17,7 @@ pub fn end_telling(
     ensures told { OnOk result (told.new.items ≡ told.old.items) }
     ensures fits { OnOk result (length told.old.items - start ≤ room) }
     ensures gone { OnErr result (told.new.items ≡ take start told.old.items) }
-    ensures full { IfErr result (IsTooLong (length told.old.items - start) room) }
+    ensures full { IfErr result (AreRecordsTooLong (length told.old.items - start) room) }
     ensures unwritten { OnErr written (result ≡ Err NoMemory) }
 {
     let ended = fits(told.len() - start, room, written);
@@ -30,7 +30,7 @@ pub fn end_telling(
 // Whether bytes that were written whole are at most as many as `room`.
 fn fits(bytes: usize, room: usize, written: Result<(), Memory>) -> Result<(), Untold>
     ensures fits { OnOk result (bytes ≤ room) }
-    ensures full { IfErr result (IsTooLong bytes room) }
+    ensures full { IfErr result (AreRecordsTooLong bytes room) }
     ensures unwritten { OnErr written (result ≡ Err NoMemory) }
 {
     written?;

@@ -8,14 +8,16 @@ use Rattle.model_system.specs.System.{System}
 use Rattle.model_messages.specs.declared.replies.TerminalReplies.{TerminalReplies}
 use Rattle.model_machine.specs.Machine.{LastingState}
 use Rattle.model_image.specs.States.{is_small, is_next, has_right_pad, run_up_to, breaks_a_rule}
-use Rattle.image_records.specs.Kept.{KeptState}
-use Rattle.image_law.specs.Sound.{IsSound}
-use Rattle.image_law.proofs.Bools.{both, first_of, second_of}
+use Rattle.image_records.specs.KeptState.{KeptState}
+use Rattle.image_law.specs.SoundState.{IsSound}
+use Rattle.image_law.proofs.Bools.{first_of, second_of}
 use Rattle.image_law.proofs.SoundLaws.{is_sound}
 use Rattle.image_law.proofs.Kept.{stands}
-use Rattle.log_replay.specs.Steps.{is_over}
-use Rattle.log_replay.specs.Judged.{lasting_in, is_run, KeepsRest, IsOrderly, AreFree, AreSound, AreSmall, Does, Leaves}
+use Rattle.log_replay.specs.ReplaySteps.{is_over}
+use Rattle.log_replay.specs.ReplayRules.{lasting_in, KeepsRest, IsOrderly, AreMessagesFree, AreSound, AreSmall, DoesStep, RecordLeaves}
 use Rattle.log_replay.proofs.Orders.{not_small}
+use Rattle.tm_types.proofs.Truths.{both}
+use Rattle.image_law.specs.StandingState.{is_run}
 
 small_from : (outputs : List TerminalReplies) → list_all (λ t. is_next t.next) outputs ≡ true → list_any not_small outputs ≡ false
 small_from [] all = refl
@@ -83,19 +85,19 @@ over_breaks system kept over = by_rule (breaks_a_rule system (lasting_in system 
 
 module _ (system : System) (answer : Option LastingState) (step : Option KeptState) (lifted : answer ≡ option_map (lasting_in system) step) where
   -- a step that can't be done, or that leaves a number that may not be counted on
-  pub refused : (new any : KeptState) → Does step new false → Leaves system answer any false
+  pub refused : (new any : KeptState) → DoesStep step new false → RecordLeaves system answer any false
   refused new any over = ap (λ (o : Option LastingState). option_map_or (breaks_a_rule system) o true) lifted ∙ by_step step over where
     by_step : (o : Option KeptState) → option_map_or is_over o true ≡ true → option_map_or (breaks_a_rule system) (option_map (lasting_in system) o) true ≡ true
     by_step (Some kept) over = over_breaks system kept over
     by_step None over = refl
 
   -- a step that was done, and what it leaves was judged
-  pub judged : (new : KeptState) → step ≡ Some new → AreFree system new → (fine : Bool) → fine ≡ not (breaks_a_rule system (lasting_in system new)) → Leaves system answer new fine
+  pub judged : (new : KeptState) → step ≡ Some new → AreMessagesFree system new → (fine : Bool) → fine ≡ not (breaks_a_rule system (lasting_in system new)) → RecordLeaves system answer new fine
   judged new is free fine right = by_rule fine (breaks_a_rule system (lasting_in system new)) refl right where
     there : answer ≡ Some (lasting_in system new)
     there = lifted ∙ ap (option_map (lasting_in system)) is
 
-    by_rule : (fine b : Bool) → breaks_a_rule system (lasting_in system new) ≡ b → fine ≡ not b → Leaves system answer new fine
+    by_rule : (fine b : Bool) → breaks_a_rule system (lasting_in system new) ≡ b → fine ≡ not b → RecordLeaves system answer new fine
     by_rule true false broken right = (there, broken, free)
     by_rule false true broken right = ap (λ (o : Option LastingState). option_map_or (breaks_a_rule system) o true) there ∙ broken
     by_rule true true broken right = cc

@@ -10,16 +10,16 @@ use Rattle.model_machine.specs.Machine.{LastingState}
 use Rattle.log_records.specs.declared.record.Record.{Record}
 use Rattle.log_records.specs.declared.record.Record.TheVariants.{Input, Command, Reply, Discarded, Completed, Acknowledged, SyncPoint, Checkpoint, Terminal, Code, Change}
 use Rattle.model_image.specs.States.{breaks_a_rule}
-use Rattle.model_image.specs.Replay.{Replay, is_of_unit, with_waiting, without_unit, with_lasting, replayed, is_known, unless_it_breaks, replay_one, accepts, commands}
-use Rattle.log_replay.specs.Judged.{lasting_in, AreFree, Leaves}
-use Rattle.image_records.specs.Kept.{KeptState}
-use Rattle.log_replay.specs.Tallied.{TallyState, Follows}
-use Rattle.log_replay.specs.Waiting.{of_unit, ChangesUnit}
-use Rattle.log_replay.specs.Working.{WorkState, IsAt, Comes, Waits, IsDone, waits_for, of_unit_of, does_now, LeavesUnits}
+use Rattle.model_image.specs.Replay.{Replay, is_of_unit, with_waiting, without_unit, with_lasting, replayed, is_record_known, unless_it_breaks, replay_one, replay_accepts, commands}
+use Rattle.log_replay.specs.ReplayRules.{lasting_in, AreMessagesFree, RecordLeaves}
+use Rattle.image_records.specs.KeptState.{KeptState}
+use Rattle.log_replay.specs.ConversationTally.{TallyState, TallyFollows}
+use Rattle.log_replay.specs.WaitingRecords.{of_unit, ChangesUnit}
+use Rattle.log_replay.specs.WorkState.{WorkState, IsAt, RecordComesTo, RecordWaits, IsRecordDone, waits_for_unit, of_unit_of, does_now, LeavesUnits}
 
 -- ---- records that wait
 
-waiting_unit : (r : Record) (unit : ℕ) → waits_for r ≡ Some unit → (u : ℕ) → is_of_unit u r ≡ (unit == u)
+waiting_unit : (r : Record) (unit : ℕ) → waits_for_unit r ≡ Some unit → (u : ℕ) → is_of_unit u r ≡ (unit == u)
 waiting_unit (Input zero id origin code number conversation segments) unit is u = cc
 waiting_unit (Input (suc n) id origin code number conversation segments) unit is u = let e : suc n ≡ unit = cc in ap (λ n. n == u) e
 waiting_unit (Reply n terminal number segments) unit is u = let e : n ≡ unit = cc in ap (λ n. n == u) e
@@ -33,7 +33,7 @@ waiting_unit (Terminal name last next stopped conversation) unit is u = cc
 waiting_unit (Code name stopped class priority) unit is u = cc
 waiting_unit (Change n database slot before after) unit is u = cc
 
-waiting_done : (system : System) (r : Record) (unit : ℕ) → waits_for r ≡ Some unit → (replay : Replay) → replayed system r replay ≡ Some (with_waiting r replay)
+waiting_done : (system : System) (r : Record) (unit : ℕ) → waits_for_unit r ≡ Some unit → (replay : Replay) → replayed system r replay ≡ Some (with_waiting r replay)
 waiting_done system (Input zero id origin code number conversation segments) unit is replay = cc
 waiting_done system (Input (suc n) id origin code number conversation segments) unit is replay = refl
 waiting_done system (Reply n terminal number segments) unit is replay = refl
@@ -59,7 +59,7 @@ abbrev of_its_unit : Record → Replay → List Record
 of_its_unit (SyncPoint unit pad) replay = filter (is_of_unit unit) replay.waiting
 of_its_unit _ replay = []
 
-now_done : (system : System) (r : Record) → waits_for r ≡ None → (replay : Replay) → replayed system r replay ≡ with_lasting (left_by r replay) (does_now system r (of_its_unit r replay) replay.lasting)
+now_done : (system : System) (r : Record) → waits_for_unit r ≡ None → (replay : Replay) → replayed system r replay ≡ with_lasting (left_by r replay) (does_now system r (of_its_unit r replay) replay.lasting)
 now_done system (Input zero id origin code number conversation segments) is replay = refl
 now_done system (Input (suc n) id origin code number conversation segments) is replay = cc
 now_done system (Reply n terminal number segments) is replay = cc
@@ -144,24 +144,24 @@ left_waiting (Change n database slot before after) replay old new waiting same u
 
 module _ (system : System) (r : Record) (replay : Replay) (old new : WorkState) (at : IsAt system replay old) where
   -- its names aren't known
-  pub unknown : is_known system r ≡ false → Comes system (replay_one system r replay) new false
+  pub unknown : is_record_known system r ≡ false → RecordComesTo system (replay_one system r replay) new false
   unknown is = ap (λ b. if b then option_and_then (unless_it_breaks system) (replayed system r replay) else None) is
 
-  known_is : is_known system r ≡ true → (answer : Option Replay) → replayed system r replay ≡ answer → replay_one system r replay ≡ option_and_then (unless_it_breaks system) answer
+  known_is : is_record_known system r ≡ true → (answer : Option Replay) → replayed system r replay ≡ answer → replay_one system r replay ≡ option_and_then (unless_it_breaks system) answer
   known_is is answer done =
       ap (λ b. if b then option_and_then (unless_it_breaks system) (replayed system r replay) else None) is ∙ ap (option_and_then (unless_it_breaks system)) done
 
   -- it waits for its unit's sync point
-  waits_on : is_known system r ≡ true → (unit : ℕ) → waits_for r ≡ Some unit → new.kept ≡ old.kept → ChangesUnit unit (λ records. records ++ r ∷ []) old.units new.units → new.tally ≡ old.tally → Comes system (replay_one system r replay) new true
+  waits_on : is_record_known system r ≡ true → (unit : ℕ) → waits_for_unit r ≡ Some unit → new.kept ≡ old.kept → ChangesUnit unit (λ records. records ++ r ∷ []) old.units new.units → new.tally ≡ old.tally → RecordComesTo system (replay_one system r replay) new true
   waits_on known unit is same changes alike = (
     with_waiting r replay,
     known_is known (Some (with_waiting r replay)) (waiting_done system r unit is replay) ∙ ap (λ b. if b then None else Some (with_waiting r replay)) at.sound,
     record {
       lasting = at.lasting ∙ ap (lasting_in system) (sym same);
-      free = subst (AreFree system) (sym same) at.free;
+      free = subst (AreMessagesFree system) (sym same) at.free;
       sound = at.sound;
       waiting = λ u. changes u ∙ by_unit u (unit == u) refl;
-      follows = subst (λ (t : TallyState). Follows system new.kept t) (sym alike) (subst (λ (k : KeptState). Follows system k old.tally) (sym same) at.follows);
+      follows = subst (λ (t : TallyState). TallyFollows system new.kept t) (sym alike) (subst (λ (k : KeptState). TallyFollows system k old.tally) (sym same) at.follows);
     },
   ) where
     by_unit : (u : ℕ) (b : Bool) → unit == u ≡ b → (if b then of_unit u old.units ++ r ∷ [] else of_unit u old.units) ≡ filter (is_of_unit u) (replay.waiting ++ r ∷ [])
@@ -172,11 +172,11 @@ module _ (system : System) (r : Record) (replay : Replay) (old new : WorkState) 
           by_test true test = ap (λ (rs : List Record). rs ++ r ∷ []) (at.waiting u) ∙ ap (λ b. filter (is_of_unit u) replay.waiting ++ (if b then r ∷ [] else [])) test
           by_test false test = at.waiting u ∙ sym (append-nil (filter (is_of_unit u) replay.waiting)) ∙ ap (λ b. filter (is_of_unit u) replay.waiting ++ (if b then r ∷ [] else [])) test
 
-  pub waits : is_known system r ≡ true → (unit : ℕ) → waits_for r ≡ Some unit → (fine : Bool) → Waits unit r old new fine → Comes system (replay_one system r replay) new fine
-  waits known unit is fine w = subst (Comes system (replay_one system r replay) new) (sym w.is_fine) (waits_on known unit is w.kept w.units w.tally)
+  pub waits : is_record_known system r ≡ true → (unit : ℕ) → waits_for_unit r ≡ Some unit → (fine : Bool) → RecordWaits unit r old new fine → RecordComesTo system (replay_one system r replay) new fine
+  waits known unit is fine w = subst (RecordComesTo system (replay_one system r replay) new) (sym w.is_fine) (waits_on known unit is w.kept w.units w.tally)
 
   -- it is done at once
-  module _ (known : is_known system r ≡ true) (is : waits_for r ≡ None) (units : LeavesUnits r old.units new.units) where
+  module _ (known : is_record_known system r ≡ true) (is : waits_for_unit r ≡ None) (units : LeavesUnits r old.units new.units) where
     answer_is : (answer : Option LastingState) → does_now system r (of_unit_of r old.units) (lasting_in system old.kept) ≡ answer → replay_one system r replay ≡ option_and_then (unless_it_breaks system) (with_lasting (left_by r replay) answer)
     answer_is answer done =
         known_is known (with_lasting (left_by r replay) answer)
@@ -185,7 +185,7 @@ module _ (system : System) (r : Record) (replay : Replay) (old new : WorkState) 
         ∙ ap (λ (l : LastingState). with_lasting (left_by r replay) (does_now system r (of_unit_of r old.units) l)) at.lasting
         ∙ ap (with_lasting (left_by r replay)) done)
 
-    pub comes : (fine : Bool) → Leaves system (does_now system r (of_unit_of r old.units) (lasting_in system old.kept)) new.kept fine → (fine ≡ true → Follows system new.kept new.tally) → Comes system (replay_one system r replay) new fine
+    pub comes : (fine : Bool) → RecordLeaves system (does_now system r (of_unit_of r old.units) (lasting_in system old.kept)) new.kept fine → (fine ≡ true → TallyFollows system new.kept new.tally) → RecordComesTo system (replay_one system r replay) new fine
     comes true leaves follows =
         let after = lasting_in system new.kept in (
           record (left_by r replay) { lasting = after },
@@ -204,16 +204,16 @@ module _ (system : System) (r : Record) (replay : Replay) (old new : WorkState) 
       by_answer (Some after) done broken = answer_is (Some after) done ∙ ap (λ b. if b then None else Some (record (left_by r replay) { lasting = after })) broken
 
 -- a record that doesn't wait
-pub done_now : (system : System) (r : Record) (replay : Replay) (old new : WorkState) (at : IsAt system replay old) → is_known system r ≡ true → waits_for r ≡ None → (fine : Bool) → IsDone system r old new fine → Comes system (replay_one system r replay) new fine
+pub done_now : (system : System) (r : Record) (replay : Replay) (old new : WorkState) (at : IsAt system replay old) → is_record_known system r ≡ true → waits_for_unit r ≡ None → (fine : Bool) → IsRecordDone system r old new fine → RecordComesTo system (replay_one system r replay) new fine
 done_now system r replay old new at known is fine done = comes system r replay old new at known is done.units fine done.lasting done.follows
 
 -- an input is done at once
 pub input_done : (system : System) (unit id : ℕ) (origin code : List ℕ) (number : ℕ) (conversation : Bool) (segments : List (List ℕ)) (old new : WorkState) (fine : Bool) →
-    Leaves system (accepts system id origin code number conversation segments (lasting_in system old.kept)) new.kept fine → new.units ≡ old.units → (fine ≡ true → Follows system new.kept new.tally) → IsDone system (Input unit id origin code number conversation segments) old new fine
+    RecordLeaves system (replay_accepts system id origin code number conversation segments (lasting_in system old.kept)) new.kept fine → new.units ≡ old.units → (fine ≡ true → TallyFollows system new.kept new.tally) → IsRecordDone system (Input unit id origin code number conversation segments) old new fine
 input_done system unit id origin code number conversation segments old new fine leaves same follows = record { lasting = leaves; units = same; follows = follows }
 
 pub command_done : (system : System) (text : List ℕ) (old new : WorkState) (fine : Bool) →
-    Leaves system (commands text (lasting_in system old.kept)) new.kept fine → new.units ≡ old.units → (fine ≡ true → Follows system new.kept new.tally) → IsDone system (Command text) old new fine
+    RecordLeaves system (commands text (lasting_in system old.kept)) new.kept fine → new.units ≡ old.units → (fine ≡ true → TallyFollows system new.kept new.tally) → IsRecordDone system (Command text) old new fine
 command_done system text old new fine leaves same follows = record { lasting = leaves; units = same; follows = follows }
 
 -- two facts of what is answered give a third one

@@ -5,22 +5,24 @@ use Rattle.std.specs.List.{list_all}
 use Rattle.tm_types.specs.declared.command.LastingCommand.{LastingCommand}
 use Rattle.tm_types.specs.declared.command.LastingCommand.TheVariants.{StartTransaction, StopTransaction, StartTerminal, StopTerminal, DequeueFirst, DequeueAll, Exit}
 use Rattle.model_messages.specs.declared.conversation.TerminalConversation.{TerminalConversation}
-use Rattle.model_messages.specs.Terminals.{is_of as is_of_terminal, with_terminal as with_conversing}
+use Rattle.model_messages.specs.Terminals.{is_conversation_of as is_of_terminal, with_terminal as with_conversing}
 use Rattle.model_messages.specs.Outputs.{with_terminal, without_first}
 use Rattle.model_system.specs.Lists.{change_at}
 use Rattle.model_system.specs.System.{System}
-use Rattle.model_machine.specs.Lasting.{applied, stopped_code, stopped_terminal, without_replies}
-use Rattle.model_machine.specs.Lasting.LastingStep.{Commands}
+use Rattle.model_machine.specs.LastingSteps.{applied, stopped_code, stopped_terminal, without_replies}
+use Rattle.model_machine.specs.LastingSteps.LastingStep.{Commands}
 use Rattle.model_machine.specs.Machine.{setting_place, terminal_place}
 use Rattle.model_image.specs.States.{has_right_pad, is_next, is_setting, is_small, run_up_to}
-use Rattle.image_records.specs.Kept.{KeptState}
-use Rattle.image_law.proofs.Bools.{both, first_of, second_of}
+use Rattle.image_records.specs.KeptState.{KeptState}
+use Rattle.image_law.proofs.Bools.{first_of, second_of}
 use Rattle.image_law.proofs.Conversing.{put}
 use Rattle.image_law.proofs.Lists.{all_changed}
 use Rattle.image_law.proofs.Ordered.{all_at, run_drop}
-use Rattle.log_replay.specs.Steps.{step_commands}
-use Rattle.log_replay.specs.Judged.{AreFree, AreSound, KeepsRest, is_run, lasting_in}
+use Rattle.log_replay.specs.ReplaySteps.{step_commands}
+use Rattle.log_replay.specs.ReplayRules.{AreMessagesFree, AreSound, KeepsRest, lasting_in}
 use Rattle.log_replay.proofs.Before.{inputs_before, numbers_before, pads_before, rest_before}
+use Rattle.tm_types.proofs.Truths.{both}
+use Rattle.image_law.specs.StandingState.{is_run}
 
 module _ (system : System) where
   pub commands_is : (command : LastingCommand) (kept : KeptState) → applied (Commands command) (lasting_in system kept) ≡ lasting_in system (step_commands command kept)
@@ -64,7 +66,7 @@ module _ (system : System) where
     rest_commanded (DequeueAll terminal) = record { settings = rest.settings; ascending = rest.ascending; runs = none_runs terminal }
     rest_commanded (Exit terminal) = record { settings = rest.settings; ascending = rest.ascending; runs = rest.runs }
 
-    pub free_commanded : (command : LastingCommand) → AreFree system (step_commands command kept)
+    pub free_commanded : (command : LastingCommand) → AreMessagesFree system (step_commands command kept)
     free_commanded (StartTransaction code) = record { limit = before.free.limit; holders = before.free.holders }
     free_commanded (StopTransaction code) = record { limit = before.free.limit; holders = before.free.holders }
     free_commanded (StartTerminal terminal) = record { limit = before.free.limit; holders = before.free.holders }

@@ -8,19 +8,19 @@ use Rattle.model_machine.specs.Machine.{LastingState}
 use Rattle.log_records.specs.declared.record.Record.{Record}
 use Rattle.log_records.specs.declared.record.Record.TheVariants.{Input, Command, Reply, Discarded, Completed, Acknowledged, SyncPoint, Checkpoint, Terminal, Code, Change}
 use Rattle.model_image.specs.Counters.{next_unit}
-use Rattle.model_image.specs.Replay.{Replay, is_known, replayed, unless_it_breaks, replay_one, replay_all, replay_of}
+use Rattle.model_image.specs.Replay.{Replay, is_record_known, replayed, unless_it_breaks, replay_one, replay_all, replay_of}
 use Rattle.model_image.specs.Slots.{is_image_of}
 use Rattle.model_image.specs.States.{breaks_a_rule}
-use Rattle.log_replay.specs.Waiting.{of_unit}
-use Rattle.image_records.specs.Kept.{KeptState}
-use Rattle.image_law.proofs.Bools.{both}
-use Rattle.log_replay.specs.Judged.{lasting_in, AreFree, AreSound}
+use Rattle.log_replay.specs.WaitingRecords.{of_unit}
+use Rattle.image_records.specs.KeptState.{KeptState}
+use Rattle.log_replay.specs.ReplayRules.{lasting_in, AreMessagesFree, AreSound}
 use Rattle.model_messages.specs.Queue.{messages_of}
-use Rattle.log_replay.specs.Tallied.{Counts, Follows}
+use Rattle.log_replay.specs.ConversationTally.{Counts, TallyFollows}
 use Rattle.log_replay.proofs.Right.{follows_sound}
-use Rattle.log_replay.specs.Working.{WorkState, IsAt, Comes}
-use Rattle.log_replay.specs.Replaying.{Ends}
+use Rattle.log_replay.specs.WorkState.{WorkState, IsAt, RecordComesTo}
+use Rattle.log_replay.specs.ReplayedLog.{ReplayEnds}
 use Rattle.log_replay.proofs.Tables.{kept_is}
+use Rattle.tm_types.proofs.Truths.{both}
 
 -- ---- the loop
 
@@ -39,29 +39,29 @@ begins system kept records work sound same none counts faults = record {
   replay = start system kept;
   at = record {
     lasting = ap (lasting_in system) (sym same);
-    free = subst (AreFree system) (sym same) sound.free;
+    free = subst (AreMessagesFree system) (sym same) sound.free;
     sound = sound.sound;
     waiting = λ unit. ap (of_unit unit) none;
-    follows = subst (λ (k : KeptState). Follows system k work.tally) (sym same) (follows_sound system kept work.tally sound counts faults);
+    follows = subst (λ (k : KeptState). TallyFollows system k work.tally) (sym same) (follows_sound system kept work.tally sound counts faults);
   };
   same = refl;
 }
 
 module _ (system : System) (kept : KeptState) (records rest : List Record) (r : Record) (work new : WorkState) (on : IsOn system kept records (r ∷ rest) work) where
-  pub goes_on : Comes system (replay_one system r on.replay) new true → IsOn system kept records rest new
+  pub goes_on : RecordComesTo system (replay_one system r on.replay) new true → IsOn system kept records rest new
   goes_on came = record { replay = came.0; at = came.2; same = sym (ap (option_and_then (replay_all system rest)) came.1) ∙ on.same }
 
-  pub stops : Comes system (replay_one system r on.replay) new false → replay_of system records (lasting_in system kept) ≡ None
+  pub stops : RecordComesTo system (replay_one system r on.replay) new false → replay_of system records (lasting_in system kept) ≡ None
   stops none = ap (option_map (λ replay. replay.lasting)) (sym on.same ∙ ap (option_and_then (replay_all system rest)) none)
 
 -- tables at a point of the replay may be gone on with
 pub sound_at : (system : System) (kept : KeptState) (records rest : List Record) (work : WorkState) → IsOn system kept records rest work → AreSound system work.kept
 sound_at system kept records rest work on = record { sound = ap (breaks_a_rule system) (sym on.at.lasting) ∙ on.at.sound; free = on.at.free }
 
-pub follows_at : (system : System) (kept : KeptState) (records rest : List Record) (work : WorkState) → IsOn system kept records rest work → Follows system work.kept work.tally
+pub follows_at : (system : System) (kept : KeptState) (records rest : List Record) (work : WorkState) → IsOn system kept records rest work → TallyFollows system work.kept work.tally
 follows_at system kept records rest work on = on.at.follows
 
-pub ends : (system : System) (kept : KeptState) (records : List Record) (work : WorkState) → IsOn system kept records [] work → Ends system (replay_of system records (lasting_in system kept)) (Some work.kept)
+pub ends : (system : System) (kept : KeptState) (records : List Record) (work : WorkState) → IsOn system kept records [] work → ReplayEnds system (replay_of system records (lasting_in system kept)) (Some work.kept)
 ends system kept records work on = (
   lasting_in system work.kept,
   ap (option_map (λ replay. replay.lasting)) (sym on.same) ∙ ap (λ (l : LastingState). Some l) on.at.lasting,
@@ -70,7 +70,7 @@ ends system kept records work on = (
 
 -- ---- records that were done again are known
 
-known_image : (system : System) (r : Record) → is_known system r ≡ true → is_image_of system r ≡ true
+known_image : (system : System) (r : Record) → is_record_known system r ≡ true → is_image_of system r ≡ true
 known_image system (Change unit database slot before after) is = is
 known_image system (Input unit id origin code number conversation segments) is = refl
 known_image system (Command text) is = refl
@@ -85,12 +85,12 @@ known_image system (Code name stopped class priority) is = refl
 
 images_all : (system : System) (records : List Record) (replay end : Replay) → replay_all system records replay ≡ Some end → list_all (is_image_of system) records ≡ true
 images_all system [] replay end is = refl
-images_all system (r ∷ records) replay end is = by_one (is_known system r) refl is (λ next. images_all system records next end) where
+images_all system (r ∷ records) replay end is = by_one (is_record_known system r) refl is (λ next. images_all system records next end) where
   by_rest : (o : Option Replay) → option_and_then (replay_all system records) o ≡ Some end → ((next : Replay) → replay_all system records next ≡ Some end → list_all (is_image_of system) records ≡ true) → list_all (is_image_of system) records ≡ true
   by_rest (Some next) is later = later next is
   by_rest None is later = cc
 
-  by_one : (b : Bool) → is_known system r ≡ b → option_and_then (replay_all system records) (if b then option_and_then (unless_it_breaks system) (replayed system r replay) else None) ≡ Some end → ((next : Replay) → replay_all system records next ≡ Some end → list_all (is_image_of system) records ≡ true) → list_all (is_image_of system) (r ∷ records) ≡ true
+  by_one : (b : Bool) → is_record_known system r ≡ b → option_and_then (replay_all system records) (if b then option_and_then (unless_it_breaks system) (replayed system r replay) else None) ≡ Some end → ((next : Replay) → replay_all system records next ≡ Some end → list_all (is_image_of system) records ≡ true) → list_all (is_image_of system) (r ∷ records) ≡ true
   by_one true known is later = both (is_image_of system r) (list_all (is_image_of system) records) (known_image system r known) (by_rest (option_and_then (unless_it_breaks system) (replayed system r replay)) is later)
   by_one false known is later = cc
 

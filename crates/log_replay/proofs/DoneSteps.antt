@@ -6,33 +6,35 @@ use Rattle.std.specs.Option.{option_map_or, option_map, option_and_then}
 use Rattle.std.proofs.lemmas.Bool.{eqb-true, ne_eqb}
 use Rattle.tm_types.specs.declared.message.Message.{Message}
 use Rattle.model_messages.specs.declared.replies.TerminalReplies.{TerminalReplies}
-use Rattle.model_messages.specs.Queue.{messages_of, has_id, message_at}
+use Rattle.model_messages.specs.Queue.{messages_of, has_id, queued_message}
 use Rattle.model_messages.specs.Outputs.{with_terminal, with_reply, next_of}
 use Rattle.model_system.specs.System.{System}
 use Rattle.log_records.specs.declared.record.Record.{Record}
 use Rattle.log_records.specs.declared.record.Record.TheVariants.{Input, Command, Reply, Discarded, Completed, Acknowledged, SyncPoint, Checkpoint, Terminal, Code, Change}
 use Rattle.model_image.specs.States.{is_small, ascend_below, run_up_to}
-use Rattle.model_image.specs.Snapshot.{message_of}
-use Rattle.image_records.specs.Kept.{KeptState}
-use Rattle.image_law.proofs.Bools.{both, first_of, second_of, not_of_false}
+use Rattle.model_image.specs.Snapshot.{snapshot_message}
+use Rattle.image_records.specs.KeptState.{KeptState}
+use Rattle.image_law.proofs.Bools.{first_of, second_of, not_of_false}
 use Rattle.image_law.proofs.Lists.{all_more, all_filter}
 use Rattle.image_law.proofs.Ordered.{ascend_more, ascend_filter, run_more, all_at}
-use Rattle.log_replay.specs.Steps.{with_added, with_replied, with_gone, replies, switches, does, does_all, is_over}
-use Rattle.log_replay.specs.Judged.{KeepsRest, AreFree, has_no_holder, is_run}
+use Rattle.log_replay.specs.ReplaySteps.{with_added, with_replied, with_gone, kept_replies, kept_switch, does, does_all, is_over}
+use Rattle.log_replay.specs.ReplayRules.{KeepsRest, AreMessagesFree, has_no_holder}
 use Rattle.log_replay.proofs.Orders.{not_small, next_not_small, any_stays, messages_more, messages_without}
+use Rattle.tm_types.proofs.Truths.{both}
+use Rattle.image_law.specs.StandingState.{is_run}
 
 -- what replies, added messages and messages that go keep
 module _ (P : KeptState → Type 0)
     (replying : (terminal : List ℕ) (segments : List (List ℕ)) (kept : KeptState) → P kept → P (with_replied terminal segments kept))
     (adding : (message : Message) (kept : KeptState) → message.id ≡ kept.next_id → P kept → P (with_added message kept))
     (going : (id : ℕ) (kept : KeptState) → P kept → P (with_gone id kept)) where
-  replies_keeps : (terminal : List ℕ) (number : ℕ) (segments : List (List ℕ)) (kept new : KeptState) → replies terminal number segments kept ≡ Some new → P kept → P new
+  replies_keeps : (terminal : List ℕ) (number : ℕ) (segments : List (List ℕ)) (kept new : KeptState) → kept_replies terminal number segments kept ≡ Some new → P kept → P new
   replies_keeps terminal number segments kept new is p = by_test (next_of terminal kept.outputs == number) is where
     by_test : (b : Bool) → (if b then Some (with_replied terminal segments kept) else None) ≡ Some new → P new
     by_test true is = let e : with_replied terminal segments kept ≡ new = cc in subst P e (replying terminal segments kept p)
     by_test false is = cc
 
-  switches_keeps : (number : ℕ) (message : Message) (kept new : KeptState) → switches number message kept ≡ Some new → P kept → P new
+  switches_keeps : (number : ℕ) (message : Message) (kept new : KeptState) → kept_switch number message kept ≡ Some new → P kept → P new
   switches_keeps number message kept new is p = by_test (kept.next_id == message.id) (number == 0) refl is where
     by_test : (a b : Bool) → kept.next_id == message.id ≡ a → (if a && b then Some (with_added message kept) else None) ≡ Some new → P new
     by_test true true same is =
@@ -47,8 +49,8 @@ module _ (P : KeptState → Type 0)
 
   pub does_keeps : (r : Record) (kept new : KeptState) → does r kept ≡ Some new → P kept → P new
   does_keeps (Reply unit terminal number segments) kept new is p = replies_keeps terminal number segments kept new is p
-  does_keeps (Input unit id origin code number conversation segments) kept new is p = switches_keeps number (message_of id origin code conversation segments) kept new is p
-  does_keeps (Completed unit id) kept new is p = goes_keeps id kept new (message_at id kept.queues.queued) is p
+  does_keeps (Input unit id origin code number conversation segments) kept new is p = switches_keeps number (snapshot_message id origin code conversation segments) kept new is p
+  does_keeps (Completed unit id) kept new is p = goes_keeps id kept new (queued_message id kept.queues.queued) is p
   does_keeps (Command text) kept new is p = let e : kept ≡ new = cc in subst P e p
   does_keeps (Discarded unit id abend number) kept new is p = let e : kept ≡ new = cc in subst P e p
   does_keeps (Acknowledged terminal number) kept new is p = let e : kept ≡ new = cc in subst P e p
@@ -132,17 +134,17 @@ pub rest_all : (records : List Record) (kept new : KeptState) → does_all recor
 rest_all = all_keep KeepsRest rest_replied rest_added rest_gone
 
 module _ (system : System) where
-  pub free_added : (message : Message) (kept : KeptState) → message.id ≡ kept.next_id → AreFree system kept → AreFree system (with_added message kept)
+  pub free_added : (message : Message) (kept : KeptState) → message.id ≡ kept.next_id → AreMessagesFree system kept → AreMessagesFree system (with_added message kept)
   free_added message kept same free = record {
     limit = free.limit;
     holders = all_more has_no_holder kept.queues.queued (record { message = message; holder = None }) free.holders refl;
   }
 
-  pub free_gone : (id : ℕ) (kept : KeptState) → AreFree system kept → AreFree system (with_gone id kept)
+  pub free_gone : (id : ℕ) (kept : KeptState) → AreMessagesFree system kept → AreMessagesFree system (with_gone id kept)
   free_gone id kept free = record {
     limit = free.limit;
     holders = all_filter has_no_holder (λ q. not (has_id id q)) kept.queues.queued free.holders;
   }
 
-  pub free_all : (records : List Record) (kept new : KeptState) → does_all records kept ≡ Some new → AreFree system kept → AreFree system new
-  free_all = all_keep (AreFree system) (λ terminal segments kept free. record { limit = free.limit; holders = free.holders }) free_added free_gone
+  pub free_all : (records : List Record) (kept new : KeptState) → does_all records kept ≡ Some new → AreMessagesFree system kept → AreMessagesFree system new
+  free_all = all_keep (AreMessagesFree system) (λ terminal segments kept free. record { limit = free.limit; holders = free.holders }) free_added free_gone

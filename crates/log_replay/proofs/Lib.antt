@@ -7,8 +7,7 @@ pub mod Rules
 pub mod Before
 pub mod Leaving
 pub mod Coming
-pub mod RecordReplayUnits
-pub mod Placed
+pub mod UnitRecords
 pub mod Stepped
 pub mod Talks
 pub mod Right

@@ -7,28 +7,28 @@ use Rattle.tm_types.specs.declared.abend.AbendCode.{AbendCode}
 use Rattle.tm_types.specs.declared.message.Message.{Message}
 use Rattle.model_messages.specs.declared.conversation.PadChange.{PadChange}
 use Rattle.model_messages.specs.declared.queued.Queued.{Queued}
-use Rattle.model_messages.specs.Queue.{messages_of, without, has_id}
+use Rattle.model_messages.specs.Queue.{messages_of, without_id_queued, has_id}
 use Rattle.model_messages.specs.Queue as queue
 use Rattle.model_messages.specs.Outputs.{with_terminal, without_first, next_of, reply_at, replies_at}
 use Rattle.model_system.specs.System.{System}
 use Rattle.model_machine.specs.Machine.{LastingState, message_at, terminal_at}
 use Rattle.model_messages.specs.declared.ended_message.EndedMessage.{EndedMessage}
-use Rattle.model_machine.specs.Lasting.{KeptInput, applied, padded, discarded_pad, abend_text, abend_outputs, finished, finished_by, replied, switched, with_pad_by, without_message, input_message}
-use Rattle.model_machine.specs.Lasting.LastingStep.{Accepts, Acknowledges, Discards}
+use Rattle.model_machine.specs.LastingSteps.{KeptInput, applied, with_pad_changed, discarded_pad, dfs555i_text, abend_outputs, finished, finished_by, replied, switched, with_pad_by, without_message, input_message}
+use Rattle.model_machine.specs.LastingSteps.LastingStep.{Accepts, Acknowledges, Discards}
 use Rattle.log_records.specs.declared.record.Record.{Record}
 use Rattle.log_records.specs.declared.record.Record.TheVariants.{Input, Command, Reply, Discarded, Completed, Acknowledged, SyncPoint, Checkpoint, Terminal, Code, Change}
-use Rattle.model_image.specs.Snapshot.{message_of}
-use Rattle.model_image.specs.Replay.{done, all_done, accepts, acknowledges, discards, syncs, completed_id, completed_message, with_step, kept_in_record}
-use Rattle.image_records.specs.Kept.{KeptState}
-use Rattle.log_replay.specs.Steps.{with_added, with_replied, with_gone, with_counted, with_pad, with_accepted, begins_with, replies, switches, does, does_all, message_done, step_syncs, step_accepts, step_acknowledges, step_discards, with_discarded}
-use Rattle.log_replay.specs.Judged.{lasting_in}
+use Rattle.model_image.specs.Snapshot.{snapshot_message}
+use Rattle.model_image.specs.Replay.{done, all_done, replay_accepts, replay_acknowledges, discards, syncs, completed_id, completed_message, with_step, kept_in_record}
+use Rattle.image_records.specs.KeptState.{KeptState}
+use Rattle.log_replay.specs.ReplaySteps.{with_added, with_replied, with_gone, with_counted, with_kept_pad, with_accepted, begins_by_input, kept_replies, kept_switch, does, does_all, message_done, step_syncs, step_accepts, step_acknowledges, step_discards, with_discarded}
+use Rattle.log_replay.specs.ReplayRules.{lasting_in}
 use Rattle.log_replay.proofs.Orders.{messages_more, messages_without}
 
 -- what is found by an id
-pub same_message : (id : ℕ) (queued : List Queued) → message_at (messages_of queued) id ≡ queue.message_at id queued
+pub same_message : (id : ℕ) (queued : List Queued) → message_at (messages_of queued) id ≡ queue.queued_message id queued
 same_message id [] = refl
 same_message id (q ∷ queued) = by_first (q.message.id == id) (same_message id queued) where
-  by_first : (b : Bool) → message_at (messages_of queued) id ≡ queue.message_at id queued → (if b then Some q.message else message_at (messages_of queued) id) ≡ option_map (λ q. q.message) (if b then Some q else find (has_id id) queued)
+  by_first : (b : Bool) → message_at (messages_of queued) id ≡ queue.queued_message id queued → (if b then Some q.message else message_at (messages_of queued) id) ≡ option_map (λ q. q.message) (if b then Some q else find (has_id id) queued)
   by_first true rest = refl
   by_first false rest = rest
 
@@ -52,14 +52,14 @@ module _ (system : System) where
   gone_is : (id : ℕ) (kept : KeptState) → told (with_gone id kept) ≡ record (told kept) { messages = filter (λ message. not (message.id == id)) (messages_of kept.queues.queued) }
   gone_is id kept = ap (with_messages kept) (messages_without id kept.queues.queued)
 
-  replied_is : (terminal : List ℕ) (number : ℕ) (segments : List (List ℕ)) (kept : KeptState) (unit : ℕ) → done (Reply unit terminal number segments) (told kept) ≡ option_map told (replies terminal number segments kept)
+  replied_is : (terminal : List ℕ) (number : ℕ) (segments : List (List ℕ)) (kept : KeptState) (unit : ℕ) → done (Reply unit terminal number segments) (told kept) ≡ option_map told (kept_replies terminal number segments kept)
   replied_is terminal number segments kept unit = by_test (next_of terminal kept.outputs == number) where
     by_test : (b : Bool) → (if b then Some (told (with_replied terminal segments kept)) else None) ≡ option_map told (if b then Some (with_replied terminal segments kept) else None)
     by_test true = refl
     by_test false = refl
 
   switched_is : (number : ℕ) (message : Message) (kept : KeptState) →
-      (if (kept.next_id == message.id) && (number == 0) then Some (record (told kept) { messages = messages_of kept.queues.queued ++ message ∷ []; next_id = message.id + 1 }) else None) ≡ option_map told (switches number message kept)
+      (if (kept.next_id == message.id) && (number == 0) then Some (record (told kept) { messages = messages_of kept.queues.queued ++ message ∷ []; next_id = message.id + 1 }) else None) ≡ option_map told (kept_switch number message kept)
   switched_is number message kept = by_test (kept.next_id == message.id) (number == 0) refl where
     by_test : (a b : Bool) → kept.next_id == message.id ≡ a →
         (if a && b then Some (record (told kept) { messages = messages_of kept.queues.queued ++ message ∷ []; next_id = message.id + 1 }) else None) ≡ option_map told (if a && b then Some (with_added message kept) else None)
@@ -72,14 +72,14 @@ module _ (system : System) where
   completed_is : (id : ℕ) (kept : KeptState) (unit : ℕ) → done (Completed unit id) (told kept) ≡ option_map told (does (Completed unit id) kept)
   completed_is id kept unit =
       ap (option_map (λ _. record (told kept) { messages = filter (λ message. not (message.id == id)) (messages_of kept.queues.queued) })) (same_message id kept.queues.queued)
-      ∙ by_found (queue.message_at id kept.queues.queued) where
+      ∙ by_found (queue.queued_message id kept.queues.queued) where
         by_found : (o : Option Message) → option_map (λ _. record (told kept) { messages = filter (λ message. not (message.id == id)) (messages_of kept.queues.queued) }) o ≡ option_map told (option_map (λ _. with_gone id kept) o)
         by_found (Some message) = ap (λ (l : LastingState). Some l) (sym (gone_is id kept))
         by_found None = refl
 
   pub done_is : (r : Record) (kept : KeptState) → done r (told kept) ≡ option_map told (does r kept)
   done_is (Reply unit terminal number segments) kept = replied_is terminal number segments kept unit
-  done_is (Input unit id origin code number conversation segments) kept = switched_is number (message_of id origin code conversation segments) kept
+  done_is (Input unit id origin code number conversation segments) kept = switched_is number (snapshot_message id origin code conversation segments) kept
   done_is (Completed unit id) kept = completed_is id kept unit
   done_is (Command text) kept = refl
   done_is (Discarded unit id abend number) kept = refl
@@ -100,7 +100,7 @@ module _ (system : System) where
   -- a unit's sync point
   message_is : (records : List Record) (kept : KeptState) → completed_message records (told kept) ≡ message_done records kept
   message_is records kept = by_id (completed_id records) where
-    by_id : (o : Option ℕ) → option_and_then (message_at (messages_of kept.queues.queued)) o ≡ option_and_then (λ id. queue.message_at id kept.queues.queued) o
+    by_id : (o : Option ℕ) → option_and_then (message_at (messages_of kept.queues.queued)) o ≡ option_and_then (λ id. queue.queued_message id kept.queues.queued) o
     by_id (Some id) = same_message id kept.queues.queued
     by_id None = refl
 
@@ -109,7 +109,7 @@ module _ (system : System) where
       ap (λ (o : Option Message). option_map (λ after. with_step (with_pad_by o (λ _. pad) after)) (all_done records (told kept))) (message_is records kept)
       ∙ ap (option_map (λ after. with_step (with_pad_by (message_done records kept) (λ _. pad) after))) (all_done_is records kept)
       ∙ by_done (message_done records kept) (does_all records kept) where
-        by_done : (m : Option Message) (o : Option KeptState) → option_map (λ after. with_step (with_pad_by m (λ _. pad) after)) (option_map told o) ≡ option_map told (option_map (λ after. with_counted (with_pad m pad after)) o)
+        by_done : (m : Option Message) (o : Option KeptState) → option_map (λ after. with_step (with_pad_by m (λ _. pad) after)) (option_map told o) ≡ option_map told (option_map (λ after. with_counted (with_kept_pad m pad after)) o)
         by_done (Some message) (Some after) = refl
         by_done None (Some after) = refl
         by_done m None = refl
@@ -117,9 +117,9 @@ module _ (system : System) where
   -- an input
   module _ (id : ℕ) (origin code : List ℕ) (number : ℕ) (conversation : Bool) (segments : List (List ℕ)) (kept : KeptState) where
     abbrev input : KeptInput
-    input = record { code = code; conversation = conversation; segments = segments; begins = begins_with system kept.conversations origin code conversation }
+    input = record { code = code; conversation = conversation; segments = segments; begins = begins_by_input system kept.conversations origin code conversation }
 
-    pub accepts_is : accepts system id origin code number conversation segments (told kept) ≡ option_map told (step_accepts system id origin code number conversation segments kept)
+    pub accepts_is : replay_accepts system id origin code number conversation segments (told kept) ≡ option_map told (step_accepts system id origin code number conversation segments kept)
     accepts_is = by_test (option_map_or (λ terminal. terminal.last + 1 == number) (terminal_at kept.terminals origin) false && (kept.next_id == id)) where
       by_test : (b : Bool) → (if b then Some (applied (Accepts origin number (kept_in_record system (told kept) origin code conversation segments)) (told kept)) else None) ≡ option_map told (if b then Some (with_accepted origin number input kept) else None)
       by_test true =
@@ -128,7 +128,7 @@ module _ (system : System) where
       by_test false = refl
 
   -- an acknowledgement
-  pub acknowledges_is : (terminal : List ℕ) (number : ℕ) (kept : KeptState) → acknowledges terminal number (told kept) ≡ option_map told (step_acknowledges terminal number kept)
+  pub acknowledges_is : (terminal : List ℕ) (number : ℕ) (kept : KeptState) → replay_acknowledges terminal number (told kept) ≡ option_map told (step_acknowledges terminal number kept)
   acknowledges_is terminal number kept = by_test (option_map_or (λ reply. reply.number == number) (reply_at terminal 0 kept.outputs) false) where
     by_test : (b : Bool) → (if b then Some (applied (Acknowledges terminal) (told kept)) else None) ≡ option_map told (if b then Some (with_counted (record kept { outputs = with_terminal terminal without_first kept.outputs })) else None)
     by_test true = refl
@@ -137,15 +137,15 @@ module _ (system : System) where
   -- a discarded message
   module _ (id : ℕ) (abend : AbendCode) (number : ℕ) (kept : KeptState) where
     abbrev padded_by : Message → LastingState
-    padded_by message = record (told kept) { conversations = padded (discarded_pad message) message.origin kept.conversations }
+    padded_by message = record (told kept) { conversations = with_pad_changed (discarded_pad message) message.origin kept.conversations }
 
     abbrev segments_of : Message → List (List ℕ)
-    segments_of message = abend_text message.code abend ∷ []
+    segments_of message = dfs555i_text message.code abend ∷ []
 
     discarded_is : (message : Message) → message.id ≡ id →
         record (finished message (abend_outputs message abend) (padded_by message)) { steps = kept.steps + 1 } ≡ told (with_discarded id abend message kept)
     discarded_is message same = by_terminal (is_some (replies_at message.origin kept.outputs)) where
-      fewer : without_message (messages_of kept.queues.queued) message.id ≡ messages_of (without id kept.queues.queued)
+      fewer : without_message (messages_of kept.queues.queued) message.id ≡ messages_of (without_id_queued id kept.queues.queued)
       fewer = ap (without_message (messages_of kept.queues.queued)) same ∙ sym (messages_without id kept.queues.queued)
 
       output : EndedMessage
@@ -155,18 +155,18 @@ module _ (system : System) where
       left = record (padded_by message) { messages = without_message (messages_of kept.queues.queued) message.id }
 
       tables : KeptState
-      tables = with_gone id (with_pad (Some message) (discarded_pad message) kept)
+      tables = with_gone id (with_kept_pad (Some message) (discarded_pad message) kept)
 
       by_terminal : (b : Bool) → record (if b then replied output left else switched message.origin output left) { steps = kept.steps + 1 }
-          ≡ told (with_counted (if b then with_replied message.origin (segments_of message) tables else with_added (message_of kept.next_id message.origin message.origin false (segments_of message)) tables))
+          ≡ told (with_counted (if b then with_replied message.origin (segments_of message) tables else with_added (snapshot_message kept.next_id message.origin message.origin false (segments_of message)) tables))
       by_terminal true = ap (λ (ms : List Message). record (told (with_counted (with_replied message.origin (segments_of message) tables))) { messages = ms }) fewer
       by_terminal false =
-          let more = message_of kept.next_id message.origin message.origin false (segments_of message) in
+          let more = snapshot_message kept.next_id message.origin message.origin false (segments_of message) in
           ap (λ (ms : List Message). record (told (with_counted (with_added more tables))) { messages = ms })
-          (ap (λ (ms : List Message). ms ++ more ∷ []) fewer ∙ sym (messages_more (without id kept.queues.queued) more))
+          (ap (λ (ms : List Message). ms ++ more ∷ []) fewer ∙ sym (messages_more (without_id_queued id kept.queues.queued) more))
 
     pub discards_is : discards id abend number (told kept) ≡ option_map told (step_discards id abend number kept)
-    discards_is = by_found (queue.message_at id kept.queues.queued) (same_message id kept.queues.queued) where
+    discards_is = by_found (queue.queued_message id kept.queues.queued) (same_message id kept.queues.queued) where
       by_number : (message : Message) → message.id ≡ id → (b : Bool) →
           (if b then Some (record (finished message (abend_outputs message abend) (padded_by message)) { steps = kept.steps + 1 }) else None) ≡ option_map told (if b then Some (with_discarded id abend message kept) else None)
       by_number message same true = ap (λ (l : LastingState). Some l) (discarded_is message same)

@@ -9,21 +9,22 @@ use Rattle.model_system.specs.System.{System}
 use Rattle.log_records.specs.declared.record.Record.{Record}
 use Rattle.log_records.specs.declared.record.Record.TheVariants.{Input, Command, Reply, Discarded, Completed, Acknowledged, SyncPoint, Checkpoint, Terminal, Code, Change}
 use Rattle.model_image.specs.Slots.{is_change_of, is_synced, is_image, is_image_of, are_images, dbd_at, before_image, after_image, named_by}
-use Rattle.image_records.specs.Telling.{is_change}
+use Rattle.image_records.specs.ChangeRecords.{tells_change}
 use Rattle.image_records.specs.declared.slots.NamedSlot.{NamedSlot}
-use Rattle.image_records.specs.NamedSlots.{is_at, bytes_at, IsBefore, Ascend, is_slot_by, is_slot_of, AreNamed}
+use Rattle.image_records.specs.NamedSlots.{is_at, named_bytes_at, IsNamedSlotBefore, NamedSlotsAscend, is_slot_by, is_slot_of, AreSlotsNamed}
 use Rattle.std.proofs.lemmas.List.{reverse-append}
 use Rattle.std.proofs.lemmas.List.Folds.{list_all-append}
-use Rattle.image_law.proofs.Bools.{both, first_of, second_of}
+use Rattle.image_law.proofs.Bools.{first_of, second_of}
 use Rattle.image_law.proofs.Lists.{found_passes}
+use Rattle.tm_types.proofs.Truths.{both}
 
 -- ---- a snapshot's changes say as much as all its records
 
-changes_alone : (records log : List Record) (d s : ℕ) → filter (is_change_of d s) (filter is_change records ++ log) ≡ filter (is_change_of d s) (records ++ log)
+changes_alone : (records log : List Record) (d s : ℕ) → filter (is_change_of d s) (filter tells_change records ++ log) ≡ filter (is_change_of d s) (records ++ log)
 changes_alone [] log d s = refl
 changes_alone (Change unit database slot before after ∷ records) log d s = by_place ((database == d) && (slot == s)) (changes_alone records log d s) where
-  by_place : (b : Bool) → filter (is_change_of d s) (filter is_change records ++ log) ≡ filter (is_change_of d s) (records ++ log) →
-      (if b then Change unit database slot before after ∷ filter (is_change_of d s) (filter is_change records ++ log) else filter (is_change_of d s) (filter is_change records ++ log))
+  by_place : (b : Bool) → filter (is_change_of d s) (filter tells_change records ++ log) ≡ filter (is_change_of d s) (records ++ log) →
+      (if b then Change unit database slot before after ∷ filter (is_change_of d s) (filter tells_change records ++ log) else filter (is_change_of d s) (filter tells_change records ++ log))
       ≡ (if b then Change unit database slot before after ∷ filter (is_change_of d s) (records ++ log) else filter (is_change_of d s) (records ++ log))
   by_place true rest = ap (λ (rs : List Record). Change unit database slot before after ∷ rs) rest
   by_place false rest = rest
@@ -38,12 +39,12 @@ changes_alone (Checkpoint checkpoint next_id next_unit steps ∷ records) log d 
 changes_alone (Terminal name last next stopped conversation ∷ records) log d s = changes_alone records log d s
 changes_alone (Code name stopped class priority ∷ records) log d s = changes_alone records log d s
 
-named_alone : (records log : List Record) (d s : ℕ) → named_by (filter is_change records) log d s ≡ named_by records log d s
+named_alone : (records log : List Record) (d s : ℕ) → named_by (filter tells_change records) log d s ≡ named_by records log d s
 unfolding named_by
 named_alone records log d s =
     ap (λ (changes : List Record). option_or (option_map after_image (find (is_synced log) (reverse changes))) (option_map before_image (slice_get changes 0))) (changes_alone records log d s)
 
-pub are_named : (records changes log : List Record) (slots : List NamedSlot) → changes ≡ filter is_change records → AreNamed changes log slots → AreNamed records log slots
+pub are_named : (records changes log : List Record) (slots : List NamedSlot) → changes ≡ filter tells_change records → AreSlotsNamed changes log slots → AreSlotsNamed records log slots
 are_named records changes log slots same named = record {
   ascending = named.ascending;
   each = λ d s. named.each d s ∙ ap (λ (rs : List Record). named_by rs log d s) same ∙ named_alone records log d s;
@@ -120,20 +121,20 @@ module _ (system : System) (d s : ℕ) where
 
 -- ---- slots that ascend are found each by its place
 
-head_apart : (x y : NamedSlot) → IsBefore x y → is_at x.database x.slot y ≡ false
+head_apart : (x y : NamedSlot) → IsNamedSlotBefore x y → is_at x.database x.slot y ≡ false
 head_apart x y lower = by_database (y.database == x.database) refl lower where
-  by_database : (b : Bool) → y.database == x.database ≡ b → IsBefore x y → b && (y.slot == x.slot) ≡ false
+  by_database : (b : Bool) → y.database == x.database ≡ b → IsNamedSlotBefore x y → b && (y.slot == x.slot) ≡ false
   by_database false is lower = refl
   by_database true is (inl less) = absurd (omega (arith, less, eqb-true y.database x.database is))
   by_database true is (inr same) = ne_eqb y.slot x.slot (λ e. absurd (omega (arith, same.1, e)))
 
-farther : (x y z : NamedSlot) → IsBefore x y → IsBefore y z → IsBefore x z
+farther : (x y z : NamedSlot) → IsNamedSlotBefore x y → IsNamedSlotBefore y z → IsNamedSlotBefore x z
 farther x y z (inl less) (inl more) = inl (omega (arith, less, more))
 farther x y z (inl less) (inr same) = inl (omega (arith, less, same.0))
 farther x y z (inr same) (inl more) = inl (omega (arith, same.0, more))
 farther x y z (inr same) (inr also) = inr (same.0 ∙ also.0, omega (arith, same.1, also.1))
 
-later_apart : (x y : NamedSlot) (slots : List NamedSlot) → Ascend (y ∷ slots) → IsBefore x y → bytes_at x.database x.slot (y ∷ slots) ≡ None
+later_apart : (x y : NamedSlot) (slots : List NamedSlot) → NamedSlotsAscend (y ∷ slots) → IsNamedSlotBefore x y → named_bytes_at x.database x.slot (y ∷ slots) ≡ None
 later_apart x y [] ascending lower = ap (λ b. option_map (λ s. s.bytes) (if b then Some y else None)) (head_apart x y lower)
 later_apart x y (z ∷ slots) ascending lower =
     ap (λ b. option_map (λ s. s.bytes) (if b then Some y else find (is_at x.database x.slot) (z ∷ slots))) (head_apart x y lower)
@@ -142,23 +143,23 @@ later_apart x y (z ∷ slots) ascending lower =
 module _ (system : System) where
   -- what is found of each place is an image of it
   abbrev AllImages : List NamedSlot → Type 0
-  AllImages slots = (d s : ℕ) → IsImage system d s (bytes_at d s slots)
+  AllImages slots = (d s : ℕ) → IsImage system d s (named_bytes_at d s slots)
 
-  fewer : (x : NamedSlot) (slots : List NamedSlot) → Ascend (x ∷ slots) → AllImages (x ∷ slots) → AllImages slots
+  fewer : (x : NamedSlot) (slots : List NamedSlot) → NamedSlotsAscend (x ∷ slots) → AllImages (x ∷ slots) → AllImages slots
   fewer x [] ascending all d s = tt
   fewer x (y ∷ slots) ascending all d s = by_place (x.database == d) (x.slot == s) refl refl (all d s) where
-    by_place : (a b : Bool) → x.database == d ≡ a → x.slot == s ≡ b → IsImage system d s (option_map (λ s. s.bytes) (if a && b then Some x else find (is_at d s) (y ∷ slots))) → IsImage system d s (bytes_at d s (y ∷ slots))
+    by_place : (a b : Bool) → x.database == d ≡ a → x.slot == s ≡ b → IsImage system d s (option_map (λ s. s.bytes) (if a && b then Some x else find (is_at d s) (y ∷ slots))) → IsImage system d s (named_bytes_at d s (y ∷ slots))
     by_place true true isa isb image =
         subst (λ (o : Option (List ℕ)). IsImage system d s o)
-        (sym (ap (λ n. bytes_at n s (y ∷ slots)) (sym (eqb-true x.database d isa)) ∙ ap (λ n. bytes_at x.database n (y ∷ slots)) (sym (eqb-true x.slot s isb)) ∙ later_apart x y slots ascending.1 ascending.0)) tt
+        (sym (ap (λ n. named_bytes_at n s (y ∷ slots)) (sym (eqb-true x.database d isa)) ∙ ap (λ n. named_bytes_at x.database n (y ∷ slots)) (sym (eqb-true x.slot s isb)) ∙ later_apart x y slots ascending.1 ascending.0)) tt
     by_place true false isa isb image = image
     by_place false b isa isb image = image
 
-  rest_ascends : (x : NamedSlot) (slots : List NamedSlot) → Ascend (x ∷ slots) → Ascend slots
+  rest_ascends : (x : NamedSlot) (slots : List NamedSlot) → NamedSlotsAscend (x ∷ slots) → NamedSlotsAscend slots
   rest_ascends x [] ascending = tt
   rest_ascends x (y ∷ slots) ascending = ascending.1
 
-  all_slots : (slots : List NamedSlot) → Ascend slots → AllImages slots → list_all (is_slot_of system) slots ≡ true
+  all_slots : (slots : List NamedSlot) → NamedSlotsAscend slots → AllImages slots → list_all (is_slot_of system) slots ≡ true
   all_slots [] ascending all = refl
   all_slots (x ∷ slots) ascending all =
       both (is_slot_of system x) (list_all (is_slot_of system) slots) here (all_slots slots (rest_ascends x slots ascending) (fewer x slots ascending all))
@@ -168,7 +169,7 @@ module _ (system : System) where
           subst (λ b. IsImage system x.database x.slot (option_map (λ s. s.bytes) (if b then Some x else find (is_at x.database x.slot) slots)))
           (both (x.database == x.database) (x.slot == x.slot) (eq-eqb x.database x.database refl) (eq-eqb x.slot x.slot refl)) (all x.database x.slot)
 
-  pub are_slots : (snapshot log : List Record) (slots : List NamedSlot) → list_all (is_image_of system) snapshot ≡ true → list_all (is_image_of system) log ≡ true → AreNamed snapshot log slots → list_all (is_slot_of system) slots ≡ true
+  pub are_slots : (snapshot log : List Record) (slots : List NamedSlot) → list_all (is_image_of system) snapshot ≡ true → list_all (is_image_of system) log ≡ true → AreSlotsNamed snapshot log slots → list_all (is_slot_of system) slots ≡ true
   are_slots snapshot log slots told logged named =
       all_slots slots named.ascending (λ d s. subst (IsImage system d s) (sym (named.each d s)) (named_image system d s snapshot log
       (list_all-append (is_image_of system) snapshot log ∙ both (list_all (is_image_of system) snapshot) (list_all (is_image_of system) log) told logged)))

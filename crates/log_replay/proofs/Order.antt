@@ -11,9 +11,9 @@ use Rattle.std.specs.declared.cmp.Ordering.TheVariants.{Less, Equal, Greater}
 use Rattle.std.proofs.lemmas.Bool.{eq-eqb, ne_eqb, eqb-true, cases_order}
 use Rattle.std.proofs.lemmas.Map.Keys.{sorted_head, sorted_tail}
 use Rattle.image_records.specs.declared.slots.NamedSlot.{NamedSlot}
-use Rattle.image_records.specs.NamedSlots.{bytes_at, is_at as is_slot_at, IsBefore, Ascend}
+use Rattle.image_records.specs.NamedSlots.{named_bytes_at, is_at as is_slot_at, IsNamedSlotBefore, NamedSlotsAscend}
 use Rattle.log_replay.specs.declared.said.Said.{Said}
-use Rattle.log_replay.specs.Said.{place_cmp, said_at, slot_of, bytes_of, with_change}
+use Rattle.log_replay.specs.SlotBytes.{place_cmp, said_at, said_slot, said_bytes, with_change_said}
 
 -- ---- numbers compared
 
@@ -53,17 +53,17 @@ turned d s a b = same_place a b d s ∙ ap (λ x. x && (s == b)) (even d a) ∙ 
 
 -- ---- the slots of a map
 
-pub found_by : (d s : ℕ) (entries : List ((ℕ × ℕ) × Said)) → bytes_at d s (map slot_of entries) ≡ option_map bytes_of (said_at d s entries)
+pub found_by : (d s : ℕ) (entries : List ((ℕ × ℕ) × Said)) → named_bytes_at d s (map said_slot entries) ≡ option_map said_bytes (said_at d s entries)
 found_by d s [] = refl
 found_by d s (e ∷ entries) = by_first ((e.0.0 == d) && (e.0.1 == s)) (is_at (place_cmp (d, s)) e.0) (same_place d s e.0.0 e.0.1) (found_by d s entries) where
-  by_first : (x y : Bool) → y ≡ x → bytes_at d s (map slot_of entries) ≡ option_map bytes_of (said_at d s entries) →
-      option_map (λ s. s.bytes) (if x then Some (slot_of e) else find (is_slot_at d s) (map slot_of entries)) ≡ option_map bytes_of (if y then Some e.1 else said_at d s entries)
+  by_first : (x y : Bool) → y ≡ x → named_bytes_at d s (map said_slot entries) ≡ option_map said_bytes (said_at d s entries) →
+      option_map (λ s. s.bytes) (if x then Some (said_slot e) else find (is_slot_at d s) (map said_slot entries)) ≡ option_map said_bytes (if y then Some e.1 else said_at d s entries)
   by_first true true is rest = refl
   by_first false false is rest = rest
   by_first true false is rest = cc
   by_first false true is rest = cc
 
-before_from : (x y : NamedSlot) → place_cmp (x.database, x.slot) (y.database, y.slot) ≡ Less → IsBefore x y
+before_from : (x y : NamedSlot) → place_cmp (x.database, x.slot) (y.database, y.slot) ≡ Less → IsNamedSlotBefore x y
 before_from x y less =
     ⊎_elim (λ e. inr (e, lower e))
     (⊎_elim (λ h. inl h) (λ h. absurd (never h)))
@@ -88,18 +88,18 @@ before_from x y less =
         wrong : Greater ≡ Less → ⊥
         wrong e = cc
 
-pub ascend_from : (entries : List ((ℕ × ℕ) × Said)) → IsStrictlySortedBy place_cmp (keys_of entries) → Ascend (map slot_of entries)
+pub ascend_from : (entries : List ((ℕ × ℕ) × Said)) → IsStrictlySortedBy place_cmp (keys_of entries) → NamedSlotsAscend (map said_slot entries)
 ascend_from [] sorted = tt
 ascend_from (e ∷ []) sorted = tt
 ascend_from (e ∷ next ∷ entries) sorted =
     let lower = sorted_head place_cmp e.0 (keys_of (next ∷ entries)) sorted in
-    (before_from (slot_of e) (slot_of next) lower.0, ascend_from (next ∷ entries) (sorted_tail place_cmp e.0 (keys_of (next ∷ entries)) sorted))
+    (before_from (said_slot e) (said_slot next) lower.0, ascend_from (next ∷ entries) (sorted_tail place_cmp e.0 (keys_of (next ∷ entries)) sorted))
 
 -- ---- one place changes
 
 module _ (d s a b : ℕ) (counts : Bool) (before after : List ℕ) (old new : List ((ℕ × ℕ) × Said)) where
   abbrev change : Option Said → Said
-  change said = with_change counts before after said
+  change said = with_change_said counts before after said
 
   -- what is kept of a place is the change of what was
   pub changed : (w : Said) → w ≡ change (said_at a b old) → ((q : ℕ × ℕ) → lookup (is_at (place_cmp q)) new ≡ (if is_at (place_cmp (a, b)) q then Some w else lookup (is_at (place_cmp q)) old)) →

@@ -7,14 +7,14 @@ use Rattle.std.proofs.lemmas.Bool.{le-ltb, ltb-true, ltb-false, eqb-true, eq-eqb
 use Rattle.tm_types.specs.declared.message.Message.{Message}
 use Rattle.model_messages.specs.declared.queued.Queued.{Queued}
 use Rattle.model_messages.specs.declared.replies.TerminalReplies.{TerminalReplies}
-use Rattle.model_messages.specs.Queue.{messages_of, IsNewId, with_message, without}
-use Rattle.model_messages.specs.Outputs.{is_of, replies_at, next_of, with_terminal, with_reply}
+use Rattle.model_messages.specs.Queue.{messages_of, IsNewId, with_message, without_id_queued}
+use Rattle.model_messages.specs.Outputs.{are_replies_of, replies_at, next_of, with_terminal, with_reply}
 use Rattle.model_image.specs.States.{is_small, ascend_below}
-use Rattle.image_records.specs.Kept.{KeptState}
+use Rattle.image_records.specs.KeptState.{KeptState}
 use Rattle.image_law.proofs.Bools.{neither_first, neither_second, first_of, second_of}
 use Rattle.image_law.proofs.Ordered.{ascend_more, ascend_filter}
-use Rattle.log_replay.specs.Steps.{with_added, with_replied, with_gone, is_over, replies, switches}
-use Rattle.log_replay.specs.Judged.{IsOrderly, Does}
+use Rattle.log_replay.specs.ReplaySteps.{with_added, with_replied, with_gone, is_over, kept_replies, kept_switch}
+use Rattle.log_replay.specs.ReplayRules.{IsOrderly, DoesStep}
 
 -- ---- numbers that may be counted on
 
@@ -53,7 +53,7 @@ module _ (name : List ℕ) (change : TerminalReplies → TerminalReplies) where
   -- a test of one of the terminals, of which one changes
   pub any_changed : (p : TerminalReplies → Bool) (outputs : List TerminalReplies) (t : TerminalReplies) → replies_at name outputs ≡ Some t → list_any p outputs ≡ false → list_any p (with_terminal name change outputs) ≡ p (change t)
   any_changed p [] t found none = cc
-  any_changed p (x ∷ xs) t found none = by_first (is_of name x) found (any_changed p xs t) where
+  any_changed p (x ∷ xs) t found none = by_first (are_replies_of name x) found (any_changed p xs t) where
     or_false : (b : Bool) → b || false ≡ b
     or_false true = refl
     or_false false = refl
@@ -70,7 +70,7 @@ module _ (name : List ℕ) (change : TerminalReplies → TerminalReplies) where
   -- what is there stays, where a change keeps the test
   pub any_stays : (p : TerminalReplies → Bool) (outputs : List TerminalReplies) → ((t : TerminalReplies) → p t ≡ true → p (change t) ≡ true) → list_any p outputs ≡ true → list_any p (with_terminal name change outputs) ≡ true
   any_stays p [] keeps one = one
-  any_stays p (x ∷ xs) keeps one = by_first (is_of name x) (p x) refl one (any_stays p xs keeps) where
+  any_stays p (x ∷ xs) keeps one = by_first (are_replies_of name x) (p x) refl one (any_stays p xs keeps) where
     or_true : (b : Bool) → b || true ≡ true
     or_true true = refl
     or_true false = refl
@@ -85,7 +85,7 @@ module _ (name : List ℕ) (change : TerminalReplies → TerminalReplies) where
   -- there is none of this name
   pub none_changed : (outputs : List TerminalReplies) → replies_at name outputs ≡ None → with_terminal name change outputs ≡ outputs
   none_changed [] none = refl
-  none_changed (x ∷ xs) none = by_first (is_of name x) none (none_changed xs) where
+  none_changed (x ∷ xs) none = by_first (are_replies_of name x) none (none_changed xs) where
     by_first : (b : Bool) → (if b then Some x else replies_at name xs) ≡ None → (replies_at name xs ≡ None → with_terminal name change xs ≡ xs) → (if b then change x ∷ xs else x ∷ with_terminal name change xs) ≡ x ∷ xs
     by_first true is later = cc
     by_first false is later = ap (λ (ts : List TerminalReplies). x ∷ ts) (later is)
@@ -106,11 +106,11 @@ pub messages_more : (queued : List Queued) (message : Message) → messages_of (
 messages_more [] message = refl
 messages_more (q ∷ queued) message = ap (λ (ms : List Message). q.message ∷ ms) (messages_more queued message)
 
-pub messages_without : (id : ℕ) (queued : List Queued) → messages_of (without id queued) ≡ filter (λ message. not (message.id == id)) (messages_of queued)
+pub messages_without : (id : ℕ) (queued : List Queued) → messages_of (without_id_queued id queued) ≡ filter (λ message. not (message.id == id)) (messages_of queued)
 messages_without id [] = refl
 messages_without id (q ∷ queued) = by_first (q.message.id == id) (messages_without id queued) where
-  by_first : (b : Bool) → messages_of (without id queued) ≡ filter (λ message. not (message.id == id)) (messages_of queued) →
-      messages_of (if not b then q ∷ without id queued else without id queued) ≡ (if not b then q.message ∷ filter (λ message. not (message.id == id)) (messages_of queued) else filter (λ message. not (message.id == id)) (messages_of queued))
+  by_first : (b : Bool) → messages_of (without_id_queued id queued) ≡ filter (λ message. not (message.id == id)) (messages_of queued) →
+      messages_of (if not b then q ∷ without_id_queued id queued else without_id_queued id queued) ≡ (if not b then q.message ∷ filter (λ message. not (message.id == id)) (messages_of queued) else filter (λ message. not (message.id == id)) (messages_of queued))
   by_first true rest = rest
   by_first false rest = ap (λ (ms : List Message). q.message ∷ ms) rest
 
@@ -135,7 +135,7 @@ module _ (kept : KeptState) (o : IsOrderly kept) where
 
     by_found : (found : Option TerminalReplies) → replies_at name kept.outputs ≡ found → is_some found ≡ true → IsSomeAnd found (λ t. t.next < 2 ^ 62)
     by_found (Some t) is there =
-        by_test t (is_small t.next) refl (none_found not_small (is_of name) kept.outputs t (neither_second (not (is_small kept.next_id)) (list_any not_small kept.outputs) o.small) is)
+        by_test t (is_small t.next) refl (none_found not_small (are_replies_of name) kept.outputs t (neither_second (not (is_small kept.next_id)) (list_any not_small kept.outputs) o.small) is)
     by_found None is there = cc
 
 -- ---- what a record leaves in order
@@ -159,7 +159,7 @@ module _ (terminal : List ℕ) (segments : List (List ℕ)) (kept : KeptState) (
   orderly_replied small = record { ascending = o.ascending; small = replied_over ∙ ap (λ b. not b) small }
 
   -- a reply under the next number, behind which none may be counted on
-  pub reply_over : (number : ℕ) (new : KeptState) → is_small (t.next + 1) ≡ false → Does (replies terminal number segments kept) new false
+  pub reply_over : (number : ℕ) (new : KeptState) → is_small (t.next + 1) ≡ false → DoesStep (kept_replies terminal number segments kept) new false
   reply_over number new over = by_number (next_of terminal kept.outputs == number) where
     by_number : (b : Bool) → option_map_or is_over (if b then Some (with_replied terminal segments kept) else None) true ≡ true
     by_number true = replied_over ∙ ap (λ b. not b) over
@@ -180,7 +180,7 @@ module _ (number : ℕ) (message : Message) (kept : KeptState) (o : IsOrderly ke
     small = added_over same ∙ ap (λ b. not b) small;
   }
 
-  pub switch_over : (new : KeptState) → is_small (message.id + 1) ≡ false → Does (switches number message kept) new false
+  pub switch_over : (new : KeptState) → is_small (message.id + 1) ≡ false → DoesStep (kept_switch number message kept) new false
   switch_over new over = by_id (kept.next_id == message.id) (number == 0) refl where
     by_id : (a b : Bool) → kept.next_id == message.id ≡ a → option_map_or is_over (if a && b then Some (with_added message kept) else None) true ≡ true
     by_id true true same = added_over (sym (eqb-true kept.next_id message.id same)) ∙ ap (λ b. not b) over
@@ -201,13 +201,13 @@ module _ (terminal : List ℕ) (segments : List (List ℕ)) (kept : KeptState) (
     by_found (Some t) found is = let e : t.next ≡ next = cc in orderly_replied terminal segments kept o t found (ap (λ (n : ℕ). is_small (n + 1)) e ∙ small)
     by_found None found is = cc
 
-  pub reply_refused : (number : ℕ) (new : KeptState) → is_small (next + 1) ≡ false → Does (replies terminal number segments kept) new false
+  pub reply_refused : (number : ℕ) (new : KeptState) → is_small (next + 1) ≡ false → DoesStep (kept_replies terminal number segments kept) new false
   reply_refused number new over = by_found (replies_at terminal kept.outputs) refl is where
-    by_found : (found : Option TerminalReplies) → replies_at terminal kept.outputs ≡ found → option_map (λ t. t.next) found ≡ Some next → Does (replies terminal number segments kept) new false
+    by_found : (found : Option TerminalReplies) → replies_at terminal kept.outputs ≡ found → option_map (λ t. t.next) found ≡ Some next → DoesStep (kept_replies terminal number segments kept) new false
     by_found (Some t) found is = let e : t.next ≡ next = cc in reply_over terminal segments kept o t found number new (ap (λ (n : ℕ). is_small (n + 1)) e ∙ over)
     by_found None found is = cc
 
-  pub reply_done : (number : ℕ) → next ≡ number → replies terminal number segments kept ≡ Some (with_replied terminal segments kept)
+  pub reply_done : (number : ℕ) → next ≡ number → kept_replies terminal number segments kept ≡ Some (with_replied terminal segments kept)
   reply_done number same = ap (λ b. if b then Some (with_replied terminal segments kept) else None) (next_is ∙ eq-eqb next number same) where
     next_is : next_of terminal kept.outputs == number ≡ next == number
     next_is = by_found (replies_at terminal kept.outputs) is where
@@ -215,7 +215,7 @@ module _ (terminal : List ℕ) (segments : List (List ℕ)) (kept : KeptState) (
       by_found (Some t) is = let e : t.next ≡ next = cc in ap (λ n. n == number) e
       by_found None is = cc
 
-  pub reply_not_next : (number : ℕ) (new : KeptState) → (next ≡ number → ⊥) → Does (replies terminal number segments kept) new false
+  pub reply_not_next : (number : ℕ) (new : KeptState) → (next ≡ number → ⊥) → DoesStep (kept_replies terminal number segments kept) new false
   reply_not_next number new other = ap (λ b. option_map_or is_over (if b then Some (with_replied terminal segments kept) else None) true) (next_is ∙ ne_eqb next number other) where
     next_is : next_of terminal kept.outputs == number ≡ next == number
     next_is = by_found (replies_at terminal kept.outputs) is where
@@ -224,16 +224,16 @@ module _ (terminal : List ℕ) (segments : List (List ℕ)) (kept : KeptState) (
       by_found None is = cc
 
 -- a reply to a terminal that isn't there changes nothing
-pub reply_to_none : (terminal : List ℕ) (number : ℕ) (segments : List (List ℕ)) (kept : KeptState) → option_map (λ t. t.next) (replies_at terminal kept.outputs) ≡ None → Does (replies terminal number segments kept) kept (number == 1)
+pub reply_to_none : (terminal : List ℕ) (number : ℕ) (segments : List (List ℕ)) (kept : KeptState) → option_map (λ t. t.next) (replies_at terminal kept.outputs) ≡ None → DoesStep (kept_replies terminal number segments kept) kept (number == 1)
 reply_to_none terminal number segments kept none = by_found (replies_at terminal kept.outputs) refl none where
-  by_number : (b c : Bool) → 1 == number ≡ b → number == 1 ≡ c → with_terminal terminal (with_reply segments) kept.outputs ≡ kept.outputs → Does (if b then Some (with_replied terminal segments kept) else None) kept c
+  by_number : (b c : Bool) → 1 == number ≡ b → number == 1 ≡ c → with_terminal terminal (with_reply segments) kept.outputs ≡ kept.outputs → DoesStep (if b then Some (with_replied terminal segments kept) else None) kept c
   by_number true true isb isc same = ap (λ (ts : List TerminalReplies). Some (record kept { outputs = ts })) same
   by_number false false isb isc same = refl
   by_number true false isb isc same = absurd (subst (λ (b : Bool). b ≡ false → ⊥) (sym (eq-eqb number 1 (sym (eqb-true 1 number isb)))) (λ f. cc) isc)
   by_number false true isb isc same = absurd (subst (λ (b : Bool). b ≡ false → ⊥) (sym (eq-eqb 1 number (sym (eqb-true number 1 isc)))) (λ f. cc) isb)
 
-  by_found : (found : Option TerminalReplies) → replies_at terminal kept.outputs ≡ found → option_map (λ t. t.next) found ≡ None → Does (replies terminal number segments kept) kept (number == 1)
+  by_found : (found : Option TerminalReplies) → replies_at terminal kept.outputs ≡ found → option_map (λ t. t.next) found ≡ None → DoesStep (kept_replies terminal number segments kept) kept (number == 1)
   by_found (Some t) found none = cc
   by_found None found none =
-      subst (λ (n : ℕ). Does (if n == number then Some (with_replied terminal segments kept) else None) kept (number == 1)) (sym (ap (λ (f : Option TerminalReplies). option_map_or (λ t. t.next) f 1) found))
+      subst (λ (n : ℕ). DoesStep (if n == number then Some (with_replied terminal segments kept) else None) kept (number == 1)) (sym (ap (λ (f : Option TerminalReplies). option_map_or (λ t. t.next) f 1) found))
       (by_number (1 == number) (number == 1) refl refl (none_changed terminal (with_reply segments) kept.outputs found))

@@ -5,10 +5,11 @@ use Rattle.std.specs.List.{list_all}
 use Rattle.model_system.specs.System.{System}
 use Rattle.model_messages.specs.Queue.{messages_of}
 use Rattle.model_image.specs.States.{is_small, is_next, is_setting, has_right_pad, ascend_below, run_up_to, over_full, breaks_a_rule}
-use Rattle.image_records.specs.Kept.{KeptState}
+use Rattle.image_records.specs.KeptState.{KeptState}
 use Rattle.image_law.proofs.Bools.{second_of}
 use Rattle.image_law.proofs.Lists.{all_imply}
-use Rattle.log_replay.specs.Judged.{lasting_in, are_right, is_run, KeepsRest}
+use Rattle.log_replay.specs.ReplayRules.{lasting_in, are_right, KeepsRest}
+use Rattle.image_law.specs.StandingState.{is_run}
 
 rules : (a b k c f x : Bool) → not (not (a && b && c && true && true && f) || not true || not x || not true || k) ≡ (a && b && not k && c && f && x)
 rules false b k c f x = refl

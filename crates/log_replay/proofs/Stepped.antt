@@ -10,26 +10,26 @@ use Rattle.model_system.specs.System.{System}
 use Rattle.model_system.specs.Lists.{change_at}
 use Rattle.model_machine.specs.declared.lasting.TerminalState.{TerminalState}
 use Rattle.model_machine.specs.Machine.{terminal_at, terminal_place}
-use Rattle.model_machine.specs.Lasting.{KeptInput, with_last, with_begun, input_message, abend_text, discarded_pad}
+use Rattle.model_machine.specs.LastingSteps.{KeptInput, with_last_number, with_begun, input_message, dfs555i_text, discarded_pad}
 use Rattle.log_records.specs.declared.record.Record.{Record}
 use Rattle.log_records.specs.declared.record.Record.TheVariants.{Input, Command, Reply, Discarded, Completed, Acknowledged, SyncPoint, Checkpoint, Terminal, Code, Change}
 use Rattle.model_image.specs.Replay.{completed_id}
 use Rattle.model_image.specs.States.{is_small}
-use Rattle.model_image.specs.Snapshot.{message_of}
+use Rattle.model_image.specs.Snapshot.{snapshot_message}
 use Rattle.model_messages.specs.declared.conversation.PadChange.{PadChange}
 use Rattle.model_messages.specs.declared.replies.TerminalReplies.{TerminalReplies}
-use Rattle.model_messages.specs.Queue.{message_at}
+use Rattle.model_messages.specs.Queue.{queued_message}
 use Rattle.model_messages.specs.Outputs.{replies_at, next_of, with_reply}
 use Rattle.std.specs.List.{list_all, list_any}
 use Rattle.std.specs.Str.{bytes_eq}
-use Rattle.image_records.specs.Kept.{KeptState}
-use Rattle.log_replay.specs.Steps.{with_added, with_replied, with_gone, with_pad, with_pad_at, with_told, with_discarded, with_counted, with_accepted, begins_with, first_completed, does, does_all, message_done, is_over, step_accepts, step_discards, step_syncs}
-use Rattle.log_replay.specs.Judged.{IsOrderly, AreSmall, Does}
+use Rattle.image_records.specs.KeptState.{KeptState}
+use Rattle.log_replay.specs.ReplaySteps.{with_added, with_replied, with_gone, with_kept_pad, with_pad_at, with_told, with_discarded, with_counted, with_accepted, begins_by_input, first_completed, does, does_all, message_done, is_over, step_accepts, step_discards, step_syncs}
+use Rattle.log_replay.specs.ReplayRules.{IsOrderly, AreSmall, DoesStep}
 use Rattle.image_law.proofs.Bools.{neither_second}
 use Rattle.image_law.proofs.Lists.{found_passes}
 use Rattle.log_replay.proofs.Orders.{not_small, any_changed, orderly_gone}
 use Rattle.log_replay.proofs.DoneSteps.{all_keep, over_answer}
-use Rattle.log_replay.proofs.Placed.{position_more}
+use Rattle.tm_types.proofs.Positions.{position_more}
 
 -- the first that passes stands at its place
 pub found_at : {X : Type 0} (p : X → Bool) (xs : List X) → find p xs ≡ option_and_then (λ n. slice_get xs n) (position p xs)
@@ -51,7 +51,7 @@ module _ (system : System) (kept : KeptState) (number : ℕ) (message : Message)
   accepts_it = step_accepts system message.id message.origin message.code number message.conversation message.segments kept
 
   abbrev input : KeptInput
-  input = record { code = message.code; conversation = message.conversation; segments = message.segments; begins = begins_with system kept.conversations message.origin message.code message.conversation }
+  input = record { code = message.code; conversation = message.conversation; segments = message.segments; begins = begins_by_input system kept.conversations message.origin message.code message.conversation }
 
   pub not_next_input : next_input ≡ false → accepts_it ≡ None
   not_next_input other = ap (λ b. if b && (kept.next_id == message.id) then Some (with_accepted message.origin number input kept) else None) other
@@ -63,8 +63,8 @@ module _ (system : System) (kept : KeptState) (number : ℕ) (message : Message)
     by_input false b other = refl
 
   module _ (begins : Option Conversation) (place : ℕ) (middle new : KeptState) where
-    pub accepted_is : next_input ≡ true → kept.next_id ≡ message.id → begins ≡ begins_with system kept.conversations message.origin message.code message.conversation → terminal_place kept.terminals message.origin ≡ Some place →
-        middle ≡ with_added message kept → new ≡ record middle { terminals = change_at middle.terminals (Some place) (with_last number); conversations = with_begun message.origin begins middle.conversations; steps = middle.steps + 1 } →
+    pub accepted_is : next_input ≡ true → kept.next_id ≡ message.id → begins ≡ begins_by_input system kept.conversations message.origin message.code message.conversation → terminal_place kept.terminals message.origin ≡ Some place →
+        middle ≡ with_added message kept → new ≡ record middle { terminals = change_at middle.terminals (Some place) (with_last_number number); conversations = with_begun message.origin begins middle.conversations; steps = middle.steps + 1 } →
         accepts_it ≡ Some new
     accepted_is next same begun there added changed =
         ap (λ b. if b then Some (with_accepted message.origin number input kept) else None) (both_true next_input (kept.next_id == message.id) next (eq-eqb kept.next_id message.id same))
@@ -78,15 +78,15 @@ module _ (system : System) (kept : KeptState) (number : ℕ) (message : Message)
         its_message : with_added message kept ≡ with_added (input_message kept.next_id message.origin input) kept
         its_message = ap (λ (n : ℕ). with_added (record message { id = n }) kept) (sym same)
 
-        made : record middle { terminals = change_at middle.terminals (Some place) (with_last number); conversations = with_begun message.origin begins middle.conversations; steps = middle.steps + 1 } ≡ with_accepted message.origin number input kept
+        made : record middle { terminals = change_at middle.terminals (Some place) (with_last_number number); conversations = with_begun message.origin begins middle.conversations; steps = middle.steps + 1 } ≡ with_accepted message.origin number input kept
         made =
-            ap (λ (o : Option Conversation). record middle { terminals = change_at middle.terminals (Some place) (with_last number); conversations = with_begun message.origin o middle.conversations; steps = middle.steps + 1 }) begun
-            ∙ ap (λ (k : KeptState). record k { terminals = change_at k.terminals (Some place) (with_last number); conversations = with_begun message.origin input.begins k.conversations; steps = k.steps + 1 }) (added ∙ its_message)
-            ∙ ap (λ (o : Option ℕ). record (with_added (input_message kept.next_id message.origin input) kept) { terminals = change_at kept.terminals o (with_last number); conversations = with_begun message.origin input.begins kept.conversations; steps = kept.steps + 1 }) (sym there)
+            ap (λ (o : Option Conversation). record middle { terminals = change_at middle.terminals (Some place) (with_last_number number); conversations = with_begun message.origin o middle.conversations; steps = middle.steps + 1 }) begun
+            ∙ ap (λ (k : KeptState). record k { terminals = change_at k.terminals (Some place) (with_last_number number); conversations = with_begun message.origin input.begins k.conversations; steps = k.steps + 1 }) (added ∙ its_message)
+            ∙ ap (λ (o : Option ℕ). record (with_added (input_message kept.next_id message.origin input) kept) { terminals = change_at kept.terminals o (with_last_number number); conversations = with_begun message.origin input.begins kept.conversations; steps = kept.steps + 1 }) (sym there)
 
 -- ---- a discarded message
 
-module _ (id : ℕ) (abend : AbendCode) (number : ℕ) (kept : KeptState) (message : Message) (found : message_at id kept.queues.queued ≡ Some message) where
+module _ (id : ℕ) (abend : AbendCode) (number : ℕ) (kept : KeptState) (message : Message) (found : queued_message id kept.queues.queued ≡ Some message) where
   pub discarded_is : next_of message.origin kept.outputs ≡ number → step_discards id abend number kept ≡ Some (with_discarded id abend message kept)
   discarded_is next =
       ap (option_and_then (λ message. if next_of message.origin kept.outputs == number then Some (with_discarded id abend message kept) else None)) found
@@ -104,16 +104,16 @@ module _ (id : ℕ) (abend : AbendCode) (number : ℕ) (kept : KeptState) (messa
     told_outputs : (t : Option TerminalReplies) → replies_at message.origin kept.outputs ≡ t → option_map_or (λ t. t.next) t 1 ≡ number →
         list_any not_small (with_discarded id abend message kept).outputs ≡ option_map_or (λ _. not (is_small (number + 1))) t false
     told_outputs (Some t) is same =
-        ap (λ b. list_any not_small (if b then with_replied message.origin (abend_text message.code abend ∷ []) gone else with_added (message_of kept.next_id message.origin message.origin false (abend_text message.code abend ∷ [])) gone).outputs) (ap is_some is)
-        ∙ any_changed message.origin (with_reply (abend_text message.code abend ∷ [])) not_small kept.outputs t is none_over
+        ap (λ b. list_any not_small (if b then with_replied message.origin (dfs555i_text message.code abend ∷ []) gone else with_added (snapshot_message kept.next_id message.origin message.origin false (dfs555i_text message.code abend ∷ [])) gone).outputs) (ap is_some is)
+        ∙ any_changed message.origin (with_reply (dfs555i_text message.code abend ∷ [])) not_small kept.outputs t is none_over
         ∙ ap (λ (n : ℕ). not (is_small (n + 1))) same where
           gone : KeptState
-          gone = with_gone id (with_pad (Some message) (discarded_pad message) kept)
+          gone = with_gone id (with_kept_pad (Some message) (discarded_pad message) kept)
     told_outputs None is same =
-        ap (λ b. list_any not_small (if b then with_replied message.origin (abend_text message.code abend ∷ []) gone else with_added (message_of kept.next_id message.origin message.origin false (abend_text message.code abend ∷ [])) gone).outputs) (ap is_some is)
+        ap (λ b. list_any not_small (if b then with_replied message.origin (dfs555i_text message.code abend ∷ []) gone else with_added (snapshot_message kept.next_id message.origin message.origin false (dfs555i_text message.code abend ∷ [])) gone).outputs) (ap is_some is)
         ∙ none_over where
           gone : KeptState
-          gone = with_gone id (with_pad (Some message) (discarded_pad message) kept)
+          gone = with_gone id (with_kept_pad (Some message) (discarded_pad message) kept)
 
     pub discarded_small : is_small (number + 1) ≡ true → AreSmall (with_discarded id abend message kept)
     discarded_small small =
@@ -122,7 +122,7 @@ module _ (id : ℕ) (abend : AbendCode) (number : ℕ) (kept : KeptState) (messa
           by_terminal (Some t) = ap (λ b. not b) small
           by_terminal None = refl
 
-    pub discarded_over : (new : KeptState) → is_small (number + 1) ≡ false → Does (step_discards id abend number kept) new false
+    pub discarded_over : (new : KeptState) → is_small (number + 1) ≡ false → DoesStep (step_discards id abend number kept) new false
     discarded_over new over =
         ap (λ (k : Option KeptState). option_map_or is_over k true) (discarded_is next)
         ∙ or_second (not (is_small (with_discarded id abend message kept).next_id)) (list_any not_small (with_discarded id abend message kept).outputs)
@@ -137,22 +137,22 @@ module _ (id : ℕ) (abend : AbendCode) (number : ℕ) (kept : KeptState) (messa
 
 -- ---- a sync point
 
-pub pad_at_is : (message : Option Message) (pad : PadChange) (kept : KeptState) → with_pad message pad kept ≡ with_pad_at (option_map (λ message. message.origin) message) pad kept
+pub pad_at_is : (message : Option Message) (pad : PadChange) (kept : KeptState) → with_kept_pad message pad kept ≡ with_pad_at (option_map (λ message. message.origin) message) pad kept
 pad_at_is (Some message) pad kept = refl
 pad_at_is None pad kept = refl
 
 pub synced_is : (pad : PadChange) (records : List Record) (kept after new : KeptState) → does_all records kept ≡ Some after → new ≡ with_counted (with_pad_at (option_map (λ message. message.origin) (message_done records kept)) pad after) → step_syncs pad records kept ≡ Some new
 synced_is pad records kept after new done is =
-    ap (option_map (λ after. with_counted (with_pad (message_done records kept) pad after))) done
+    ap (option_map (λ after. with_counted (with_kept_pad (message_done records kept) pad after))) done
     ∙ ap (λ (k : KeptState). Some (with_counted k)) (pad_at_is (message_done records kept) pad after) ∙ ap (λ (k : KeptState). Some k) (sym is)
 
-pub sync_over : (pad : PadChange) (records : List Record) (kept any : KeptState) → Does (does_all records kept) any false → Does (step_syncs pad records kept) any false
+pub sync_over : (pad : PadChange) (records : List Record) (kept any : KeptState) → DoesStep (does_all records kept) any false → DoesStep (step_syncs pad records kept) any false
 sync_over pad records kept any over = by_done (does_all records kept) over where
-  by_message : (m : Option Message) (after : KeptState) → is_over after ≡ true → is_over (with_counted (with_pad m pad after)) ≡ true
+  by_message : (m : Option Message) (after : KeptState) → is_over after ≡ true → is_over (with_counted (with_kept_pad m pad after)) ≡ true
   by_message (Some message) after is = is
   by_message None after is = is
 
-  by_done : (o : Option KeptState) → option_map_or is_over o true ≡ true → option_map_or is_over (option_map (λ after. with_counted (with_pad (message_done records kept) pad after)) o) true ≡ true
+  by_done : (o : Option KeptState) → option_map_or is_over o true ≡ true → option_map_or is_over (option_map (λ after. with_counted (with_kept_pad (message_done records kept) pad after)) o) true ≡ true
   by_done (Some after) over = by_message (message_done records kept) after over
   by_done None over = refl
 
@@ -185,23 +185,23 @@ module _ (id : ℕ) (abend : AbendCode) (message : Message) (kept : KeptState) w
   abbrev away : KeptState
   away = with_gone id (with_pad_at (Some message.origin) (discarded_pad message) kept)
 
-  pub counted_is : (told new : KeptState) → told ≡ with_told message.origin (abend_text message.code abend ∷ []) away → new ≡ record told { steps = kept.steps + 1 } → new ≡ with_discarded id abend message kept
+  pub counted_is : (told new : KeptState) → told ≡ with_told message.origin (dfs555i_text message.code abend ∷ []) away → new ≡ record told { steps = kept.steps + 1 } → new ≡ with_discarded id abend message kept
   counted_is told new is counted =
       counted ∙ ap (λ (k : KeptState). record k { steps = kept.steps + 1 }) is ∙ by_terminal (is_some (replies_at message.origin kept.outputs)) where
         by_terminal : (b : Bool) →
-            record (if b then with_replied message.origin (abend_text message.code abend ∷ []) away else with_added (message_of kept.next_id message.origin message.origin false (abend_text message.code abend ∷ [])) away) { steps = kept.steps + 1 }
-            ≡ with_counted (if b then with_replied message.origin (abend_text message.code abend ∷ []) away else with_added (message_of kept.next_id message.origin message.origin false (abend_text message.code abend ∷ [])) away)
+            record (if b then with_replied message.origin (dfs555i_text message.code abend ∷ []) away else with_added (snapshot_message kept.next_id message.origin message.origin false (dfs555i_text message.code abend ∷ [])) away) { steps = kept.steps + 1 }
+            ≡ with_counted (if b then with_replied message.origin (dfs555i_text message.code abend ∷ []) away else with_added (snapshot_message kept.next_id message.origin message.origin false (dfs555i_text message.code abend ∷ [])) away)
         by_terminal true = refl
         by_terminal false = refl
 
   pub orderly_away : IsOrderly kept → IsOrderly away
   orderly_away o = let gone = orderly_gone id kept o in record { ascending = gone.ascending; small = gone.small }
 
-pub not_found : (id : ℕ) (abend : AbendCode) (number : ℕ) (kept new : KeptState) → message_at id kept.queues.queued ≡ None → Does (step_discards id abend number kept) new false
+pub not_found : (id : ℕ) (abend : AbendCode) (number : ℕ) (kept new : KeptState) → queued_message id kept.queues.queued ≡ None → DoesStep (step_discards id abend number kept) new false
 not_found id abend number kept new none =
     ap (λ (o : Option Message). option_map_or is_over (option_and_then (λ message. if next_of message.origin kept.outputs == number then Some (with_discarded id abend message kept) else None) o) true) none
 
-pub none_refused : (step : Option KeptState) (new : KeptState) → step ≡ None → Does step new false
+pub none_refused : (step : Option KeptState) (new : KeptState) → step ≡ None → DoesStep step new false
 none_refused step new none = ap (λ (o : Option KeptState). option_map_or is_over o true) none
 
 pub small_now : (kept : KeptState) → IsOrderly kept → AreSmall kept
@@ -231,10 +231,10 @@ sync_small_then pad after padded new origin steps o_after changed counted =
 
 -- ---- the records of a unit that stop
 
-pub stops : (records : List Record) (r : Record) (kept any : KeptState) → slice_get records 0 ≡ Some r → Does (does r kept) any false → Does (does_all records kept) any false
+pub stops : (records : List Record) (r : Record) (kept any : KeptState) → slice_get records 0 ≡ Some r → DoesStep (does r kept) any false → DoesStep (does_all records kept) any false
 stops [] r kept any first over = cc
 stops (x ∷ records) r kept any first over =
-    by_done (does x kept) (subst (λ (x : Record). Does (does x kept) any false) (let e : r ≡ x = cc in e) over) where
+    by_done (does x kept) (subst (λ (x : Record). DoesStep (does x kept) any false) (let e : r ≡ x = cc in e) over) where
       by_done : (o : Option KeptState) → option_map_or is_over o true ≡ true → option_map_or is_over (option_and_then (does_all records) o) true ≡ true
       by_done (Some next) over = over_answer records next over
       by_done None over = refl

@@ -11,18 +11,18 @@ use Rattle.model_data.specs.declared.row.Row.{Row}
 use Rattle.model_machine.specs.Machine.{LastingState, empty_state}
 use Rattle.log_records.specs.declared.record.Record.{Record}
 use Rattle.log_records.specs.declared.record.Record.TheVariants.{Input, Command, Reply, Discarded, Completed, Acknowledged, SyncPoint, Checkpoint, Terminal, Code, Change}
-use Rattle.model_image.specs.Snapshot.{told, told_by, snapshot_state}
+use Rattle.model_image.specs.Snapshot.{with_record_told, with_records_told, snapshot_state}
 use Rattle.model_image.specs.States.{breaks_a_rule}
-use Rattle.image_records.specs.Kept.{KeptState, Keeps, kept_of, free_message}
+use Rattle.image_records.specs.KeptState.{KeptState, KeepsState, kept_of, free_message}
 use Rattle.image_law.proofs.Bools.{first_of, second_of}
-use Rattle.log_replay.specs.Judged.{lasting_in, AreFree, AreSound, has_no_holder}
+use Rattle.log_replay.specs.ReplayRules.{lasting_in, AreMessagesFree, AreSound, has_no_holder}
 
 -- ---- no record of a snapshot tells of rows
 
 abbrev none_in : System → List (List Row)
 none_in system = map (λ _. []) system.databases
 
-rows_stay : (r : Record) (lasting : LastingState) → (told r lasting).rows ≡ lasting.rows
+rows_stay : (r : Record) (lasting : LastingState) → (with_record_told r lasting).rows ≡ lasting.rows
 rows_stay (Checkpoint checkpoint next_id next_unit steps) lasting = refl
 rows_stay (Terminal name last next stopped conversation) lasting = refl
 rows_stay (Code name stopped class priority) lasting = refl
@@ -35,9 +35,9 @@ rows_stay (Acknowledged terminal number) lasting = refl
 rows_stay (SyncPoint unit pad) lasting = refl
 rows_stay (Change unit database slot before after) lasting = refl
 
-all_rows_stay : (records : List Record) (lasting : LastingState) → (told_by records lasting).rows ≡ lasting.rows
+all_rows_stay : (records : List Record) (lasting : LastingState) → (with_records_told records lasting).rows ≡ lasting.rows
 all_rows_stay [] lasting = refl
-all_rows_stay (r ∷ records) lasting = all_rows_stay records (told r lasting) ∙ rows_stay r lasting
+all_rows_stay (r ∷ records) lasting = all_rows_stay records (with_record_told r lasting) ∙ rows_stay r lasting
 
 -- ---- tables and states
 
@@ -56,7 +56,7 @@ free_again (q ∷ queued) free = by_holder q.holder refl (first_of (has_no_holde
   by_holder None is none = ap (λ (o : Option ℕ). record { message = q.message; holder = o } ∷ queued) is
   by_holder (Some region) is none = cc
 
-module _ (system : System) (records : List Record) (kept : KeptState) (keeps : Keeps system (snapshot_state system records) kept) where
+module _ (system : System) (records : List Record) (kept : KeptState) (keeps : KeepsState system (snapshot_state system records) kept) where
   -- what lasts of a snapshot is what the tables have
   pub lasting_is : snapshot_state system records ≡ lasting_in system kept
   lasting_is =
@@ -67,11 +67,11 @@ module _ (system : System) (records : List Record) (kept : KeptState) (keeps : K
   pub sound_tables : AreSound system kept
   sound_tables = record {
     sound = ap (breaks_a_rule system) (sym lasting_is) ∙ keeps.sound;
-    free = subst (AreFree system) (sym keeps.is) (record { limit = refl; holders = none_held (snapshot_state system records).messages });
+    free = subst (AreMessagesFree system) (sym keeps.is) (record { limit = refl; holders = none_held (snapshot_state system records).messages });
   }
 
 -- tables in which no region has a message keep what they have
-pub kept_is : (system : System) (kept : KeptState) → AreFree system kept → kept ≡ kept_of system (lasting_in system kept)
+pub kept_is : (system : System) (kept : KeptState) → AreMessagesFree system kept → kept ≡ kept_of system (lasting_in system kept)
 kept_is system kept free =
     ap (λ (n : ℕ). record kept { queues = record kept.queues { limit = n } }) free.limit
     ∙ ap (λ (qs : List Queued). record kept { queues = record { limit = system.qbytes; queued = qs } }) (free_again kept.queues.queued free.holders)

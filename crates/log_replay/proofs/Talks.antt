@@ -13,13 +13,13 @@ use Rattle.std.proofs.lemmas.Bool.{eqb-true, ne_eqb, ltb-true}
 use Rattle.std.proofs.lemmas.List.{append-nil}
 use Rattle.tm_types.specs.declared.message.Message.{Message}
 use Rattle.model_messages.specs.declared.conversation.TerminalConversation.{TerminalConversation}
-use Rattle.model_messages.specs.Input.{is_conversing}
+use Rattle.model_messages.specs.ConversationInput.{is_conversing}
 use Rattle.model_system.specs.System.{System}
 use Rattle.model_machine.specs.Machine.{message_at}
 use Rattle.model_image.specs.States.{ascend_below, are_alone}
 use Rattle.image_law.proofs.Bools.{first_of, second_of, same_bytes, bytes_same}
-use Rattle.log_replay.specs.Judged.{knows}
-use Rattle.log_replay.specs.Tallied.{one_if, talks_of, faults_of, count_at, SetsCount, Counts, TallyState, Tells, Adds, Removes}
+use Rattle.log_replay.specs.ReplayRules.{knows}
+use Rattle.log_replay.specs.ConversationTally.{one_message_if, talks_of, faults_of, count_at, SetsCount, Counts, TallyState, TallyTells, AddsMessage, Removes}
 
 -- ---- a list without one of its messages
 
@@ -70,17 +70,17 @@ taken_out id next (x ∷ messages) message is found =
 
 -- ---- counts
 
-talks_within : (name : List ℕ) (before after : List Message) (message : Message) → talks_of name (before ++ message ∷ after) ≡ one_if (is_conversing name message) + talks_of name (before ++ after)
+talks_within : (name : List ℕ) (before after : List Message) (message : Message) → talks_of name (before ++ message ∷ after) ≡ one_message_if (is_conversing name message) + talks_of name (before ++ after)
 talks_within name [] after message = refl
 talks_within name (x ∷ before) after message =
-    moved (one_if (is_conversing name x)) (one_if (is_conversing name message)) (talks_of name (before ++ message ∷ after)) (talks_of name (before ++ after)) (talks_within name before after message) where
+    moved (one_message_if (is_conversing name x)) (one_message_if (is_conversing name message)) (talks_of name (before ++ message ∷ after)) (talks_of name (before ++ after)) (talks_within name before after message) where
       moved : (x m t u : ℕ) → t ≡ m + u → x + t ≡ m + (x + u)
       moved x m t u e = omega (arith, e)
 
-pub talks_behind : (name : List ℕ) (messages : List Message) (message : Message) → talks_of name (messages ++ message ∷ []) ≡ talks_of name messages + one_if (is_conversing name message)
+pub talks_behind : (name : List ℕ) (messages : List Message) (message : Message) → talks_of name (messages ++ message ∷ []) ≡ talks_of name messages + one_message_if (is_conversing name message)
 talks_behind name messages message =
-    talks_within name messages [] message ∙ ap (λ (ms : List Message). one_if (is_conversing name message) + talks_of name ms) (append-nil messages)
-    ∙ turned (one_if (is_conversing name message)) (talks_of name messages) where
+    talks_within name messages [] message ∙ ap (λ (ms : List Message). one_message_if (is_conversing name message) + talks_of name ms) (append-nil messages)
+    ∙ turned (one_message_if (is_conversing name message)) (talks_of name messages) where
       turned : (n m : ℕ) → n + m ≡ m + n
       turned n m = omega arith
 
@@ -94,7 +94,7 @@ any_is name (m ∷ messages) = by_one (is_conversing name m) (any_is name messag
   same : (n : ℕ) → n ≡ 0 + n
   same n = omega arith
 
-  by_one : (b : Bool) → list_any (is_conversing name) messages ≡ not (talks_of name messages == 0) → b || list_any (is_conversing name) messages ≡ not (one_if b + talks_of name messages == 0)
+  by_one : (b : Bool) → list_any (is_conversing name) messages ≡ not (talks_of name messages == 0) → b || list_any (is_conversing name) messages ≡ not (one_message_if b + talks_of name messages == 0)
   by_one true rest = sym (ap (λ b. not b) (not_none (talks_of name messages)))
   by_one false rest = rest ∙ ap (λ n. not (n == 0)) (same (talks_of name messages))
 
@@ -102,28 +102,28 @@ any_is name (m ∷ messages) = by_one (is_conversing name m) (any_is name messag
 
 module _ (system : System) (conversations : List TerminalConversation) where
   abbrev its_faults : Message → List Message → ℕ
-  its_faults message others = one_if (not (knows system conversations message)) + one_if (message.conversation && not (talks_of message.origin others == 0))
+  its_faults message others = one_message_if (not (knows system conversations message)) + one_message_if (message.conversation && not (talks_of message.origin others == 0))
 
   -- of two messages it doesn't matter which one is looked at first
   either_first : (p q s t : Bool) (a b : ℕ) → s ≡ t → (s ≡ true → a ≡ b) →
-      one_if (p && not (one_if (s && q) + a == 0)) + one_if (q && not (b == 0)) ≡ one_if (p && not (a == 0)) + one_if (q && not (one_if (t && p) + b == 0))
+      one_message_if (p && not (one_message_if (s && q) + a == 0)) + one_message_if (q && not (b == 0)) ≡ one_message_if (p && not (a == 0)) + one_message_if (q && not (one_message_if (t && p) + b == 0))
   either_first true true true true a b same one =
       let e : a ≡ b = one refl in
-      ap (λ c. one_if (not c) + one_if (not (b == 0))) (not_none a)
-      ∙ turned (one_if (not (b == 0))) ∙ ap (λ n. one_if (not (n == 0)) + 1) (sym e)
-      ∙ ap (λ c. one_if (not (a == 0)) + one_if (not c)) (sym (not_none b)) where
+      ap (λ c. one_message_if (not c) + one_message_if (not (b == 0))) (not_none a)
+      ∙ turned (one_message_if (not (b == 0))) ∙ ap (λ n. one_message_if (not (n == 0)) + 1) (sym e)
+      ∙ ap (λ c. one_message_if (not (a == 0)) + one_message_if (not c)) (sym (not_none b)) where
         turned : (n : ℕ) → 1 + n ≡ n + 1
         turned n = omega arith
-  either_first true false true true a b same one = ap (λ n. one_if (not (n == 0)) + 0) (zero_before a) where
+  either_first true false true true a b same one = ap (λ n. one_message_if (not (n == 0)) + 0) (zero_before a) where
     zero_before : (n : ℕ) → 0 + n ≡ n
     zero_before n = omega arith
-  either_first false true true true a b same one = ap (λ n. 0 + one_if (not (n == 0))) (zero_before b) where
+  either_first false true true true a b same one = ap (λ n. 0 + one_message_if (not (n == 0))) (zero_before b) where
     zero_before : (n : ℕ) → n ≡ 0 + n
     zero_before n = omega arith
   either_first false false true true a b same one = refl
   either_first p q false false a b same one =
-      ap (λ n. one_if (p && not (n == 0)) + one_if (q && not (b == 0))) (zero_before a)
-      ∙ ap (λ n. one_if (p && not (a == 0)) + one_if (q && not (n == 0))) (sym (zero_before b)) where
+      ap (λ n. one_message_if (p && not (n == 0)) + one_message_if (q && not (b == 0))) (zero_before a)
+      ∙ ap (λ n. one_message_if (p && not (a == 0)) + one_message_if (q && not (n == 0))) (sym (zero_before b)) where
         zero_before : (n : ℕ) → 0 + n ≡ n
         zero_before n = omega arith
   either_first p q true false a b same one = cc
@@ -143,10 +143,10 @@ module _ (system : System) (conversations : List TerminalConversation) where
     turned n f = omega arith
   faults_within (x ∷ before) after message =
       let rest = before ++ after in
-      let first : ℕ → ℕ = λ n. one_if (x.conversation && not (n == 0)) in
-      moved (one_if (not (knows system conversations x))) (first (talks_of x.origin (before ++ message ∷ after))) (first (one_if (is_conversing x.origin message) + talks_of x.origin rest))
-      (faults_of system conversations (before ++ message ∷ after)) (faults_of system conversations rest) (one_if (not (knows system conversations message)))
-      (one_if (message.conversation && not (talks_of message.origin rest == 0))) (one_if (message.conversation && not (one_if (is_conversing message.origin x) + talks_of message.origin rest == 0)))
+      let first : ℕ → ℕ = λ n. one_message_if (x.conversation && not (n == 0)) in
+      moved (one_message_if (not (knows system conversations x))) (first (talks_of x.origin (before ++ message ∷ after))) (first (one_message_if (is_conversing x.origin message) + talks_of x.origin rest))
+      (faults_of system conversations (before ++ message ∷ after)) (faults_of system conversations rest) (one_message_if (not (knows system conversations message)))
+      (one_message_if (message.conversation && not (talks_of message.origin rest == 0))) (one_message_if (message.conversation && not (one_message_if (is_conversing message.origin x) + talks_of message.origin rest == 0)))
       (first (talks_of x.origin rest))
       (ap first (talks_within x.origin before after message)) (faults_within before after message)
       (either_first x.conversation message.conversation (bytes_eq message.origin x.origin) (bytes_eq x.origin message.origin) (talks_of x.origin rest) (talks_of message.origin rest)
@@ -167,28 +167,28 @@ module _ (system : System) (conversations : List TerminalConversation) where
         zeros_before : (n : ℕ) → n ≡ 0 + 0 + n
         zeros_before n = omega arith
 
-        by_tests : (k z all alone : Bool) (n : ℕ) → (all && alone) ≡ (n == 0) → ((k && all) && (not z && alone)) ≡ (one_if (not k) + one_if z + n == 0)
-        by_tests false z all alone n same = sym (ne_eqb (1 + one_if z + n) 0 (λ e. absurd (omega (arith, e))))
+        by_tests : (k z all alone : Bool) (n : ℕ) → (all && alone) ≡ (n == 0) → ((k && all) && (not z && alone)) ≡ (one_message_if (not k) + one_message_if z + n == 0)
+        by_tests false z all alone n same = sym (ne_eqb (1 + one_message_if z + n) 0 (λ e. absurd (omega (arith, e))))
         by_tests true true all alone n same = none_both all ∙ sym (ne_eqb (0 + 1 + n) 0 (λ e. absurd (omega (arith, e))))
         by_tests true false all alone n same = same ∙ ap (λ n. n == 0) (zeros_before n)
 
   -- ---- what is counted
 
-  pub comes : (messages : List Message) (message : Message) (old new : TallyState) → Tells system conversations messages old → Adds message.origin message.conversation (knows system conversations message) old new →
-      Tells system conversations (messages ++ message ∷ []) new
+  pub comes : (messages : List Message) (message : Message) (old new : TallyState) → TallyTells system conversations messages old → AddsMessage message.origin message.conversation (knows system conversations message) old new →
+      TallyTells system conversations (messages ++ message ∷ []) new
   comes messages message old new tells adds = record {
     counts = λ name.
-        adds.counts name ∙ ap (λ n. n + one_if (is_conversing name message)) (tells.counts name) ∙ sym (talks_behind name messages message);
+        adds.counts name ∙ ap (λ n. n + one_message_if (is_conversing name message)) (tells.counts name) ∙ sym (talks_behind name messages message);
     faults =
         adds.faults
-        ∙ ap (λ n. n + (one_if (not (knows system conversations message)) + one_if (message.conversation && not (count_at message.origin old.counts == 0)))) tells.faults
-        ∙ ap (λ n. faults_of system conversations messages + (one_if (not (knows system conversations message)) + one_if (message.conversation && not (n == 0)))) (tells.counts message.origin)
+        ∙ ap (λ n. n + (one_message_if (not (knows system conversations message)) + one_message_if (message.conversation && not (count_at message.origin old.counts == 0)))) tells.faults
+        ∙ ap (λ n. faults_of system conversations messages + (one_message_if (not (knows system conversations message)) + one_message_if (message.conversation && not (n == 0)))) (tells.counts message.origin)
         ∙ sym (faults_within messages [] message ∙ ap (λ (ms : List Message). faults_of system conversations ms + its_faults message ms) (append-nil messages));
   }
 
-  pub goes : (id : ℕ) (messages : List Message) (message : Message) (old new : TallyState) → IsWithout id messages message → Tells system conversations messages old → Removes message.origin message.conversation (knows system conversations message) old new →
-      Tells system conversations (filter (λ message. not (message.id == id)) messages) new
-  goes id messages message old new out tells removes = subst (λ (ms : List Message). Tells system conversations ms new) (sym out.rest) (record { counts = counts; faults = faults }) where
+  pub goes : (id : ℕ) (messages : List Message) (message : Message) (old new : TallyState) → IsWithout id messages message → TallyTells system conversations messages old → Removes message.origin message.conversation (knows system conversations message) old new →
+      TallyTells system conversations (filter (λ message. not (message.id == id)) messages) new
+  goes id messages message old new out tells removes = subst (λ (ms : List Message). TallyTells system conversations ms new) (sym out.rest) (record { counts = counts; faults = faults }) where
     rest : List Message
     rest = out.before ++ out.after
 
@@ -200,15 +200,15 @@ module _ (system : System) (conversations : List TerminalConversation) where
 
     counts : Counts rest new.counts
     counts name =
-        removes.counts name ∙ ap (λ n. n - one_if (is_conversing name message)) (tells.counts name)
-        ∙ less (talks_of name messages) (one_if (is_conversing name message)) (talks_of name rest)
+        removes.counts name ∙ ap (λ n. n - one_message_if (is_conversing name message)) (tells.counts name)
+        ∙ less (talks_of name messages) (one_message_if (is_conversing name message)) (talks_of name rest)
         (ap (λ (ms : List Message). talks_of name ms) out.whole ∙ talks_within name out.before out.after message)
 
     faults : new.faults ≡ faults_of system conversations rest
     faults =
         removes.faults
-        ∙ ap (λ n. n - (one_if (not (knows system conversations message)) + one_if (message.conversation && not (count_at message.origin new.counts == 0)))) tells.faults
-        ∙ ap (λ n. faults_of system conversations messages - (one_if (not (knows system conversations message)) + one_if (message.conversation && not (n == 0)))) (counts message.origin)
+        ∙ ap (λ n. n - (one_message_if (not (knows system conversations message)) + one_message_if (message.conversation && not (count_at message.origin new.counts == 0)))) tells.faults
+        ∙ ap (λ n. faults_of system conversations messages - (one_message_if (not (knows system conversations message)) + one_message_if (message.conversation && not (n == 0)))) (counts message.origin)
         ∙ less_behind (faults_of system conversations messages) (its_faults message rest) (faults_of system conversations rest)
         (ap (λ (ms : List Message). faults_of system conversations ms) out.whole ∙ faults_within out.before out.after message)
 

@@ -1,7 +1,7 @@
-pub mod Said
-pub mod Waiting
-pub mod Steps
-pub mod Judged
-pub mod Tallied
-pub mod Working
-pub mod Replaying
+pub mod SlotBytes
+pub mod WaitingRecords
+pub mod ReplaySteps
+pub mod ReplayRules
+pub mod ConversationTally
+pub mod WorkState
+pub mod ReplayedLog

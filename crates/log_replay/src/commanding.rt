@@ -1,7 +1,7 @@
 //! Commands of a log, done on the tables.
 ghost use Rattle.std.specs.Prelude.{◌≡◌, ◌<◌, ◌^◌};
-ghost use Rattle.log_replay.specs.Steps.{commanded, step_commands};
-ghost use Rattle.log_replay.specs.Tallied.{ended_by};
+ghost use Rattle.log_replay.specs.ReplaySteps.{kept_commanded, step_commands};
+ghost use Rattle.log_replay.specs.ConversationTally.{conversation_ended_by};
 
 use image_records::Kept;
 use lasting_changes::{change_pad, dequeue_all, dequeue_first, stop_code, stop_terminal};
@@ -18,7 +18,7 @@ pub fn command(kept: &mut Kept, command: &LastingCommand)
 }
 
 fn do_command(kept: &mut Kept, command: &LastingCommand)
-    ensures { kept.new ≡ commanded command.now kept.old }
+    ensures { kept.new ≡ kept_commanded command.now kept.old }
 {
     match command {
         LastingCommand::StartTransaction(code) => stop_code(&mut kept.codes, code, false),
@@ -35,7 +35,7 @@ fn do_command(kept: &mut Kept, command: &LastingCommand)
 
 /// The terminal whose conversation a command ends.
 pub fn ended_by(command: &LastingCommand) -> Option<Name>
-    ensures { result ≡ ended_by command.now }
+    ensures { result ≡ conversation_ended_by command.now }
 {
     match command {
         LastingCommand::Exit(terminal) => Some(*terminal),

@@ -2,11 +2,11 @@
 ghost use Rattle.std.specs.Option.{option_map};
 ghost use Rattle.std.specs.Prelude.{◌≡◌, ◌+◌, ◌<◌, ◌^◌, true, IfOk, OnOk, IsSomeAnd};
 ghost use Rattle.model_image.specs.States.{is_small};
-ghost use Rattle.model_messages.specs.Queue.{IsNewId, message_at};
+ghost use Rattle.model_messages.specs.Queue.{IsNewId, queued_message};
 ghost use Rattle.model_messages.specs.Outputs.{replies_at};
-ghost use Rattle.log_replay.specs.Judged.{Does, IsOrderly, knows};
-ghost use Rattle.log_replay.specs.Tallied.{Adds, Follows, Removes};
-ghost use Rattle.log_replay.specs.Steps.{with_added, with_replied, with_gone, does, does_all, replies, switches};
+ghost use Rattle.log_replay.specs.ReplayRules.{DoesStep, IsOrderly, knows};
+ghost use Rattle.log_replay.specs.ConversationTally.{AddsMessage, TallyFollows, Removes};
+ghost use Rattle.log_replay.specs.ReplaySteps.{with_added, with_replied, with_gone, does, does_all, kept_replies, kept_switch};
 
 use crate::judging::is_known;
 use crate::tally::Tally;
@@ -85,10 +85,10 @@ pub fn do_all(
     mut records: UnitRecords,
 ) -> Result<bool, Memory>
     requires orderly { IsOrderly kept.old }
-    requires follows { Follows system.now kept.old tally.old }
-    ensures done { IfOk result (Does (does_all records kept.old) kept.new) }
+    requires follows { TallyFollows system.now kept.old tally.old }
+    ensures done { IfOk result (DoesStep (does_all records kept.old) kept.new) }
     ensures orderly { OnOk result (IsOrderly kept.new) }
-    ensures follows { IfOk result (λ fine. fine ≡ true → Follows system.now kept.new tally.new) }
+    ensures follows { IfOk result (λ fine. fine ≡ true → TallyFollows system.now kept.new tally.new) }
 {
     while let Some(r) = records.pop() {
         let fine = do_record(system, kept, tally, r)?;
@@ -101,10 +101,10 @@ pub fn do_all(
 
 fn do_record(system: &System, kept: &mut Kept, tally: &mut Tally, r: Record) -> Result<bool, Memory>
     requires orderly { IsOrderly kept.old }
-    requires follows { Follows system.now kept.old tally.old }
-    ensures done { IfOk result (Does (does r kept.old) kept.new) }
+    requires follows { TallyFollows system.now kept.old tally.old }
+    ensures done { IfOk result (DoesStep (does r kept.old) kept.new) }
     ensures orderly { OnOk result (IsOrderly kept.new) }
-    ensures follows { IfOk result (λ fine. fine ≡ true → Follows system.now kept.new tally.new) }
+    ensures follows { IfOk result (λ fine. fine ≡ true → TallyFollows system.now kept.new tally.new) }
 {
     match r {
         Record::Reply {
@@ -143,7 +143,7 @@ fn do_record(system: &System, kept: &mut Kept, tally: &mut Tally, r: Record) -> 
 #[tactic(auto, using(crate::proofs::Orders::reply_to_none, crate::proofs::Orders::reply_left, crate::proofs::Orders::reply_refused, crate::proofs::Orders::reply_done, crate::proofs::Orders::reply_not_next, crate::proofs::Orders::reply_there, crate::proofs::Orders::number_small))]
 fn reply(kept: &mut Kept, terminal: &Name, number: u64, segments: Segments) -> Result<bool, Memory>
     requires { IsOrderly kept.old }
-    ensures done { IfOk result (Does (replies terminal.now number segments kept.old) kept.new) }
+    ensures done { IfOk result (DoesStep (kept_replies terminal.now number segments kept.old) kept.new) }
     ensures orderly { OnOk result (IsOrderly kept.new) }
     ensures queues { OnOk result (kept.new.queues ≡ kept.old.queues) }
     ensures conversations { OnOk result (kept.new.conversations ≡ kept.old.conversations) }
@@ -171,10 +171,10 @@ fn switch(
     message: Message,
 ) -> Result<bool, Memory>
     requires orderly { IsOrderly kept.old }
-    requires follows { Follows system.now kept.old tally.old }
-    ensures done { IfOk result (Does (switches number message kept.old) kept.new) }
+    requires follows { TallyFollows system.now kept.old tally.old }
+    ensures done { IfOk result (DoesStep (kept_switch number message kept.old) kept.new) }
     ensures orderly { OnOk result (IsOrderly kept.new) }
-    ensures follows { IfOk result (λ fine. fine ≡ true → Follows system.now kept.new tally.new) }
+    ensures follows { IfOk result (λ fine. fine ≡ true → TallyFollows system.now kept.new tally.new) }
 {
     if kept.next_id != message.id {
         return Ok(false);
@@ -196,7 +196,7 @@ fn count_added(
     tally: &mut Tally,
     message: &Message,
 ) -> Result<(), Memory>
-    ensures { OnOk result (Adds message.now.origin message.now.conversation (knows system.now kept.now.conversations message.now) tally.old tally.new) }
+    ensures { OnOk result (AddsMessage message.now.origin message.now.conversation (knows system.now kept.now.conversations message.now) tally.old tally.new) }
 {
     let known = is_of_known(system, kept, message);
     tally.add(&message.origin, message.conversation, known)
@@ -206,10 +206,10 @@ fn count_added(
 #[tactic(auto, using(crate::proofs::Orders::orderly_gone))]
 fn complete(system: &System, kept: &mut Kept, tally: &mut Tally, id: u64) -> Result<bool, Memory>
     requires orderly { IsOrderly kept.old }
-    requires follows { Follows system.now kept.old tally.old }
-    ensures done { IfOk result (Does (option_map (λ _. with_gone id kept.old) (message_at id kept.old.queues.queued)) kept.new) }
+    requires follows { TallyFollows system.now kept.old tally.old }
+    ensures done { IfOk result (DoesStep (option_map (λ _. with_gone id kept.old) (queued_message id kept.old.queues.queued)) kept.new) }
     ensures orderly { OnOk result (IsOrderly kept.new) }
-    ensures follows { IfOk result (λ fine. fine ≡ true → Follows system.now kept.new tally.new) }
+    ensures follows { IfOk result (λ fine. fine ≡ true → TallyFollows system.now kept.new tally.new) }
 {
     let Some(message) = kept.queues.find(id) else {
         return Ok(false);

@@ -5,8 +5,8 @@ ghost use Rattle.std.specs.Option.{option_map_or};
 ghost use Rattle.std.specs.Str.{bytes_eq};
 ghost use Rattle.model_messages.specs.Terminals.{conversation_at};
 ghost use Rattle.model_image.specs.States.{is_small, is_next, is_conversation, has_right_pad, over_full, breaks_a_rule};
-ghost use Rattle.log_replay.specs.Judged.{lasting_in, are_right, knows_by, KeepsRest};
-ghost use Rattle.log_replay.specs.Tallied.{ends_pad};
+ghost use Rattle.log_replay.specs.ReplayRules.{lasting_in, are_right, knows_by, KeepsRest};
+ghost use Rattle.log_replay.specs.ConversationTally.{ends_pad};
 ghost use Rattle.model_system.specs.Codes.{code_at};
 
 use image_records::{Kept, is_code, is_conversation, is_next, is_small, is_terminal};

@@ -19,7 +19,6 @@
 mod commanding;
 mod doing;
 mod judging;
-mod log_replay_replaying;
 mod naming;
 mod places;
 mod replaying;
@@ -29,9 +28,10 @@ mod synced;
 mod tally;
 mod units;
 mod waiting;
+mod whole_log;
 mod working;
 
-pub use log_replay_replaying::replay_log;
 pub use naming::named_slots;
 pub use replaying::replay_record;
+pub use whole_log::replay_log;
 pub use working::Working;

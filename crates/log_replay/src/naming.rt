@@ -4,8 +4,8 @@ ghost use Rattle.std.specs.BTreeSet.{contains};
 ghost use Rattle.std.specs.List.Sorted.{IsStrictlySortedBy};
 ghost use Rattle.std.specs.Map.{keys_of};
 ghost use Rattle.std.specs.Ordering.{nat_cmp};
-ghost use Rattle.image_records.specs.NamedSlots.{AreNamed};
-ghost use Rattle.log_replay.specs.Said.{said_at, with_record, with_records, slot_of, place_cmp};
+ghost use Rattle.image_records.specs.NamedSlots.{AreSlotsNamed};
+ghost use Rattle.log_replay.specs.SlotBytes.{said_at, with_record_said, with_records_said, said_slot, place_cmp};
 
 use crate::said::{Said, bytes_of, note_change};
 use crate::synced::synced_units;
@@ -21,7 +21,7 @@ pub fn named_slots(
     changes: &[Record],
     log: &[Record],
 ) -> Result<Vec<NamedSlot>, Memory>
-    ensures { IfOk result (λ slots. AreNamed changes.now log.now slots.items) }
+    ensures { IfOk result (λ slots. AreSlotsNamed changes.now log.now slots.items) }
 {
     let units = synced_units(alloc, log)?;
     let mut said = BTreeMap::new(alloc);
@@ -35,7 +35,7 @@ fn note_all(
     said: &mut BTreeMap<(u8, u16), Said>,
     records: &[Record],
 ) -> Result<(), Memory>
-    ensures { OnOk result ((database slot : ℕ) → said_at database slot said.new.entries ≡ with_records (contains nat_cmp units.now) database slot records.now (said_at database slot said.old.entries)) }
+    ensures { OnOk result ((database slot : ℕ) → said_at database slot said.new.entries ≡ with_records_said (contains nat_cmp units.now) database slot records.now (said_at database slot said.old.entries)) }
 {
     for record in records {
         note(units, said, record)?;
@@ -48,7 +48,7 @@ fn note(
     said: &mut BTreeMap<(u8, u16), Said>,
     r: &Record,
 ) -> Result<(), Memory>
-    ensures { OnOk result ((database slot : ℕ) → said_at database slot said.new.entries ≡ with_record (contains nat_cmp units.now) database slot r.now (said_at database slot said.old.entries)) }
+    ensures { OnOk result ((database slot : ℕ) → said_at database slot said.new.entries ≡ with_record_said (contains nat_cmp units.now) database slot r.now (said_at database slot said.old.entries)) }
 {
     match r {
         Record::Change {
@@ -69,7 +69,7 @@ fn note(
 }
 
 fn slots_of(alloc: Global, said: &BTreeMap<(u8, u16), Said>) -> Result<Vec<NamedSlot>, Memory>
-    ensures value { IfOk result (λ slots. slots.items ≡ map slot_of said.now.entries) }
+    ensures value { IfOk result (λ slots. slots.items ≡ map said_slot said.now.entries) }
     ensures ordered { IsStrictlySortedBy place_cmp (keys_of said.now.entries) }
 {
     let _count = said.len();
@@ -81,7 +81,7 @@ fn slots_of(alloc: Global, said: &BTreeMap<(u8, u16), Said>) -> Result<Vec<Named
 }
 
 fn slot_of(place: &(u8, u16), said: &Said) -> Result<NamedSlot, Memory>
-    ensures { IfOk result (λ slot. slot ≡ slot_of (place.now, said.now)) }
+    ensures { IfOk result (λ slot. slot ≡ said_slot (place.now, said.now)) }
 {
     Ok(NamedSlot {
         database: place.0,

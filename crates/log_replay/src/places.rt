@@ -6,7 +6,7 @@ ghost use Rattle.std.specs.Str.{bytes_eq};
 ghost use Rattle.model_machine.specs.Machine.{terminal_at, terminal_place};
 ghost use Rattle.model_image.specs.Replay.{pad_size};
 ghost use Rattle.model_image.specs.States.{is_small};
-ghost use Rattle.log_replay.specs.Steps.{begins_with};
+ghost use Rattle.log_replay.specs.ReplaySteps.{begins_by_input};
 
 use conversation::begun;
 use image_records::Kept;
@@ -73,7 +73,7 @@ pub fn begins_with(
     code: &Name,
     conversation: bool,
 ) -> Result<Option<Conversation>, Memory>
-    ensures { IfOk result (λ begins. begins ≡ begins_with system.now kept.now.conversations origin.now code.now conversation) }
+    ensures { IfOk result (λ begins. begins ≡ begins_by_input system.now kept.now.conversations origin.now code.now conversation) }
 {
     if !conversation {
         return Ok(None);

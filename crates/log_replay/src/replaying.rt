@@ -2,12 +2,12 @@
 ghost use Rattle.std.specs.Prelude.{◌≡◌, None, Some, true, false, IfOk};
 ghost use Rattle.std.specs.Option.{option_map_or};
 ghost use Rattle.tm_types.specs.Commands.{command_in};
-ghost use Rattle.model_image.specs.Replay.{Replay, accepts, acknowledges, commands, discards, syncs, is_known, names_known, replay_one};
-ghost use Rattle.model_machine.specs.Lasting.{applied};
-ghost use Rattle.model_machine.specs.Lasting.LastingStep.{Commands};
-ghost use Rattle.log_replay.specs.Judged.{lasting_in, AreSound, Leaves};
-ghost use Rattle.log_replay.specs.Tallied.{Follows};
-ghost use Rattle.log_replay.specs.Working.{IsAt, Comes, ComesTo, IsDone, Waits, waits_for};
+ghost use Rattle.model_image.specs.Replay.{Replay, replay_accepts, replay_acknowledges, commands, discards, syncs, is_record_known, names_known, replay_one};
+ghost use Rattle.model_machine.specs.LastingSteps.{applied};
+ghost use Rattle.model_machine.specs.LastingSteps.LastingStep.{Commands};
+ghost use Rattle.log_replay.specs.ReplayRules.{lasting_in, AreSound, RecordLeaves};
+ghost use Rattle.log_replay.specs.ConversationTally.{TallyFollows};
+ghost use Rattle.log_replay.specs.WorkState.{IsAt, RecordComesTo, ReplayComesTo, IsRecordDone, RecordWaits, waits_for_unit};
 
 use crate::commanding::{command, ended_by};
 use crate::judging::{ends_pad, has_pad_at, has_pad_of, is_known, is_sound};
@@ -30,8 +30,8 @@ pub fn replay_record(
     r: Record,
 ) -> Result<Option<Working>, Memory>
     requires sound { AreSound system.now working.kept }
-    requires follows { Follows system.now working.kept working.tally }
-    ensures { IfOk result (λ done. (replay : Replay) → IsAt system.now replay working → ComesTo system.now (replay_one system.now r replay) done) }
+    requires follows { TallyFollows system.now working.kept working.tally }
+    ensures { IfOk result (λ done. (replay : Replay) → IsAt system.now replay working → ReplayComesTo system.now (replay_one system.now r replay) done) }
 {
     let fine = do_again(alloc, system, &mut working, r)?;
     if !fine {
@@ -48,8 +48,8 @@ fn do_again(
     r: Record,
 ) -> Result<bool, Memory>
     requires sound { AreSound system.now working.old.kept }
-    requires follows { Follows system.now working.old.kept working.old.tally }
-    ensures { IfOk result (λ fine. (replay : Replay) → IsAt system.now replay working.old → Comes system.now (replay_one system.now r replay) working.new fine) }
+    requires follows { TallyFollows system.now working.old.kept working.old.tally }
+    ensures { IfOk result (λ fine. (replay : Replay) → IsAt system.now replay working.old → RecordComesTo system.now (replay_one system.now r replay) working.new fine) }
 {
     let known = names_are_known(alloc, system, &r)?;
     if !known {
@@ -62,7 +62,7 @@ fn do_again(
 }
 
 fn wait(alloc: Global, working: &mut Working, unit: u64, r: Record) -> Result<bool, Memory>
-    ensures { IfOk result (Waits unit r working.old working.new) }
+    ensures { IfOk result (RecordWaits unit r working.old working.new) }
 {
     push(alloc, &mut working.units, unit, r)?;
     Ok(true)
@@ -70,7 +70,7 @@ fn wait(alloc: Global, working: &mut Working, unit: u64, r: Record) -> Result<bo
 
 /// The unit at whose sync point the record is done.
 fn waits_for(r: &Record) -> Option<u64>
-    ensures { result ≡ waits_for r.now }
+    ensures { result ≡ waits_for_unit r.now }
 {
     match r {
         Record::Input { unit, .. } => {
@@ -88,9 +88,9 @@ fn waits_for(r: &Record) -> Option<u64>
 /// Does a record that is no unit's, or that is its sync point.
 fn do_now(alloc: Global, system: &System, working: &mut Working, r: Record) -> Result<bool, Memory>
     requires sound { AreSound system.now working.old.kept }
-    requires follows { Follows system.now working.old.kept working.old.tally }
-    requires now { waits_for r ≡ None }
-    ensures { IfOk result (IsDone system.now r working.old working.new) }
+    requires follows { TallyFollows system.now working.old.kept working.old.tally }
+    requires now { waits_for_unit r ≡ None }
+    ensures { IfOk result (IsRecordDone system.now r working.old working.new) }
 {
     match r {
         Record::Input {
@@ -153,9 +153,9 @@ fn replay_input(
     message: Message,
 ) -> Result<bool, Memory>
     requires sound { AreSound system.now kept.old }
-    requires follows { Follows system.now kept.old tally.old }
-    ensures leaves { IfOk result (Leaves system.now (accepts system.now message.id message.origin message.code number message.conversation message.segments (lasting_in system.now kept.old)) kept.new) }
-    ensures follows { IfOk result (λ fine. fine ≡ true → Follows system.now kept.new tally.new) }
+    requires follows { TallyFollows system.now kept.old tally.old }
+    ensures leaves { IfOk result (RecordLeaves system.now (replay_accepts system.now message.id message.origin message.code number message.conversation message.segments (lasting_in system.now kept.old)) kept.new) }
+    ensures follows { IfOk result (λ fine. fine ≡ true → TallyFollows system.now kept.new tally.new) }
 {
     let origin = message.origin;
     let code = message.code;
@@ -179,9 +179,9 @@ fn replay_acknowledged(
     number: u64,
 ) -> Result<bool, Memory>
     requires sound { AreSound system.now kept.old }
-    requires follows { Follows system.now kept.old tally.now }
-    ensures leaves { IfOk result (Leaves system.now (acknowledges terminal.now number (lasting_in system.now kept.old)) kept.new) }
-    ensures follows { IfOk result (λ fine. fine ≡ true → Follows system.now kept.new tally.now) }
+    requires follows { TallyFollows system.now kept.old tally.now }
+    ensures leaves { IfOk result (RecordLeaves system.now (replay_acknowledges terminal.now number (lasting_in system.now kept.old)) kept.new) }
+    ensures follows { IfOk result (λ fine. fine ≡ true → TallyFollows system.now kept.new tally.now) }
 {
     let fine = acknowledge(kept, terminal, number);
     if !fine {
@@ -197,9 +197,9 @@ fn replay_command(
     text: &[u8],
 ) -> Result<bool, Memory>
     requires sound { AreSound system.now kept.old }
-    requires follows { Follows system.now kept.old tally.now }
-    ensures leaves { IfOk result (Leaves system.now (commands text.now (lasting_in system.now kept.old)) kept.new) }
-    ensures follows { IfOk result (λ fine. fine ≡ true → Follows system.now kept.new tally.now) }
+    requires follows { TallyFollows system.now kept.old tally.now }
+    ensures leaves { IfOk result (RecordLeaves system.now (commands text.now (lasting_in system.now kept.old)) kept.new) }
+    ensures follows { IfOk result (λ fine. fine ≡ true → TallyFollows system.now kept.new tally.now) }
 {
     match LastingCommand::read(text) {
         Some(spelled) => Ok(do_spelled(system, kept, tally, &spelled)),
@@ -209,9 +209,9 @@ fn replay_command(
 
 fn do_spelled(system: &System, kept: &mut Kept, tally: &Tally, spelled: &LastingCommand) -> bool
     requires sound { AreSound system.now kept.old }
-    requires follows { Follows system.now kept.old tally.now }
-    ensures leaves { Leaves system.now (Some (applied (Commands spelled.now) (lasting_in system.now kept.old))) kept.new result }
-    ensures follows { result ≡ true → Follows system.now kept.new tally.now }
+    requires follows { TallyFollows system.now kept.old tally.now }
+    ensures leaves { RecordLeaves system.now (Some (applied (Commands spelled.now) (lasting_in system.now kept.old))) kept.new result }
+    ensures follows { result ≡ true → TallyFollows system.now kept.new tally.now }
 {
     let ended = ended_by(spelled);
     command(kept, spelled);
@@ -229,9 +229,9 @@ fn replay_discarded(
     number: u64,
 ) -> Result<bool, Memory>
     requires sound { AreSound system.now kept.old }
-    requires follows { Follows system.now kept.old tally.old }
-    ensures leaves { IfOk result (Leaves system.now (discards id abend number (lasting_in system.now kept.old)) kept.new) }
-    ensures follows { IfOk result (λ fine. fine ≡ true → Follows system.now kept.new tally.new) }
+    requires follows { TallyFollows system.now kept.old tally.old }
+    ensures leaves { IfOk result (RecordLeaves system.now (discards id abend number (lasting_in system.now kept.old)) kept.new) }
+    ensures follows { IfOk result (λ fine. fine ≡ true → TallyFollows system.now kept.new tally.new) }
 {
     let Some(message) = found(kept, id) else {
         return Ok(false);
@@ -255,9 +255,9 @@ fn replay_sync_point(
     pad: PadChange,
 ) -> Result<bool, Memory>
     requires sound { AreSound system.now kept.old }
-    requires follows { Follows system.now kept.old tally.old }
-    ensures leaves { IfOk result (Leaves system.now (syncs pad records (lasting_in system.now kept.old)) kept.new) }
-    ensures follows { IfOk result (λ fine. fine ≡ true → Follows system.now kept.new tally.new) }
+    requires follows { TallyFollows system.now kept.old tally.old }
+    ensures leaves { IfOk result (RecordLeaves system.now (syncs pad records (lasting_in system.now kept.old)) kept.new) }
+    ensures follows { IfOk result (λ fine. fine ≡ true → TallyFollows system.now kept.new tally.new) }
 {
     let origin = origin_done(kept, &records);
     let ends = ends_pad(&pad);
@@ -271,7 +271,7 @@ fn replay_sync_point(
 }
 
 fn names_are_known(alloc: Global, system: &System, r: &Record) -> Result<bool, Memory>
-    ensures { IfOk result (λ is. is ≡ is_known system.now r.now) }
+    ensures { IfOk result (λ is. is ≡ is_record_known system.now r.now) }
 {
     match r {
         Record::Input { origin, code, .. } => {

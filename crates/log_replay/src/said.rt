@@ -1,7 +1,7 @@
 //! What is said of a slot.
 ghost use Rattle.std.specs.Prelude.{◌≡◌, ℕ, ◌==◌, ◌&&◌, Some, None, IfOk, OnOk, if◌then◌else◌};
 ghost use Rattle.std.specs.Ordering.{nat_cmp};
-ghost use Rattle.log_replay.specs.Said.{said_at, with_change, bytes_of};
+ghost use Rattle.log_replay.specs.SlotBytes.{said_at, with_change_said, said_bytes};
 
 use std::alloc::Global;
 use std::collections::BTreeMap;
@@ -16,7 +16,7 @@ pub struct Said {
 
 /// The bytes of the slot.
 pub fn bytes_of(said: &Said) -> Result<Bytes, Memory>
-    ensures { IfOk result (λ bytes. bytes ≡ bytes_of said.now) }
+    ensures { IfOk result (λ bytes. bytes ≡ said_bytes said.now) }
 {
     match &said.last {
         Some(bytes) => bytes.clone(),
@@ -32,7 +32,7 @@ pub fn note_change(
     before: &Bytes,
     after: &Bytes,
 ) -> Result<(), Memory>
-    ensures { OnOk result ((database slot : ℕ) → said_at database slot said.new.entries ≡ (if (place.0 == database) && (place.1 == slot) then Some (with_change counts before.now after.now (said_at database slot said.old.entries)) else said_at database slot said.old.entries)) }
+    ensures { OnOk result ((database slot : ℕ) → said_at database slot said.new.entries ≡ (if (place.0 == database) && (place.1 == slot) then Some (with_change_said counts before.now after.now (said_at database slot said.old.entries)) else said_at database slot said.old.entries)) }
 {
     match said.get_mut(&place) {
         Some(slot) => add(slot, counts, after),
@@ -41,7 +41,7 @@ pub fn note_change(
 }
 
 fn add(said: &mut Said, counts: bool, after: &Bytes) -> Result<(), Memory>
-    ensures { OnOk result (said.new ≡ with_change counts after.now after.now (Some said.old)) }
+    ensures { OnOk result (said.new ≡ with_change_said counts after.now after.now (Some said.old)) }
 {
     if counts {
         said.last = Some(after.clone()?);
@@ -57,7 +57,7 @@ fn begin(
     after: &Bytes,
 ) -> Result<(), Memory>
     requires { said_at place.0 place.1 said.old.entries ≡ None }
-    ensures { OnOk result ((database slot : ℕ) → said_at database slot said.new.entries ≡ (if (place.0 == database) && (place.1 == slot) then Some (with_change counts before.now after.now (said_at database slot said.old.entries)) else said_at database slot said.old.entries)) }
+    ensures { OnOk result ((database slot : ℕ) → said_at database slot said.new.entries ≡ (if (place.0 == database) && (place.1 == slot) then Some (with_change_said counts before.now after.now (said_at database slot said.old.entries)) else said_at database slot said.old.entries)) }
 {
     let first = first_said(counts, before, after)?;
     match said.insert(place, first) {
@@ -67,7 +67,7 @@ fn begin(
 }
 
 fn first_said(counts: bool, before: &Bytes, after: &Bytes) -> Result<Said, Memory>
-    ensures { IfOk result (λ said. said ≡ with_change counts before.now after.now None) }
+    ensures { IfOk result (λ said. said ≡ with_change_said counts before.now after.now None) }
 {
     let first = before.clone()?;
     if counts {

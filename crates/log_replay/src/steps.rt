@@ -4,13 +4,13 @@ ghost use Rattle.std.specs.List.{list_all};
 ghost use Rattle.std.specs.Option.{option_copied, option_map};
 ghost use Rattle.model_image.specs.States.{is_small};
 ghost use Rattle.model_image.specs.Replay.{completed_id};
-ghost use Rattle.model_messages.specs.Queue.{message_at, messages_of};
+ghost use Rattle.model_messages.specs.Queue.{queued_message, messages_of};
 ghost use Rattle.model_messages.specs.Outputs.{next_of};
 ghost use Rattle.model_system.specs.Lists.{change_at};
-ghost use Rattle.model_machine.specs.Lasting.{with_begun, with_last};
-ghost use Rattle.log_replay.specs.Judged.{AreSmall, Does, IsOrderly};
-ghost use Rattle.log_replay.specs.Tallied.{Discards, Follows, IsTold, Tells};
-ghost use Rattle.log_replay.specs.Steps.{step_accepts, step_acknowledges, step_discards, step_syncs, with_gone, with_told, with_pad_at, completed_by, first_completed, message_done};
+ghost use Rattle.model_machine.specs.LastingSteps.{with_begun, with_last_number};
+ghost use Rattle.log_replay.specs.ReplayRules.{AreSmall, DoesStep, IsOrderly};
+ghost use Rattle.log_replay.specs.ConversationTally.{Discards, TallyFollows, IsDiscardTallied, TallyTells};
+ghost use Rattle.log_replay.specs.ReplaySteps.{step_accepts, step_acknowledges, step_discards, step_syncs, with_gone, with_told, with_pad_at, message_completed_by, first_completed, message_done};
 
 use crate::doing::{add_message, add_reply, do_all, is_small_after, next_at};
 use crate::judging::is_known;
@@ -37,7 +37,7 @@ pub fn accept(
     requires orderly { IsOrderly kept.old }
     requires inputs { list_all (λ t. is_small t.last) kept.old.terminals ≡ true }
     requires steps { kept.old.steps < 2 ^ 62 }
-    ensures { IfOk result (Does (step_accepts system.now message.id message.origin message.code number message.conversation message.segments kept.old) kept.new) }
+    ensures { IfOk result (DoesStep (step_accepts system.now message.id message.origin message.code number message.conversation message.segments kept.old) kept.new) }
 {
     let origin = message.origin;
     let Some(place) = input_place(kept, &origin, number) else {
@@ -76,7 +76,7 @@ fn note_accepted(
 )
     requires within { place < length kept.old.terminals }
     requires steps { kept.old.steps < 2 ^ 62 }
-    ensures { kept.new ≡ record kept.old { terminals = change_at kept.old.terminals (Some place) (with_last number); conversations = with_begun origin.now begins kept.old.conversations; steps = kept.old.steps + 1 } }
+    ensures { kept.new ≡ record kept.old { terminals = change_at kept.old.terminals (Some place) (with_last_number number); conversations = with_begun origin.now begins kept.old.conversations; steps = kept.old.steps + 1 } }
 {
     note_input(&mut kept.terminals, place, number);
     begin(&mut kept.conversations, origin, begins);
@@ -86,7 +86,7 @@ fn note_accepted(
 /// A reply is acknowledged, if it is the first that is kept.
 pub fn acknowledge(kept: &mut Kept, terminal: &Name, number: u64) -> bool
     requires { kept.old.steps < 2 ^ 62 }
-    ensures { Does (step_acknowledges terminal.now number kept.old) kept.new result }
+    ensures { DoesStep (step_acknowledges terminal.now number kept.old) kept.new result }
 {
     if kept.outputs.terminal(terminal).is_none() {
         return false;
@@ -111,7 +111,7 @@ pub fn discard(
 ) -> Result<bool, Memory>
     requires orderly { IsOrderly kept.old }
     requires steps { kept.old.steps < 2 ^ 62 }
-    ensures done { IfOk result (Does (step_discards id abend number kept.old) kept.new) }
+    ensures done { IfOk result (DoesStep (step_discards id abend number kept.old) kept.new) }
     ensures small { OnOk result (AreSmall kept.new) }
 {
     let Some(message) = found(kept, id) else {
@@ -155,7 +155,7 @@ fn count_told(
     origin: &Name,
     told: bool,
 ) -> Result<(), Memory>
-    ensures { OnOk result (IsTold system.now kept.now origin.now told tally.old tally.new) }
+    ensures { OnOk result (IsDiscardTallied system.now kept.now origin.now told tally.old tally.new) }
 {
     if told {
         return Ok(());
@@ -165,7 +165,7 @@ fn count_told(
 }
 
 pub fn found(kept: &Kept, id: u64) -> Option<&Message>
-    ensures { option_copied result ≡ message_at id kept.now.queues.queued }
+    ensures { option_copied result ≡ queued_message id kept.now.queues.queued }
 {
     kept.queues.find(id)
 }
@@ -194,7 +194,7 @@ fn count_to(kept: &mut Kept, steps: u64)
 
 /// The message of this id goes, and this becomes of its origin's pad.
 fn put_away(kept: &mut Kept, id: u64, origin: &Name, pad: PadChange)
-    requires { IsSome (message_at id kept.old.queues.queued) }
+    requires { IsSome (queued_message id kept.old.queues.queued) }
     ensures { kept.new ≡ with_gone id (with_pad_at (Some origin.now) pad kept.old) }
 {
     change_pad(&mut kept.conversations, origin, pad);
@@ -234,10 +234,10 @@ pub fn sync(
 ) -> Result<bool, Memory>
     requires orderly { IsOrderly kept.old }
     requires steps { kept.old.steps < 2 ^ 62 }
-    requires follows { Follows system.now kept.old tally.old }
-    ensures done { IfOk result (Does (step_syncs pad records kept.old) kept.new) }
+    requires follows { TallyFollows system.now kept.old tally.old }
+    ensures done { IfOk result (DoesStep (step_syncs pad records kept.old) kept.new) }
     ensures small { OnOk result (AreSmall kept.new) }
-    ensures tells { IfOk result (λ fine. fine ≡ true → Tells system.now kept.old.conversations (messages_of kept.new.queues.queued) tally.new) }
+    ensures tells { IfOk result (λ fine. fine ≡ true → TallyTells system.now kept.old.conversations (messages_of kept.new.queues.queued) tally.new) }
 {
     let origin = origin_done(kept, &records);
     let steps = steps_after(kept);
@@ -294,7 +294,7 @@ fn first_completed(records: &UnitRecords) -> Option<u64>
 }
 
 fn completed_by(r: &Record) -> Option<u64>
-    ensures { result ≡ completed_by r.now }
+    ensures { result ≡ message_completed_by r.now }
 {
     match r {
         Record::Completed { id, .. } => Some(*id),

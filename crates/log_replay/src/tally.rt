@@ -3,7 +3,7 @@ ghost use Rattle.std.specs.Prelude.{◌≡◌, ℕ, List, ◌≤◌, ◌+◌, �
 ghost use Rattle.std.specs.Option.{option_map_or};
 ghost use Rattle.std.specs.Str.{bytes_eq};
 ghost use Rattle.model_messages.specs.Queue.{messages_of};
-ghost use Rattle.log_replay.specs.Tallied.{one_if, count_at, Counts, SetsCount, Adds, Removes, is_right};
+ghost use Rattle.log_replay.specs.ConversationTally.{one_message_if, count_at, Counts, SetsCount, AddsMessage, Removes, is_right};
 
 use msg_queues::Queues;
 use std::alloc::Global;
@@ -20,7 +20,7 @@ pub struct Tally {
 }
 
 impl Model for Tally {
-    ghost use Rattle.log_replay.specs.Tallied.{TallyState};
+    ghost use Rattle.log_replay.specs.ConversationTally.{TallyState};
 
     ghost Value = { TallyState };
 
@@ -39,7 +39,7 @@ impl Tally {
 
     /// A message of this origin comes behind all others.
     pub fn add(&mut self, origin: &Name, conversation: bool, known: bool) -> Result<(), Memory>
-        ensures { OnOk result (Adds origin.now conversation known self.old self.new) }
+        ensures { OnOk result (AddsMessage origin.now conversation known self.old self.new) }
     {
         let waiting = count_of(&self.counts, origin);
         let Some(faults) = more_faults(self.faults, known, conversation && waiting != 0) else {
@@ -101,7 +101,7 @@ fn count_more(
     origin: &Name,
     conversation: bool,
 ) -> Result<(), Memory>
-    ensures { OnOk result ((name : List ℕ) → count_at name counts.new.entries ≡ count_at name counts.old.entries + one_if (bytes_eq origin.now name && conversation)) }
+    ensures { OnOk result ((name : List ℕ) → count_at name counts.new.entries ≡ count_at name counts.old.entries + one_message_if (bytes_eq origin.now name && conversation)) }
 {
     if !conversation {
         return Ok(());
@@ -117,7 +117,7 @@ fn count_less(
     origin: &Name,
     conversation: bool,
 ) -> Result<(), Memory>
-    ensures { OnOk result ((name : List ℕ) → count_at name counts.new.entries ≡ count_at name counts.old.entries - one_if (bytes_eq origin.now name && conversation)) }
+    ensures { OnOk result ((name : List ℕ) → count_at name counts.new.entries ≡ count_at name counts.old.entries - one_message_if (bytes_eq origin.now name && conversation)) }
 {
     if !conversation {
         return Ok(());
@@ -127,19 +127,19 @@ fn count_less(
 }
 
 fn more_faults(faults: u64, known: bool, again: bool) -> Option<u64>
-    ensures { IfSome result (λ more. more ≡ faults + (one_if (not known) + one_if again)) }
+    ensures { IfSome result (λ more. more ≡ faults + (one_message_if (not known) + one_message_if again)) }
 {
     faults.checked_add(one_if(!known) + one_if(again))
 }
 
 fn less_faults(faults: u64, known: bool, again: bool) -> u64
-    ensures { result ≡ faults - (one_if (not known) + one_if again) }
+    ensures { result ≡ faults - (one_message_if (not known) + one_message_if again) }
 {
     faults.saturating_sub(one_if(!known) + one_if(again))
 }
 
 fn one_if(condition: bool) -> u64
-    ensures value { result ≡ one_if condition }
+    ensures value { result ≡ one_message_if condition }
     ensures small { result ≤ 1 }
 {
     if condition { 1 } else { 0 }

@@ -1,6 +1,6 @@
 //! The units of a log.
 ghost use Rattle.std.specs.Prelude.{◌≡◌, ◌-◌, max};
-ghost use Rattle.model_image.specs.Counters.{greatest_unit, unit_of};
+ghost use Rattle.model_image.specs.Counters.{greatest_unit, unit_of_record};
 
 use log_records::Record;
 
@@ -17,7 +17,7 @@ pub fn last_unit(next_unit: u64, records: &[Record]) -> u64
 
 /// The unit of a record; 0 is none.
 fn unit_of(r: &Record) -> u64
-    ensures { result ≡ unit_of r.now }
+    ensures { result ≡ unit_of_record r.now }
 {
     match r {
         Record::Input { unit, .. } => *unit,

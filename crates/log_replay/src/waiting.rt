@@ -2,7 +2,7 @@
 ghost use Rattle.std.specs.Prelude.{◌≡◌, ◌∷◌, [], ◌++◌, None, IfOk, OnOk, slice_get, drop};
 ghost use Rattle.std.specs.BTreeMap.{get};
 ghost use Rattle.std.specs.Ordering.{nat_cmp};
-ghost use Rattle.log_replay.specs.Waiting.{of_unit, ChangesUnit};
+ghost use Rattle.log_replay.specs.WaitingRecords.{of_unit, ChangesUnit};
 
 use log_records::Record;
 use std::alloc::Global;

@@ -16,7 +16,7 @@ pub struct Working {
 }
 
 impl Model for Working {
-    ghost use Rattle.log_replay.specs.Working.{WorkState};
+    ghost use Rattle.log_replay.specs.WorkState.{WorkState};
 
     ghost Value = { WorkState };
 
@@ -26,7 +26,7 @@ impl Model for Working {
 impl Working {
     ghost use Rattle.std.specs.Prelude.{◌≡◌, [], IfOk};
     ghost use Rattle.model_messages.specs.Queue.{messages_of};
-    ghost use Rattle.log_replay.specs.Tallied.{Counts};
+    ghost use Rattle.log_replay.specs.ConversationTally.{Counts};
 
     /// Where a log begins: nothing waits. The messages of the tables, which break no rule, are gone over once.
     pub fn new(alloc: Global, kept: Kept) -> Result<Working, Memory>

@@ -5,22 +5,11 @@ use Rattle.std.specs.Str.{bytes_eq}
 use Rattle.std.specs.Prelude.{nat_lt, nat_le, if◌then◌else◌}
 use Rattle.std.proofs.lemmas.Bool.{lt-ltb, le-leb, ltb-true, leb-true, true≢false}
 use Rattle.std.proofs.lemmas.Nat.{from_be_bytes-to_be_bytes_2}
-use Rattle.std.proofs.lemmas.List.{length-replicate, take-replicate, get_or-replicate, replicate_more, drop-replicate, take_at, drop_at, length-drop, length-take, take-append-drop, drop-drop}
+use Rattle.std.proofs.lemmas.List.{get_or-replicate, replicate_more, take_at, drop_at, length-drop, length-take, take-append-drop, drop-drop}
 use Rattle.std.proofs.lemmas.Slice.Eq.{bytes_eq-Decides}
 use Rattle.tm_disk.specs.Sector.{zeros, blank}
-use Rattle.log_sectors.specs.Sealed.{header, sealed, used_of, payload_of, opened, Holds}
-
-pub length-zeros : (n : ℕ) → length (zeros n) ≡ n
-unfolding zeros
-length-zeros n = length-replicate n 0
-
-pub drop-zeros : (m n : ℕ) → drop m (zeros n) ≡ zeros (n - m)
-unfolding zeros
-drop-zeros m n = drop-replicate m n 0
-
-pub blank_is : blank ≡ zeros 4096
-unfolding blank
-blank_is = refl
+use Rattle.log_sectors.specs.SealedSector.{header, sealed, used_of, log_payload_of, opened_payload, HoldsPayload}
+use Rattle.tm_disk.proofs.Zeros.{length-zeros, drop-zeros, blank_is, take-zeros}
 
 pub length-header : (epoch sequence used : ℕ) → length (header epoch sequence used) ≡ 32
 unfolding header
@@ -61,8 +50,8 @@ front_of-sealed : (epoch sequence : ℕ) (payload : List ℕ) → take 32 (seale
 unfolding sealed header
 front_of-sealed epoch sequence payload = refl
 
-pub payload_of-sealed : (epoch sequence : ℕ) (payload : List ℕ) → length payload ≤ 4064 → payload_of (sealed epoch sequence payload) ≡ payload
-unfolding payload_of
+pub payload_of-sealed : (epoch sequence : ℕ) (payload : List ℕ) → length payload ≤ 4064 → log_payload_of (sealed epoch sequence payload) ≡ payload
+unfolding log_payload_of
 payload_of-sealed epoch sequence payload fits =
     ap (λ k. take k (drop 32 (sealed epoch sequence payload))) (used_of-sealed epoch sequence payload fits)
     ∙ ap (λ (l : List ℕ). take (length payload) l) (rest_of-sealed epoch sequence payload)
@@ -81,25 +70,25 @@ choice true false c p = inl refl
 choice false b c p = inl refl
 
 -- a sector that holds its payload is opened
-pub opened-holds : (epoch sequence : ℕ) (sector : List ℕ) → Holds epoch sequence (payload_of sector) sector → opened epoch sequence sector ≡ Some (payload_of sector)
-unfolding opened
+pub opened-holds : (epoch sequence : ℕ) (sector : List ℕ) → HoldsPayload epoch sequence (log_payload_of sector) sector → opened_payload epoch sequence sector ≡ Some (log_payload_of sector)
+unfolding opened_payload
 opened-holds epoch sequence sector holds =
-    chosen (nat_lt 0 (length (payload_of sector))) (nat_le (length (payload_of sector)) 4064) (bytes_eq sector (sealed epoch sequence (payload_of sector))) (payload_of sector)
-    (lt-ltb 0 (length (payload_of sector)) holds.some) (le-leb (length (payload_of sector)) 4064 holds.fits) ((bytes_eq-Decides sector (sealed epoch sequence (payload_of sector))).1 holds.spelled)
+    chosen (nat_lt 0 (length (log_payload_of sector))) (nat_le (length (log_payload_of sector)) 4064) (bytes_eq sector (sealed epoch sequence (log_payload_of sector))) (log_payload_of sector)
+    (lt-ltb 0 (length (log_payload_of sector)) holds.some) (le-leb (length (log_payload_of sector)) 4064 holds.fits) ((bytes_eq-Decides sector (sealed epoch sequence (log_payload_of sector))).1 holds.spelled)
 
 -- and no other
-pub opened_cases : (epoch sequence : ℕ) (sector : List ℕ) → (opened epoch sequence sector ≡ None) ⊎ Holds epoch sequence (payload_of sector) sector
-unfolding opened
+pub opened_cases : (epoch sequence : ℕ) (sector : List ℕ) → (opened_payload epoch sequence sector ≡ None) ⊎ HoldsPayload epoch sequence (log_payload_of sector) sector
+unfolding opened_payload
 opened_cases epoch sequence sector =
     ⊎_elim (λ none. inl none)
     (λ w. inr (record {
-      some = ltb-true 0 (length (payload_of sector)) w.0;
-      fits = leb-true (length (payload_of sector)) 4064 w.1;
-      spelled = (bytes_eq-Decides sector (sealed epoch sequence (payload_of sector))).0 w.2;
+      some = ltb-true 0 (length (log_payload_of sector)) w.0;
+      fits = leb-true (length (log_payload_of sector)) 4064 w.1;
+      spelled = (bytes_eq-Decides sector (sealed epoch sequence (log_payload_of sector))).0 w.2;
     }))
-    (choice (nat_lt 0 (length (payload_of sector))) (nat_le (length (payload_of sector)) 4064) (bytes_eq sector (sealed epoch sequence (payload_of sector))) (payload_of sector))
+    (choice (nat_lt 0 (length (log_payload_of sector))) (nat_le (length (log_payload_of sector)) 4064) (bytes_eq sector (sealed epoch sequence (log_payload_of sector))) (log_payload_of sector))
 
-pub opened-sealed : (epoch sequence : ℕ) (payload : List ℕ) → 0 < length payload → length payload ≤ 4064 → opened epoch sequence (sealed epoch sequence payload) ≡ Some payload
+pub opened-sealed : (epoch sequence : ℕ) (payload : List ℕ) → 0 < length payload → length payload ≤ 4064 → opened_payload epoch sequence (sealed epoch sequence payload) ≡ Some payload
 opened-sealed epoch sequence payload some fits =
     let same = payload_of-sealed epoch sequence payload fits in
     opened-holds epoch sequence (sealed epoch sequence payload) (record {
@@ -115,9 +104,9 @@ pub record Parts (epoch sequence : ℕ) (sector : List ℕ) : Type 0 where
   pub front : take 32 sector ≡ header epoch sequence (used_of sector)
   pub end : drop (used_of sector) (drop 32 sector) ≡ zeros (length (drop (used_of sector) (drop 32 sector)))
 
-pub parts-holds : (epoch sequence : ℕ) (sector : List ℕ) → Holds epoch sequence (payload_of sector) sector → Parts epoch sequence sector
+pub parts-holds : (epoch sequence : ℕ) (sector : List ℕ) → HoldsPayload epoch sequence (log_payload_of sector) sector → Parts epoch sequence sector
 parts-holds epoch sequence sector holds =
-    let p = payload_of sector in
+    let p = log_payload_of sector in
     let used : used_of sector ≡ length p = ap used_of holds.spelled ∙ used_of-sealed epoch sequence p holds.fits in
     let end : drop (used_of sector) (drop 32 sector) ≡ zeros (4064 - length p) =
     ap (λ k. drop k (drop 32 sector)) used ∙ ap (λ (l : List ℕ). drop (length p) (drop 32 l)) holds.spelled ∙ ap (λ (l : List ℕ). drop (length p) l) (rest_of-sealed epoch sequence p) ∙ drop_at p (zeros (4064 - length p)) (length p) refl in
@@ -128,8 +117,8 @@ parts-holds epoch sequence sector holds =
       end = end ∙ ap zeros (sym (ap (length {A = ℕ}) end ∙ length-zeros (4064 - length p)));
     }
 
-pub holds-parts : (epoch sequence : ℕ) (sector : List ℕ) → length sector ≡ 4096 → Parts epoch sequence sector → Holds epoch sequence (payload_of sector) sector
-unfolding payload_of sealed
+pub holds-parts : (epoch sequence : ℕ) (sector : List ℕ) → length sector ≡ 4096 → Parts epoch sequence sector → HoldsPayload epoch sequence (log_payload_of sector) sector
+unfolding log_payload_of sealed
 holds-parts epoch sequence sector size parts =
     let u = used_of sector in
     let rest : length (drop 32 sector) ≡ 4064 = omega (arith, length-drop 32 sector) in
@@ -146,14 +135,14 @@ holds-parts epoch sequence sector size parts =
           ∙ ap (λ (l : List ℕ). header epoch sequence (length (take u (drop 32 sector))) ++ take u (drop 32 sector) ++ l) (parts.end ∙ ap zeros (tail ∙ ap (λ k. 4064 - k) (sym count)));
     }
 
-pub opened-parts : (epoch sequence : ℕ) (sector : List ℕ) → length sector ≡ 4096 → Parts epoch sequence sector → opened epoch sequence sector ≡ Some (payload_of sector)
+pub opened-parts : (epoch sequence : ℕ) (sector : List ℕ) → length sector ≡ 4096 → Parts epoch sequence sector → opened_payload epoch sequence sector ≡ Some (log_payload_of sector)
 opened-parts epoch sequence sector size parts = opened-holds epoch sequence sector (holds-parts epoch sequence sector size parts)
 
-pub opened-other : (epoch sequence : ℕ) (sector : List ℕ) → (Parts epoch sequence sector → ⊥) → opened epoch sequence sector ≡ None
+pub opened-other : (epoch sequence : ℕ) (sector : List ℕ) → (Parts epoch sequence sector → ⊥) → opened_payload epoch sequence sector ≡ None
 opened-other epoch sequence sector other = ⊎_elim (λ none. none) (λ holds. absurd (other (parts-holds epoch sequence sector holds))) (opened_cases epoch sequence sector)
 
-pub payload_of_is : (sector : List ℕ) → payload_of sector ≡ take (used_of sector) (drop 32 sector)
-unfolding payload_of
+pub payload_of_is : (sector : List ℕ) → log_payload_of sector ≡ take (used_of sector) (drop 32 sector)
+unfolding log_payload_of
 payload_of_is sector = refl
 
 -- zeros one by one
@@ -186,7 +175,7 @@ module _ (epoch sequence : ℕ) (sector : List ℕ) (used : ℕ) (front payload 
   front_at : header epoch sequence (used_of sector) ≡ expected
   front_at = ap (λ k. header epoch sequence k) (sym cuts.used_is) ∙ sym cuts.expected_is
 
-  pub cuts-opened : length sector ≡ 4096 → 0 < used → used ≤ 4064 → front ≡ expected → end ≡ zeros (length end) → opened epoch sequence sector ≡ Some payload
+  pub cuts-opened : length sector ≡ 4096 → 0 < used → used ≤ 4064 → front ≡ expected → end ≡ zeros (length end) → opened_payload epoch sequence sector ≡ Some payload
   cuts-opened size some fits same zero_end =
       opened-parts epoch sequence sector size (record {
         some = omega (arith, cuts.used_is);
@@ -196,13 +185,13 @@ module _ (epoch sequence : ℕ) (sector : List ℕ) (used : ℕ) (front payload 
       })
       ∙ ap (λ (l : List ℕ). Some l) (payload_of_is sector ∙ ap (λ k. take k (drop 32 sector)) (sym cuts.used_is) ∙ sym cuts.payload_is)
 
-  pub cuts-front : (front ≡ expected → ⊥) → opened epoch sequence sector ≡ None
+  pub cuts-front : (front ≡ expected → ⊥) → opened_payload epoch sequence sector ≡ None
   cuts-front other = opened-other epoch sequence sector (λ (parts : Parts epoch sequence sector). other (cuts.front_is ∙ parts.front ∙ front_at))
 
-  pub cuts-end : (end ≡ zeros (length end) → ⊥) → opened epoch sequence sector ≡ None
+  pub cuts-end : (end ≡ zeros (length end) → ⊥) → opened_payload epoch sequence sector ≡ None
   cuts-end other = opened-other epoch sequence sector (λ (parts : Parts epoch sequence sector). other (sym end_at ∙ parts.end ∙ ap (λ (l : List ℕ). zeros (length l)) end_at))
 
-pub not_used : (epoch sequence : ℕ) (sector : List ℕ) (used : ℕ) → used ≡ used_of sector → (0 < used → used ≤ 4064 → ⊥) → opened epoch sequence sector ≡ None
+pub not_used : (epoch sequence : ℕ) (sector : List ℕ) (used : ℕ) → used ≡ used_of sector → (0 < used → used ≤ 4064 → ⊥) → opened_payload epoch sequence sector ≡ None
 not_used epoch sequence sector used is other = opened-other epoch sequence sector (λ (parts : Parts epoch sequence sector). other (omega (arith, parts.some, is)) (omega (arith, parts.fits, is)))
 
 -- two lists that a test tells apart, or not
@@ -214,10 +203,6 @@ told_apart xs ys e same = true≢false (sym ((bytes_eq-Decides xs ys).1 same) �
 
 -- a sector of zeros is no log sector
 
-take-zeros : (m n : ℕ) → m ≤ n → take m (zeros n) ≡ zeros m
-unfolding zeros
-take-zeros m n le = take-replicate m n 0 le
-
 used_of-zeros : from_be_bytes w16 (zeros 2) ≡ 0
 unfolding zeros
 used_of-zeros = refl
@@ -227,8 +212,8 @@ used_of-blank =
     let two : take 2 (drop 24 blank) ≡ zeros 2 = ap (λ (l : List ℕ). take 2 (drop 24 l)) blank_is ∙ ap (λ (l : List ℕ). take 2 l) (drop-zeros 24 4096) ∙ take-zeros 2 4072 (omega arith) in
     ap (λ (l : List ℕ). from_be_bytes w16 l) two ∙ used_of-zeros
 
-pub opened-blank : (epoch sequence : ℕ) → opened epoch sequence blank ≡ None
+pub opened-blank : (epoch sequence : ℕ) → opened_payload epoch sequence blank ≡ None
 opened-blank epoch sequence = not_used epoch sequence blank 0 (sym used_of-blank) (λ some fits. omega (arith, some))
 
-pub opened-nothing : (epoch sequence : ℕ) → opened epoch sequence [] ≡ None
+pub opened-nothing : (epoch sequence : ℕ) → opened_payload epoch sequence [] ≡ None
 opened-nothing epoch sequence = not_used epoch sequence [] 0 refl (λ some fits. omega (arith, some))

@@ -1,7 +1,7 @@
 //! The chain of a log area.
 ghost use Rattle.std.specs.Prelude.{◌≡◌, ◌+◌, ◌<◌, ◌≤◌, ◌^◌, length, IsTrue, IfOk, OnOk, IsErrOf};
 ghost use Rattle.tm_disk.specs.Disk.{sector_at, Keeps, FailedSince};
-ghost use Rattle.log_sectors.specs.Chain.{chain, joined};
+ghost use Rattle.log_sectors.specs.Chain.{chain, joined_payloads};
 
 use crate::unseal;
 use std::alloc::Global;
@@ -39,7 +39,7 @@ pub fn read_chain<D: Disk>(
 ) -> Result<Chain, ChainFault>
     requires within { first + count ≤ (D.state disk.old).size }
     requires sequences { sequence + count < 2 ^ 64 }
-    ensures payload { IfOk result (λ read. IsTrue (D.state disk.old).tells → read.payload ≡ joined (chain count (D.state disk.old).shown first sequence epoch)) }
+    ensures payload { IfOk result (λ read. IsTrue (D.state disk.old).tells → read.payload ≡ joined_payloads (chain count (D.state disk.old).shown first sequence epoch)) }
     ensures sectors { IfOk result (λ read. IsTrue (D.state disk.old).tells → read.sectors ≡ length (chain count (D.state disk.old).shown first sequence epoch)) }
     // No more sectors than the area has, on each disk.
     ensures few { IfOk result (λ read. read.sectors ≤ count) }
@@ -66,7 +66,7 @@ pub fn read_chain_by<D: Disk>(
 ) -> Result<Chain, ChainFault>
     requires within { first + count ≤ (D.state disk.old).size }
     requires sequences { sequence + count < 2 ^ 64 }
-    ensures payload { IfOk result (λ read. IsTrue (D.state disk.old).tells → read.payload ≡ joined (chain count (D.state disk.old).shown first sequence epoch)) }
+    ensures payload { IfOk result (λ read. IsTrue (D.state disk.old).tells → read.payload ≡ joined_payloads (chain count (D.state disk.old).shown first sequence epoch)) }
     ensures sectors { IfOk result (λ read. IsTrue (D.state disk.old).tells → read.sectors ≡ length (chain count (D.state disk.old).shown first sequence epoch)) }
     ensures behind { IfOk result (λ read. IsTrue (D.state disk.old).tells → read.sectors < count → sector.new ≡ sector_at (D.state disk.old).shown (first + read.sectors)) }
     // No more sectors than the area has, on each disk.

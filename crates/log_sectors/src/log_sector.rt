@@ -1,7 +1,7 @@
 //! How a log sector is spelled and read.
 ghost use Rattle.std.specs.Prelude.{◌≡◌, ◌<◌, ◌≤◌, ◌↔◌, length, MatchOption, IsTrue, None, Some};
 ghost use Rattle.tm_disk.specs.Sector.{zeros};
-ghost use Rattle.log_sectors.specs.Sealed.{header, sealed, opened, used_of};
+ghost use Rattle.log_sectors.specs.SealedSector.{header, sealed, opened_payload, used_of};
 
 use tm_disk::{SECTOR_BYTES, Sector};
 
@@ -56,7 +56,7 @@ fn all_zero(bytes: &[u8]) -> bool
 
 /// The payload of a log sector of this epoch and sequence, and nothing for any other sector.
 pub fn unseal(sector: &Sector, epoch: u64, sequence: u64) -> Option<&[u8]>
-    ensures { MatchOption result (opened epoch sequence sector.now ≡ None) (λ payload. opened epoch sequence sector.now ≡ Some payload.now) }
+    ensures { MatchOption result (opened_payload epoch sequence sector.now ≡ None) (λ payload. opened_payload epoch sequence sector.now ≡ Some payload.now) }
 {
     let bytes = sector.bytes();
     let used = used(bytes);

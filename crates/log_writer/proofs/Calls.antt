@@ -2,14 +2,14 @@
 use Rattle.std.proofs.Common.{◌≡◌, ℕ, ◌+◌, ◌≤◌, refl, sym, ◌∙◌, subst, arith, IsTrue, ⊎_elim, false, List}
 use Rattle.tm_disk.specs.Disk.{Image, DiskState, Elapses, Follows, Within, MayWrite, Keeps, IsDisk, Only}
 use Rattle.tm_disk.proofs.Words.{within_on, within_more, follows_on, follows_no_more, within_where, follows_where, follows_shown, leaves_none}
-use Rattle.log_sectors.specs.Sealed.{sealed}
-use Rattle.log_writer.specs.Log.{Lays, HasLaid, piece, AddsFront, AddsAll, IsReady, IsAtEnd}
+use Rattle.log_sectors.specs.SealedSector.{sealed}
+use Rattle.log_writer.specs.ForcedLog.{Lays, HasLaid, log_piece, AddsFront, AddsAll, IsWriterReady, IsAtEnd}
 use Rattle.log_writer.specs.Writer.{Writer}
 use Rattle.log_writer.proofs.Adding.{at_of, sequence_of, count_of, payloads_of, moved, adds-front, adds-all, at_end-moved}
 use Rattle.std.proofs.lemmas.Bool.{cases_Bool}
 use Rattle.log_writer.proofs.Laying.{lays_more, lays_step}
 
-module _ (at sequence epoch : ℕ) (payloads : List (List ℕ)) (n m : ℕ) (sector : List ℕ) (old mid new : DiskState) (is : sector ≡ sealed epoch (sequence + n) (piece payloads n)) (le : n + 1 ≤ m) where
+module _ (at sequence epoch : ℕ) (payloads : List (List ℕ)) (n m : ℕ) (sector : List ℕ) (old mid new : DiskState) (is : sector ≡ sealed epoch (sequence + n) (log_piece payloads n)) (le : n + 1 ≤ m) where
   step : (a b c : Image) → Lays at sequence epoch payloads n a b → MayWrite (at + n) sector b c → Lays at sequence epoch payloads m a c
   step a b c lays may =
       lays_more at sequence epoch payloads (n + 1) m a c le (lays_step at sequence epoch payloads n (at + n) a b c sector refl is lays may)
@@ -26,7 +26,7 @@ module _ (at sequence epoch : ℕ) (payloads : List (List ℕ)) (n m : ℕ) (sec
 
 -- what a force leaves
 
-module _ (w : Writer) (old mid new : DiskState) (old_disk : IsDisk old) (new_disk : IsDisk new) (ready : IsReady w old) (room : w.place + count_of w ≤ w.count) where
+module _ (w : Writer) (old mid new : DiskState) (old_disk : IsDisk old) (new_disk : IsDisk new) (ready : IsWriterReady w old) (room : w.place + count_of w ≤ w.count) where
   pub front_within : Within (Lays (at_of w) (sequence_of w) w.epoch (payloads_of w) (count_of w)) old mid → Within (AddsFront w) old mid
   front_within within =
       within_where (Lays (at_of w) (sequence_of w) w.epoch (payloads_of w) (count_of w)) (AddsFront w) old mid
@@ -49,7 +49,7 @@ module _ (w : Writer) (old mid new : DiskState) (old_disk : IsDisk old) (new_dis
   pub all_follows : new.tells ≡ old.tells → Only new.shown new → (IsTrue old.tells → HasLaid (at_of w) (sequence_of w) w.epoch (payloads_of w) (count_of w) old.shown new.shown) → Follows (AddsAll w) old new
   all_follows same only laid = follows_shown (AddsAll w) old new old_disk new_disk same only (all_shown laid)
 
-  pub all_ready : new.tells ≡ old.tells → Only new.shown new → (IsTrue old.tells → HasLaid (at_of w) (sequence_of w) w.epoch (payloads_of w) (count_of w) old.shown new.shown) → IsReady (moved w) new
+  pub all_ready : new.tells ≡ old.tells → Only new.shown new → (IsTrue old.tells → HasLaid (at_of w) (sequence_of w) w.epoch (payloads_of w) (count_of w) old.shown new.shown) → IsWriterReady (moved w) new
   all_ready same only laid image left =
       ⊎_elim
       (λ (tells : IsTrue old.tells).

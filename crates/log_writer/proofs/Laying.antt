@@ -3,24 +3,24 @@ use Rattle.std.proofs.Common.{◌≡◌, ◌⊎◌, ℕ, suc, zero, ◌+◌, ◌
 use Rattle.std.proofs.lemmas.Bool.{cases_lt}
 use Rattle.std.proofs.lemmas.List.{get_or-set_same, get_or-set_other, length-set, length-drop, drop-drop, take-append-drop, nil_from_length, set_past}
 use Rattle.tm_disk.specs.Disk.{Image, sector_at, with_sector, MayWrite}
-use Rattle.log_sectors.specs.Sealed.{sealed}
-use Rattle.log_sectors.specs.Chain.{joined}
-use Rattle.log_writer.specs.Log.{pieces, piece, Lays, HasLaid}
+use Rattle.log_sectors.specs.SealedSector.{sealed}
+use Rattle.log_sectors.specs.Chain.{joined_payloads}
+use Rattle.log_writer.specs.ForcedLog.{log_pieces, log_piece, Lays, HasLaid}
 
 -- the pieces of bytes
 
-pub length-pieces : (n : ℕ) (bytes : List ℕ) → length (pieces n bytes) ≡ n
+pub length-pieces : (n : ℕ) (bytes : List ℕ) → length (log_pieces n bytes) ≡ n
 length-pieces zero bytes = refl
 length-pieces (suc n) bytes = ap suc (length-pieces n (drop 4064 bytes))
 
-pub piece-pieces : (n x : ℕ) (bytes : List ℕ) → x < n → piece (pieces n bytes) x ≡ take 4064 (drop (x * 4064) bytes)
+pub piece-pieces : (n x : ℕ) (bytes : List ℕ) → x < n → log_piece (log_pieces n bytes) x ≡ take 4064 (drop (x * 4064) bytes)
 piece-pieces zero x bytes lt = absurd (omega (arith, lt))
 piece-pieces (suc n) zero bytes lt = refl
 piece-pieces (suc n) (suc x) bytes lt =
     piece-pieces n x (drop 4064 bytes) (omega (arith, lt))
     ∙ ap (λ (l : List ℕ). take 4064 l) (drop-drop (x * 4064) 4064 bytes ∙ ap (λ k. drop k bytes) (omega arith))
 
-pub joined-pieces : (n : ℕ) (bytes : List ℕ) → length bytes ≤ n * 4064 → joined (pieces n bytes) ≡ bytes
+pub joined-pieces : (n : ℕ) (bytes : List ℕ) → length bytes ≤ n * 4064 → joined_payloads (log_pieces n bytes) ≡ bytes
 joined-pieces zero bytes le = sym (nil_from_length bytes (omega (arith, le)))
 joined-pieces (suc n) bytes le =
     ap (λ (l : List ℕ). take 4064 bytes ++ l) (joined-pieces n (drop 4064 bytes) (omega (arith, le, length-drop 4064 bytes)))
@@ -49,7 +49,7 @@ module _ (at sequence epoch : ℕ) (payloads : List (List ℕ)) where
   other_sector : (image : Image) (p k : ℕ) (sector : List ℕ) → (k ≡ p → ⊥) → sector_at (with_sector image p sector) k ≡ sector_at image k
   other_sector image p k sector ne = get_or-set_other image p k sector [] ne
 
-  lays_write : (n p : ℕ) (before mid : Image) (sector : List ℕ) → p ≡ at + n → sector ≡ sealed epoch (sequence + n) (piece payloads n) → Lays at sequence epoch payloads n before mid → Lays at sequence epoch payloads (n + 1) before (with_sector mid p sector)
+  lays_write : (n p : ℕ) (before mid : Image) (sector : List ℕ) → p ≡ at + n → sector ≡ sealed epoch (sequence + n) (log_piece payloads n) → Lays at sequence epoch payloads n before mid → Lays at sequence epoch payloads (n + 1) before (with_sector mid p sector)
   lays_write n p before mid sector is is_sealed lays = record {
     size = length-set mid p sector ∙ lays.size;
     below = λ k lt. other_sector mid p k sector (λ e. omega (arith, e, is, lt)) ∙ lays.below k lt;
@@ -64,7 +64,7 @@ module _ (at sequence epoch : ℕ) (payloads : List (List ℕ)) where
         let place : at + x ≡ p = omega (arith, here, is) in
         ⊎_elim
         (λ (within : p < length mid).
-        inr (ap (λ k. sector_at (with_sector mid p sector) k) place ∙ get_or-set_same mid p sector [] within ∙ is_sealed ∙ ap (λ k. sealed epoch (sequence + k) (piece payloads k)) (sym here)))
+        inr (ap (λ k. sector_at (with_sector mid p sector) k) place ∙ get_or-set_same mid p sector [] within ∙ is_sealed ∙ ap (λ k. sealed epoch (sequence + k) (log_piece payloads k)) (sym here)))
         (λ (past : length mid ≤ p).
         inl (ap (λ (i : Image). sector_at i (at + x)) (set_past mid p sector past) ∙ lays.above (at + x) (omega (arith, far))))
         (cases_lt p (length mid)))
@@ -72,14 +72,14 @@ module _ (at sequence epoch : ℕ) (payloads : List (List ℕ)) where
   }
 
   -- the sector is written, or may be
-  pub lays_step : (n p : ℕ) (before mid after : Image) (sector : List ℕ) → p ≡ at + n → sector ≡ sealed epoch (sequence + n) (piece payloads n) → Lays at sequence epoch payloads n before mid → MayWrite p sector mid after → Lays at sequence epoch payloads (n + 1) before after
+  pub lays_step : (n p : ℕ) (before mid after : Image) (sector : List ℕ) → p ≡ at + n → sector ≡ sealed epoch (sequence + n) (log_piece payloads n) → Lays at sequence epoch payloads n before mid → MayWrite p sector mid after → Lays at sequence epoch payloads (n + 1) before after
   lays_step n p before mid after sector is is_sealed lays may =
       ⊎_elim
       (λ same. subst (λ (i : Image). Lays at sequence epoch payloads (n + 1) before i) (sym same) (lays_more n (n + 1) before mid (omega arith) lays))
       (λ new. subst (λ (i : Image). Lays at sequence epoch payloads (n + 1) before i) (sym new) (lays_write n p before mid sector is is_sealed lays))
       may
 
-  pub has_laid_step : (n p : ℕ) (before mid after : Image) (sector : List ℕ) → p ≡ at + n → p < length mid → sector ≡ sealed epoch (sequence + n) (piece payloads n) → HasLaid at sequence epoch payloads n before mid → after ≡ with_sector mid p sector → HasLaid at sequence epoch payloads (n + 1) before after
+  pub has_laid_step : (n p : ℕ) (before mid after : Image) (sector : List ℕ) → p ≡ at + n → p < length mid → sector ≡ sealed epoch (sequence + n) (log_piece payloads n) → HasLaid at sequence epoch payloads n before mid → after ≡ with_sector mid p sector → HasLaid at sequence epoch payloads (n + 1) before after
   has_laid_step n p before mid after sector is within is_sealed laid new =
       subst (λ (i : Image). HasLaid at sequence epoch payloads (n + 1) before i) (sym new) (record {
         size = length-set mid p sector ∙ laid.size;
@@ -91,6 +91,6 @@ module _ (at sequence epoch : ℕ) (payloads : List (List ℕ)) where
             (λ (far : n ≤ x).
             let here : x ≡ n = omega (arith, lt, far) in
             let place : at + x ≡ p = omega (arith, here, is) in
-            ap (λ k. sector_at (with_sector mid p sector) k) place ∙ get_or-set_same mid p sector [] within ∙ is_sealed ∙ ap (λ k. sealed epoch (sequence + k) (piece payloads k)) (sym here))
+            ap (λ k. sector_at (with_sector mid p sector) k) place ∙ get_or-set_same mid p sector [] within ∙ is_sealed ∙ ap (λ k. sealed epoch (sequence + k) (log_piece payloads k)) (sym here))
             (cases_lt x n);
       })

@@ -1,7 +1,7 @@
 //! The end of a log area.
 ghost use Rattle.std.specs.Prelude.{◌≡◌, ◌+◌, ◌-◌, ◌*◌, ◌<◌, ◌≤◌, ◌^◌, ◌++◌, [], length, IsTrue, IsOk, IfOk, OnOk, OnErr};
 ghost use Rattle.tm_disk.specs.Disk.{Stays, Within, Follows, Only, WritesAtMost, FailedSince};
-ghost use Rattle.log_writer.specs.Log.{sectors_of, room_of, IsReady, AddsFront, AddsAll};
+ghost use Rattle.log_writer.specs.ForcedLog.{log_sectors_of, room_of, IsWriterReady, AddsFront, AddsAll};
 
 use crate::lay::{lay, sectors_of};
 use log_sectors::PAYLOAD_BYTES;
@@ -54,7 +54,7 @@ impl LogWriter {
     pub fn room(&self) -> u64
         ensures value { result ≡ room_of self.now }
         // What was appended fits in the sectors that are left.
-        ensures fits { self.now.place + sectors_of (length self.now.appended) ≤ self.now.count }
+        ensures fits { self.now.place + log_sectors_of (length self.now.appended) ≤ self.now.count }
     {
         (self.count - self.place) as u64 * PAYLOAD_BYTES as u64 - self.appended.len() as u64
     }
@@ -91,7 +91,7 @@ impl LogWriter {
     pub fn force<D: Disk>(&mut self, disk: &mut D) -> Result<u32, DiskFault>
         requires area { self.old.first + self.old.count ≤ (D.state disk.old).size }
         requires sequences { self.old.sequence + self.old.count < 2 ^ 64 }
-        requires ready { IsReady self.old (D.state disk.old) }
+        requires ready { IsWriterReady self.old (D.state disk.old) }
 
         ensures stays { Stays (D.state disk.old) (D.state disk.new) }
         // Whenever a crash comes, the log has gained a front of what was appended.
@@ -101,11 +101,11 @@ impl LogWriter {
         ensures shown { OnOk result (IsTrue (D.state disk.old).tells → AddsAll self.old (D.state disk.old).shown (D.state disk.new).shown) }
         // What was written stands the same in each image.
         ensures synced { OnOk result (0 < length self.old.appended → Only (D.state disk.new).shown (D.state disk.new)) }
-        ensures ready { OnOk result (IsReady self.new (D.state disk.new)) }
-        ensures sectors { IfOk result (λ n. n ≡ sectors_of (length self.old.appended)) }
+        ensures ready { OnOk result (IsWriterReady self.new (D.state disk.new)) }
+        ensures sectors { IfOk result (λ n. n ≡ log_sectors_of (length self.old.appended)) }
         ensures moves { IfOk result (λ n. self.new ≡ record self.old { place = self.old.place + n; appended = [] }) }
 
-        ensures writes { WritesAtMost (sectors_of (length self.old.appended)) (D.state disk.old) (D.state disk.new) }
+        ensures writes { WritesAtMost (log_sectors_of (length self.old.appended)) (D.state disk.old) (D.state disk.new) }
         ensures nothing { self.old.appended ≡ [] → IsOk result × (disk.new ≡ disk.old) }
         ensures no_fault { OnOk result ((D.state disk.new).faults ≡ (D.state disk.old).faults) }
         ensures cause { OnErr result (FailedSince (D.state disk.old) (D.state disk.new)) }

@@ -8,9 +8,9 @@ use Rattle.tm_disk.specs.Disk.{DiskState, Stays, Within, WritesAtMost, FailedSin
 use Rattle.model_machine.specs.Machine.{Moment}
 use Rattle.model_machine.specs.declared.answer.Answer.{Answer}
 use Rattle.model_machine.specs.declared.command.Command.{Command}
-use Rattle.model_machine.specs.ModelMachineCommands.{lasting_command}
-use Rattle.model_machine.specs.Lasting.{LastingStep}
-use Rattle.model_machine.specs.Steps.{lasting_step}
+use Rattle.model_machine.specs.CommandAnswers.{lasting_command}
+use Rattle.model_machine.specs.LastingSteps.{LastingStep}
+use Rattle.model_machine.specs.MachineCalls.{lasting_step}
 use Rattle.model_machine.specs.History.{after_entry, call_of, victims_in}
 use Rattle.model_machine.specs.declared.entry.Acked.{Acked}
 use Rattle.model_machine.specs.declared.entry.AckRefused.{AckRefused}
@@ -29,42 +29,42 @@ use Rattle.model_system.specs.System.{System}
 use Rattle.tm_types.specs.Commands.{name_in}
 use Rattle.tm_types.specs.Name.{IsName}
 use Rattle.log_records.specs.declared.record.Record.{Record}
-use Rattle.log_records.specs.Spelling.{spelling}
+use Rattle.log_records.specs.RecordSpelling.{record_spelling}
 use Rattle.log_writer.specs.Writer.{Writer}
-use Rattle.log_writer.specs.Log.{IsReady, AddsFront, sectors_of}
-use Rattle.disk_law.specs.Changes.{with_bytes}
-use Rattle.disk_law.specs.Journal.{JournalState}
-use Rattle.journal.specs.State.{forced}
+use Rattle.log_writer.specs.ForcedLog.{IsWriterReady, AddsFront, log_sectors_of}
+use Rattle.disk_law.specs.SlotChanges.{with_bytes_behind}
+use Rattle.disk_law.specs.JournalState.{JournalState}
 use Rattle.tm_machine.specs.Answers.{IsAnswered}
-use Rattle.tm_machine.specs.OnSlots.{HasSlots, TellByCall, TurnsSo, changes_told, slots_now, turn_records}
+use Rattle.tm_machine.specs.SlotChanges.{HasSlots, TellByCall, TurnsSo, changes_told, slots_now, turn_records}
 use Rattle.tm_machine.specs.Parts.{PartsState}
-use Rattle.tm_machine.specs.Told.{ends_work, records_of}
-use Rattle.journal.specs.Turning.{next_after, unit_of, units_after}
+use Rattle.tm_machine.specs.ToldByCall.{ends_work, told_records_of}
+use Rattle.journal.specs.UnitNumbers.{next_after, unit_of_region, units_after}
 use Rattle.journal.proofs.Numbers.{units_stay}
 use Rattle.journal.proofs.Turns.{GoesBy}
-use Rattle.journal.specs.Steps.{is_lasting, is_new, is_removed}
+use Rattle.journal.specs.LastingAnswers.{is_lasting, is_new, is_removed}
 use Rattle.logged_machine.proofs.Answering.{ack_of_parts, command_of_parts, input_of_parts}
 use Rattle.logged_machine.proofs.Turning.{turn_of_parts}
 use Rattle.logged_machine.proofs.Closing.{ack_steps, command_steps, input_steps, room_in_log, turn_steps}
-use Rattle.logged_machine.specs.Telling.{Appends}
-use Rattle.journal.specs.Counted.{IsCounted}
+use Rattle.logged_machine.specs.RecordsBehindLog.{Appends}
+use Rattle.journal.specs.CountRanges.{AreCountsInRange}
 use Rattle.model_image.specs.Counters.{greatest_unit}
 use Rattle.checkpointing.specs.Counts.{CountsUpTo}
-use Rattle.disk_law.specs.Counted.{TellUnits}
+use Rattle.disk_law.specs.UnitCounts.{TellUnits}
 use Rattle.logged_machine.proofs.Counts.{force_up_to, forced_tell, quiet_tells}
 use Rattle.logged_machine.proofs.OwnUnits.{records_most, turn_most, unit_below}
-use Rattle.logged_machine.specs.PartsLifeLogged.{IsLogged}
-use Rattle.logged_machine.specs.Calls.{Does, DoesTo, IsWithin, NumbersBy, lasts_by, may_last, own_bytes, own_records}
-use Rattle.logged_machine.specs.Logged.{LoggedState}
+use Rattle.logged_machine.specs.LoggedParts.{IsLogged}
+use Rattle.logged_machine.specs.ToldCalls.{DoesCall, DoesTo, IsCallWithin, NumbersBy, lasts_by, may_last, own_bytes, own_records}
+use Rattle.logged_machine.specs.LoggedState.{LoggedState}
 use Rattle.openings.specs.Faults.{fault_in}
-use Rattle.logged_machine.specs.Leaving.{Leaves}
-use Rattle.logged_machine.specs.Doing.{Did, GoesOnIn, LeavesCounts, Tried}
+use Rattle.logged_machine.specs.LeftImages.{CrashesLeave}
+use Rattle.logged_machine.specs.Attempts.{Did, GoesOnIn, LeavesCounts, Tried}
 use Rattle.logged_machine.proofs.Leaving.{leaves_same, leaves_within}
-use Rattle.logged_machine.specs.Frugal.{AppendsAlone, ForceFails, ForcesAll, WritesBy, has_lasting_step}
+use Rattle.logged_machine.specs.CheckpointDue.{AppendsAlone, ForceFails, ForcesAll, WritesBy, has_lasting_step}
 use Rattle.logged_machine.proofs.Frugality.{area_is, writes_log}
 use Rattle.logged_machine.proofs.Logging.{area}
-use Rattle.logged_machine.specs.Forcing.{Forces, IsForced, MayForce}
+use Rattle.logged_machine.specs.ForcedLog.{Forces, IsForced, MayForce}
 use Rattle.logged_machine.proofs.Once.{failed, is, is_broken, is_still, quiet, quiet_logged, was, wrote, wrote_logged}
+use Rattle.disk_law.specs.LifeSteps.{forced_by_step}
 
 apart : false ≡ true → ⊥
 apart e = cc
@@ -81,7 +81,7 @@ pub record Attempt {D : Type 0} (state : D → DiskState) (parts parts' : PartsS
   pub told : Appends records journal mid
   pub step : Option LastingStep
   pub steps : is_some step ≡ has_step
-  pub goes : GoesBy step (flat_map spelling records) parts.system parts'.moment (slots_now parts') units' next' logged.life
+  pub goes : GoesBy step (flat_map record_spelling records) parts.system parts'.moment (slots_now parts') units' next' logged.life
   pub own : records ≡ own_records parts units (call_of entry)
   pub step_is : step ≡ lasting_step parts.system parts.moment (call_of entry)
   pub unit_up : next' ≤ next + 1
@@ -96,8 +96,8 @@ module _ {D : Type 0} (state : D → DiskState) (parts parts' : PartsState) (tex
   step_has : has_lasting_step parts (call_of entry) ≡ has_step
   step_has = ap is_some (sym a.step_is) ∙ a.steps
 
-  log_is : mid.log ≡ with_bytes (own_bytes parts units (call_of entry)) journal.log
-  log_is = a.told.log ∙ ap (λ (rs : List Record). with_bytes (flat_map spelling rs) journal.log) a.own
+  log_is : mid.log ≡ with_bytes_behind (own_bytes parts units (call_of entry)) journal.log
+  log_is = a.told.log ∙ ap (λ (rs : List Record). with_bytes_behind (flat_map record_spelling rs) journal.log) a.own
 
   writes_quiet : has_step ≡ false → WritesBy state (fault_in entry) (has_lasting_step parts (call_of entry)) (own_bytes parts units (call_of entry)) journal mid disk disk
   writes_quiet none =
@@ -125,7 +125,7 @@ module _ {D : Type 0} (state : D → DiskState) (parts parts' : PartsState) (tex
   counts_within : (disk' : D) (new : LoggedState D) → new.disk ≡ disk' → Within (AddsFront mid.log) (state disk) (state disk')
       → LeavesCounts state parts.system.logs (record { machine = parts; text = text; served = up; journal = journal; units = units; next_unit = next; disk = disk }) new
   counts_within disk' new is within high stands =
-      subst (λ (d : D). Leaves (CountsUpTo parts.system (high + parts.system.logs)) (state disk) (state d)) (sym is)
+      subst (λ (d : D). CrashesLeave (CountsUpTo parts.system (high + parts.system.logs)) (state disk) (state d)) (sym is)
       (leaves_within (AddsFront mid.log) (CountsUpTo parts.system (high + parts.system.logs)) (state disk) (state disk')
       (λ before after left front.
       force_up_to parts units next journal text (state disk) a.logged a.records mid a.told.log a.told.restart a.told.valid a.told.bytes a.told.fits next' a.later a.fresh high stands
@@ -142,7 +142,7 @@ module _ {D : Type 0} (state : D → DiskState) (parts parts' : PartsState) (tex
   force_area : mid.log.first + mid.log.count ≤ (state disk).size
   force_area = subst (λ (w : Writer). w.first + w.count ≤ (state disk).size) (sym a.told.log) (area parts units next journal text (state disk) a.logged)
 
-  force_sequences : IsCounted 4294967296 parts.moment.lasting next journal → mid.log.sequence + mid.log.count < 2 ^ 64
+  force_sequences : AreCountsInRange 4294967296 parts.moment.lasting next journal → mid.log.sequence + mid.log.count < 2 ^ 64
   force_sequences counted =
       let life = a.logged.carried.is.is_life in
       let few : journal.log.count < 2 ^ 32 = subst (λ (w : Writer). w.count < 2 ^ 32) a.logged.writer (subst (λ (n : ℕ). n < 2 ^ 32) (sym life.writer.count) life.few) in
@@ -151,8 +151,8 @@ module _ {D : Type 0} (state : D → DiskState) (parts parts' : PartsState) (tex
       below : (s p c : ℕ) → s + p < 1000000000000000000 + 4294967296 → c < 2 ^ 32 → s + c < 2 ^ 64
       below s p c h k = omega (arith, h, k)
 
-  force_ready : IsReady mid.log (state disk)
-  force_ready = subst (λ (w : Writer). IsReady w (state disk)) (sym a.told.log) (λ image left. let end = a.logged.ready image left in record { written = end.written; free = end.free })
+  force_ready : IsWriterReady mid.log (state disk)
+  force_ready = subst (λ (w : Writer). IsWriterReady w (state disk)) (sym a.told.log) (λ image left. let end = a.logged.ready image left in record { written = end.written; free = end.free })
 
   -- ---- with a step
   module _ (some : has_step ≡ true) (journal' : JournalState) (disk' : D) where
@@ -166,11 +166,11 @@ module _ {D : Type 0} (state : D → DiskState) (parts parts' : PartsState) (tex
     on_forced : Forces mid.log journal'.log (state disk) (state disk') → journal'.restart ≡ mid.restart → GoesOnIn (record { machine = parts; text = text; served = up; journal = journal; units = units; next_unit = next; disk = disk }) (record { machine = parts'; text = text; served = up; journal = journal'; units = units'; next_unit = next'; disk = disk' })
     on_forced f restart =
         let s : journal'.log.sequence ≡ journal.log.sequence = ap (λ (w : Writer). w.sequence) f.log_is ∙ ap (λ (w : Writer). w.sequence) a.told.log in
-        let p : journal'.log.place ≡ journal.log.place + sectors_of (length (journal.log.appended ++ flat_map spelling a.records)) = ap (λ (w : Writer). w.place) (f.log_is ∙ ap forced a.told.log) in
+        let p : journal'.log.place ≡ journal.log.place + log_sectors_of (length (journal.log.appended ++ flat_map record_spelling a.records)) = ap (λ (w : Writer). w.place) (f.log_is ∙ ap forced_by_step a.told.log) in
         record {
           restart = restart ∙ a.told.restart;
           sequence =
-              within journal.log.sequence journal.log.place (sectors_of (length (journal.log.appended ++ flat_map spelling a.records))) journal.log.count parts.system.logs journal'.log.sequence journal'.log.place s p
+              within journal.log.sequence journal.log.place (log_sectors_of (length (journal.log.appended ++ flat_map record_spelling a.records))) journal.log.count parts.system.logs journal'.log.sequence journal'.log.place s p
               a.told.fits (area_is parts units next journal text (state disk) a.logged);
           unit = a.unit_up;
         }
@@ -178,18 +178,18 @@ module _ {D : Type 0} (state : D → DiskState) (parts parts' : PartsState) (tex
         within : (s p n c l t q : ℕ) → t ≡ s → q ≡ p + n → p + n ≤ c → c ≡ l → t + q ≤ s + p + l
         within s p n c l t q a b d e = omega (arith, a, b, d, e)
 
-    writes_forced : Forces mid.log journal'.log (state disk) (state disk') → journal'.restart ≡ mid.restart → WritesAtMost (sectors_of (length mid.log.appended)) (state disk) (state disk')
+    writes_forced : Forces mid.log journal'.log (state disk) (state disk') → journal'.restart ≡ mid.restart → WritesAtMost (log_sectors_of (length mid.log.appended)) (state disk) (state disk')
         → WritesBy state (fault_in entry) (has_lasting_step parts (call_of entry)) (own_bytes parts units (call_of entry)) journal journal' disk disk'
     writes_forced f restart most =
         let w : ForcesAll state (own_bytes parts units (call_of entry)) journal journal' disk disk' = record {
-          log = f.log_is ∙ ap forced log_is;
+          log = f.log_is ∙ ap forced_by_step log_is;
           restart = restart ∙ a.told.restart;
           writes = writes_log journal.log mid.log (own_bytes parts units (call_of entry)) (state disk) (state disk') log_is f.within most;
         } in
         subst (λ (x : Option ControlFault). WritesBy state x (has_lasting_step parts (call_of entry)) (own_bytes parts units (call_of entry)) journal journal' disk disk') (sym a.no_fault)
         (subst (λ (b : Bool). WritesBy state None b (own_bytes parts units (call_of entry)) journal journal' disk disk') (sym (step_has ∙ some)) w)
 
-    tried_forced : up ≡ true → Forces mid.log journal'.log (state disk) (state disk') → journal'.restart ≡ mid.restart → WritesAtMost (sectors_of (length mid.log.appended)) (state disk) (state disk')
+    tried_forced : up ≡ true → Forces mid.log journal'.log (state disk) (state disk') → journal'.restart ≡ mid.restart → WritesAtMost (log_sectors_of (length mid.log.appended)) (state disk) (state disk')
         → Tried state (fault_in entry) (record { machine = parts; text = text; served = up; journal = journal; units = units; next_unit = next; disk = disk }) (record { machine = parts'; text = text; served = up; journal = journal'; units = units'; next_unit = next'; disk = disk' }) entry
     tried_forced served f restart most = record { did = did_forced served f restart; writes = writes_forced f restart most; on = λ now. on_forced f restart; counts = counts_within disk' (record { machine = parts'; text = text; served = up; journal = journal'; units = units'; next_unit = next'; disk = disk' }) refl f.within }
 
@@ -199,7 +199,7 @@ module _ {D : Type 0} (state : D → DiskState) (parts parts' : PartsState) (tex
 
     -- the disk failed
     did_failed : (broken : Entry) → fault_in broken ≡ Some Disk → after_entry parts.system parts.moment broken ≡ after_entry parts.system parts.moment entry
-        → Within (Rattle.log_writer.specs.Log.AddsFront mid.log) (state disk) (state disk') → Stays (state disk) (state disk') → FailedSince (state disk) (state disk')
+        → Within (Rattle.log_writer.specs.ForcedLog.AddsFront mid.log) (state disk) (state disk') → Stays (state disk) (state disk') → FailedSince (state disk) (state disk')
         → Did state (fault_in broken) (record { machine = parts; text = text; served = up; journal = journal; units = units; next_unit = next; disk = disk }) (record { machine = parts'; text = text; served = false; journal = journal'; units = units'; next_unit = next'; disk = disk' }) broken
     did_failed broken fault same within stays cause =
         subst (λ (x : Option ControlFault). Did state x (was state parts parts' text journal mid units units' next next' disk up a.logged a.as_many entry a.answered a.records a.told a.step a.goes)
@@ -207,7 +207,7 @@ module _ {D : Type 0} (state : D → DiskState) (parts parts' : PartsState) (tex
         (failed state parts parts' text journal mid units units' next next' disk up a.logged a.as_many entry a.answered a.records a.told a.step a.goes (a.steps ∙ some) journal' disk' broken same within stays cause)
 
     writes_failed : (broken : Entry) → fault_in broken ≡ Some Disk → call_of broken ≡ call_of entry → journal'.restart ≡ mid.restart
-        → Within (AddsFront mid.log) (state disk) (state disk') → WritesAtMost (sectors_of (length mid.log.appended)) (state disk) (state disk')
+        → Within (AddsFront mid.log) (state disk) (state disk') → WritesAtMost (log_sectors_of (length mid.log.appended)) (state disk) (state disk')
         → WritesBy state (fault_in broken) (has_lasting_step parts (call_of broken)) (own_bytes parts units (call_of broken)) journal journal' disk disk'
     writes_failed broken fault same restart within most =
         let w : ForceFails state (own_bytes parts units (call_of entry)) journal journal' disk disk' = record {
@@ -220,7 +220,7 @@ module _ {D : Type 0} (state : D → DiskState) (parts parts' : PartsState) (tex
 
     tried_failed : (broken : Entry) → fault_in broken ≡ Some Disk → after_entry parts.system parts.moment broken ≡ after_entry parts.system parts.moment entry → call_of broken ≡ call_of entry
         → Within (AddsFront mid.log) (state disk) (state disk') → Stays (state disk) (state disk') → FailedSince (state disk) (state disk') → journal'.restart ≡ mid.restart
-        → WritesAtMost (sectors_of (length mid.log.appended)) (state disk) (state disk') → Tried state (fault_in broken) (record { machine = parts; text = text; served = up; journal = journal; units = units; next_unit = next; disk = disk }) (record { machine = parts'; text = text; served = false; journal = journal'; units = units'; next_unit = next'; disk = disk' }) broken
+        → WritesAtMost (log_sectors_of (length mid.log.appended)) (state disk) (state disk') → Tried state (fault_in broken) (record { machine = parts; text = text; served = up; journal = journal; units = units; next_unit = next; disk = disk }) (record { machine = parts'; text = text; served = false; journal = journal'; units = units'; next_unit = next'; disk = disk' }) broken
     tried_failed broken fault same call within stays cause restart most = record {
       did = did_failed broken fault same within stays cause;
       writes = writes_failed broken fault call restart within most;
@@ -232,7 +232,7 @@ module _ {D : Type 0} (state : D → DiskState) (parts parts' : PartsState) (tex
 
 module _ {D : Type 0} (state : D → DiskState) {parts parts' : PartsState} {text : List ℕ} {journal mid : JournalState} {units units' : List ℕ} {next next' : ℕ} {disk : D} {entry : Entry} {has_step : Bool}
     (a : Attempt state parts parts' text journal mid units units' next next' disk entry has_step) where
-  pub may_force : IsCounted 4294967296 parts.moment.lasting next journal → MayForce mid.log (state disk)
+  pub may_force : AreCountsInRange 4294967296 parts.moment.lasting next journal → MayForce mid.log (state disk)
   may_force counted = record {
     area = force_area state parts parts' text journal mid units units' next next' disk entry has_step true a;
     sequences = force_sequences state parts parts' text journal mid units units' next next' disk entry has_step true a counted;
@@ -314,9 +314,9 @@ next_up (Waits resource by) next = omega arith
 next_up (Backed victims) next = omega arith
 
 module _ {D : Type 0} (state : D → DiskState) {parts parts' : PartsState} {text : List ℕ} {journal mid : JournalState} {units : List ℕ} {next : ℕ} {disk : D}
-    (h : IsLogged parts units next journal text (state disk)) (counted : IsCounted 4294967296 parts.moment.lasting next journal) (had : HasSlots parts) (has : HasSlots parts') where
+    (h : IsLogged parts units next journal text (state disk)) (counted : AreCountsInRange 4294967296 parts.moment.lasting next journal) (had : HasSlots parts) (has : HasSlots parts') where
   input_attempt : (terminal : List ℕ) (number : ℕ) (segments : List (List ℕ)) (answer : Result Taken InputRefused) → IsAnswered parts parts' (Accept terminal number segments answer)
-      → fault_in (Accept terminal number segments answer) ≡ None → Appends (records_of parts.system parts.moment 0 (Input terminal number segments)) journal mid → parts'.databases ≡ parts.databases → number < 2000000000000000000
+      → fault_in (Accept terminal number segments answer) ≡ None → Appends (told_records_of parts.system parts.moment 0 (Input terminal number segments)) journal mid → parts'.databases ≡ parts.databases → number < 2000000000000000000
       → Attempt state parts parts' text journal mid units units next next disk (Accept terminal number segments answer) (is_new answer)
   input_attempt terminal number segments answer answered none told databases small = record {
     logged = h;
@@ -325,7 +325,7 @@ module _ {D : Type 0} (state : D → DiskState) {parts parts' : PartsState} {tex
     no_fault = none;
     numbers = (refl, refl);
     does = databases;
-    records = records_of parts.system parts.moment 0 (Input terminal number segments);
+    records = told_records_of parts.system parts.moment 0 (Input terminal number segments);
     told = told;
     step = lasting_step parts.system parts.moment (Input terminal number segments);
     own = refl;
@@ -337,11 +337,11 @@ module _ {D : Type 0} (state : D → DiskState) {parts parts' : PartsState} {tex
     steps = input_steps parts parts' terminal number segments answer answered;
     goes =
         input_of_parts parts parts' units next h.life h.carried counted.counts had has databases terminal number segments answer answered (lt-ltb number 2000000000000000000 small)
-        (room_in_log (records_of parts.system parts.moment 0 (Input terminal number segments)) journal.log h.life h.writer told.valid told.bytes told.fits);
+        (room_in_log (told_records_of parts.system parts.moment 0 (Input terminal number segments)) journal.log h.life h.writer told.valid told.bytes told.fits);
   }
 
   ack_attempt : (terminal : List ℕ) (number : ℕ) (answer : Result Acked AckRefused) → IsAnswered parts parts' (AckedEntry terminal number answer) → fault_in (AckedEntry terminal number answer) ≡ None
-      → Appends (records_of parts.system parts.moment 0 (Acknowledge terminal number)) journal mid → parts'.databases ≡ parts.databases
+      → Appends (told_records_of parts.system parts.moment 0 (Acknowledge terminal number)) journal mid → parts'.databases ≡ parts.databases
       → Attempt state parts parts' text journal mid units units next next disk (AckedEntry terminal number answer) (is_removed answer)
   ack_attempt terminal number answer answered none told databases = record {
     logged = h;
@@ -350,7 +350,7 @@ module _ {D : Type 0} (state : D → DiskState) {parts parts' : PartsState} {tex
     no_fault = none;
     numbers = (refl, refl);
     does = databases;
-    records = records_of parts.system parts.moment 0 (Acknowledge terminal number);
+    records = told_records_of parts.system parts.moment 0 (Acknowledge terminal number);
     told = told;
     step = lasting_step parts.system parts.moment (Acknowledge terminal number);
     own = refl;
@@ -362,11 +362,11 @@ module _ {D : Type 0} (state : D → DiskState) {parts parts' : PartsState} {tex
     steps = ack_steps parts parts' terminal number answer answered;
     goes =
         ack_of_parts parts parts' units next h.life h.carried counted.counts had has databases terminal number answer answered
-        (room_in_log (records_of parts.system parts.moment 0 (Acknowledge terminal number)) journal.log h.life h.writer told.valid told.bytes told.fits);
+        (room_in_log (told_records_of parts.system parts.moment 0 (Acknowledge terminal number)) journal.log h.life h.writer told.valid told.bytes told.fits);
   }
 
   command_attempt : (command : Command) (answer : Result Answer CommandRefused) → IsAnswered parts parts' (Commanded command answer) → fault_in (Commanded command answer) ≡ None → IfSome (lasting_command command) (λ does. IsName (name_in does))
-      → Appends (records_of parts.system parts.moment 0 (CommandCall command)) journal mid → parts'.databases ≡ parts.databases
+      → Appends (told_records_of parts.system parts.moment 0 (CommandCall command)) journal mid → parts'.databases ≡ parts.databases
       → Attempt state parts parts' text journal mid units units next next disk (Commanded command answer) (is_lasting command answer)
   command_attempt command answer answered none named told databases = record {
     logged = h;
@@ -375,7 +375,7 @@ module _ {D : Type 0} (state : D → DiskState) {parts parts' : PartsState} {tex
     no_fault = none;
     numbers = (refl, refl);
     does = databases;
-    records = records_of parts.system parts.moment 0 (CommandCall command);
+    records = told_records_of parts.system parts.moment 0 (CommandCall command);
     told = told;
     step = lasting_step parts.system parts.moment (CommandCall command);
     own = refl;
@@ -387,11 +387,11 @@ module _ {D : Type 0} (state : D → DiskState) {parts parts' : PartsState} {tex
     steps = command_steps parts parts' command answer answered;
     goes =
         command_of_parts parts parts' units next h.life h.carried counted.counts had has databases command answer answered named
-        (room_in_log (records_of parts.system parts.moment 0 (CommandCall command)) journal.log h.life h.writer told.valid told.bytes told.fits);
+        (room_in_log (told_records_of parts.system parts.moment 0 (CommandCall command)) journal.log h.life h.writer told.valid told.bytes told.fits);
   }
 
-  turn_attempt : (region : ℕ) (turned : Turned) → IsAnswered parts parts' (TurnEntry region (Ok turned)) → Appends (turn_records parts (unit_of units region) region) journal mid
-      → TurnsSo parts parts' (unit_of units region) region turned → TellByCall (changes_told parts (unit_of units region) region) turned
+  turn_attempt : (region : ℕ) (turned : Turned) → IsAnswered parts parts' (TurnEntry region (Ok turned)) → Appends (turn_records parts (unit_of_region units region) region) journal mid
+      → TurnsSo parts parts' (unit_of_region units region) region turned → TellByCall (changes_told parts (unit_of_region units region) region) turned
       → Attempt state parts parts' text journal mid units (units_after turned region next units) next (next_after turned next) disk (TurnEntry region (Ok turned)) (ends_work turned)
   turn_attempt region turned answered told turns quiet = record {
     logged = h;
@@ -400,19 +400,19 @@ module _ {D : Type 0} (state : D → DiskState) {parts parts' : PartsState} {tex
     no_fault = refl;
     numbers = (refl, refl);
     does = turns;
-    records = turn_records parts (unit_of units region) region;
+    records = turn_records parts (unit_of_region units region) region;
     told = told;
     step = lasting_step parts.system parts.moment (Turn region);
     own = refl;
     step_is = refl;
     unit_up = next_up turned next;
     later = next_later turned next;
-    fresh = omega (arith, turn_most parts parts' (unit_of units region) region turned turns quiet, unit_below parts.moment.slots units next region h.carried.is.numbers, next_later turned next);
+    fresh = omega (arith, turn_most parts parts' (unit_of_region units region) region turned turns quiet, unit_below parts.moment.slots units next region h.carried.is.numbers, next_later turned next);
     some_logs = omega (arith, had.defined.least_logs);
     steps = turn_steps parts parts' region turned answered;
     goes =
         turn_of_parts parts parts' units next h.life h.carried counted.counts had has region turned answered turns quiet
-        (room_in_log (turn_records parts (unit_of units region) region) journal.log h.life h.writer told.valid told.bytes told.fits);
+        (room_in_log (turn_records parts (unit_of_region units region) region) journal.log h.life h.writer told.valid told.bytes told.fits);
   }
 
   -- with the numbers of the units and the next one as they then are
@@ -422,7 +422,7 @@ module _ {D : Type 0} (state : D → DiskState) {parts parts' : PartsState} {tex
       subst (λ (u : List ℕ). Attempt state parts parts' text journal mid units u next next' disk entry has_step) (sym units_are)
       (subst (λ (m : ℕ). Attempt state parts parts' text journal mid units us next m disk entry has_step) (sym next_is) a)
 
-  by_entry : (entry : Entry) (units' : List ℕ) (next' : ℕ) → may_last (call_of entry) ≡ true → IsWithin (call_of entry) → Does units entry parts parts' → NumbersBy entry units units' next next'
+  by_entry : (entry : Entry) (units' : List ℕ) (next' : ℕ) → may_last (call_of entry) ≡ true → IsCallWithin (call_of entry) → DoesCall units entry parts parts' → NumbersBy entry units units' next next'
       → Appends (own_records parts units (call_of entry)) journal mid → Attempt state parts parts' text journal mid units units' next next' disk entry (lasts_by entry)
   by_entry (Accept terminal number segments answer) units' next' last within d numbers told =
       numbered (Accept terminal number segments answer) (is_new answer) numbers.0 numbers.1 (input_attempt terminal number segments answer d.answered d.no_fault told d.does within)
@@ -437,10 +437,10 @@ module _ {D : Type 0} (state : D → DiskState) {parts parts' : PartsState} {tex
   by_entry (Checked freeze answer) units' next' last within d numbers told = absurd (apart last)
 
   -- The attempt of a call, by what it told with the numbers of the units as they were given.
-  pub attempt : {given : List ℕ} {call : ControlCall} (entry : Entry) (units' : List ℕ) (next' : ℕ) → given ≡ units → call_of entry ≡ call → may_last call ≡ true → IsWithin call → Does given entry parts parts'
+  pub attempt : {given : List ℕ} {call : ControlCall} (entry : Entry) (units' : List ℕ) (next' : ℕ) → given ≡ units → call_of entry ≡ call → may_last call ≡ true → IsCallWithin call → DoesCall given entry parts parts'
       → NumbersBy entry units units' next next' → Appends (own_records parts given call) journal mid → Attempt state parts parts' text journal mid units units' next next' disk entry (lasts_by entry)
   attempt {given = given} entry units' next' same of_call last within d numbers told =
-      by_entry entry units' next' (ap may_last of_call ∙ last) (subst IsWithin (sym of_call) within) (subst (λ (us : List ℕ). Does us entry parts parts') same d) numbers
+      by_entry entry units' next' (ap may_last of_call ∙ last) (subst IsCallWithin (sym of_call) within) (subst (λ (us : List ℕ). DoesCall us entry parts parts') same d) numbers
       (subst (λ (us : List ℕ). Appends (own_records parts us (call_of entry)) journal mid) same (subst (λ (c : ControlCall). Appends (own_records parts given c) journal mid) (sym of_call) told))
 
 -- ---- where the disk breaks it off

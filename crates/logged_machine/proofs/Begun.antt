@@ -4,30 +4,30 @@ use Rattle.std.specs.Prelude.{IfOk, IsTrue}
 use Rattle.tm_disk.specs.Disk.{DiskState, Image}
 use Rattle.model_system.specs.System.{System}
 use Rattle.model_machine.specs.Machine.{LastingState, start_of}
-use Rattle.model_image.specs.Holding.{HoldsStores}
+use Rattle.model_image.specs.HeldStores.{HoldsStores}
 use Rattle.openings.specs.FirstImage.{sectors_needed}
-use Rattle.log_writer.specs.Log.{IsReady}
+use Rattle.log_writer.specs.ForcedLog.{IsWriterReady}
 use Rattle.log_writer.specs.Writer.{Writer}
 use Rattle.restart_data.specs.declared.restart.RestartSector.{RestartSector}
-use Rattle.disk_law.specs.Opening.{opened_life}
-use Rattle.disk_law.specs.Counted.{TellsUnits, TellUnits}
+use Rattle.disk_law.specs.OpenedLife.{opened_life}
+use Rattle.disk_law.specs.UnitCounts.{TellsUnits, TellUnits}
 use Rattle.disk_law.proofs.Counting.{begun_tells}
 use Rattle.openings.specs.declared.refusals.OpenError.{OpenError}
-use Rattle.openings.specs.Opening.{MayBegin, OpeningCause, SizeFirst, TellsCold, TellsOpening}
+use Rattle.openings.specs.OpenedImage.{MayBegin, OpeningCause, SizeFirst, TellsCold, TellsOpening}
 use Rattle.openings.specs.Renewal.{IsRenewed, first_writer}
-use Rattle.openings.specs.Parts.{AreOpeningParts, OpeningParts}
-use Rattle.disk_law.specs.Journal.{JournalState}
-use Rattle.tm_machine.specs.Opening.{IsOpenedWith}
-use Rattle.tm_machine.specs.OnSlots.{HasSlots, slots_now}
+use Rattle.openings.specs.OpeningParts.{AreOpeningParts, OpeningParts}
+use Rattle.disk_law.specs.JournalState.{JournalState}
+use Rattle.tm_machine.specs.MachineOpening.{IsOpenedWith}
+use Rattle.tm_machine.specs.SlotChanges.{HasSlots, slots_now}
 use Rattle.tm_machine.specs.Parts.{PartsState}
 use Rattle.journal.proofs.Openings.{no_units}
-use Rattle.logged_machine.proofs.PartsLifeOpening.{opened_by, opened_kept, opened_ready}
+use Rattle.logged_machine.proofs.OpenedParts.{opened_by, opened_kept, opened_ready}
 use Rattle.logged_machine.specs.OpeningSlots.{slots_of_opening}
-use Rattle.logged_machine.specs.Carried.{IsCarried}
-use Rattle.logged_machine.specs.PartsLifeLogged.{IsLogged}
+use Rattle.logged_machine.specs.CarriedParts.{IsCarried}
+use Rattle.logged_machine.specs.LoggedParts.{IsLogged}
 use Rattle.openings.specs.declared.how.How.{How}
 use Rattle.openings.specs.declared.how.How.TheVariants.{Found, Cold}
-use Rattle.logged_machine.specs.Opened.{BeginsOn, OpensOn}
+use Rattle.logged_machine.specs.MachineOpening.{BeginsOn, OpensOn}
 
 -- ---- what was found, or begun
 
@@ -85,7 +85,7 @@ module _ (system : System) (parts : PartsState) (text : List ℕ) (opening : Ope
     areas = own.size;
     counted = zeros (length system.regions) ∙ ap (λ (y : System). length y.regions) (sym same);
     told = own_told;
-    ready = subst (λ (w : Writer). IsReady w disk) own_log (opened_ready parts text opening state own.are own.may has own_start own_slots disk own.renewed own.stored);
+    ready = subst (λ (w : Writer). IsWriterReady w disk) own_log (opened_ready parts text opening state own.are own.may has own_start own_slots disk own.renewed own.stored);
   }
 
 -- ---- as the calls have it

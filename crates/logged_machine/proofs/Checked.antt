@@ -2,28 +2,28 @@
 use Rattle.std.proofs.Common.{◌≡◌, ℕ, ◌+◌, ◌≤◌, Bool, List, [], Some, None, Result, Ok, Err, refl, sym, ◌∙◌, ap, subst, arith, inr}
 use Rattle.tm_disk.specs.Disk.{DiskState, Image, sector_at}
 use Rattle.model_system.specs.System.{System}
-use Rattle.model_machine.specs.ModelMachineCommands.{checkpoint_answer, unless_busy}
+use Rattle.model_machine.specs.CommandAnswers.{checkpoint_answer, unless_busy}
 use Rattle.model_machine.specs.declared.entry.CheckpointRefused.{CheckpointRefused}
 use Rattle.model_machine.specs.declared.entry.CheckpointRefused.TheVariants.{BusyRegion, Fault}
 use Rattle.model_machine.specs.declared.entry.ControlFault.{ControlFault}
 use Rattle.model_machine.specs.declared.entry.ControlFault.TheVariants.{Memory, Disk, Spent}
 use Rattle.model_machine.specs.declared.entry.Entry.TheVariants.{Checked}
-use Rattle.log_sectors.specs.Sealed.{opened}
+use Rattle.log_sectors.specs.SealedSector.{opened_payload}
 use Rattle.log_sectors.specs.Chain.{chain}
-use Rattle.log_writer.specs.Log.{IsAtEnd}
+use Rattle.log_writer.specs.ForcedLog.{IsAtEnd}
 use Rattle.log_writer.specs.Writer.{Writer}
 use Rattle.log_writer.proofs.Gaining.{chain-ended}
 use Rattle.restart_data.specs.declared.restart.RestartSector.{RestartSector}
 use Rattle.restart_data.specs.Restart.{restart_in}
 use Rattle.model_image.specs.Areas.{snapshot_area, log_first}
-use Rattle.disk_law.specs.Journal.{JournalState}
+use Rattle.disk_law.specs.JournalState.{JournalState}
 use Rattle.tm_machine.specs.Answers.{IsAnswered}
 use Rattle.tm_machine.specs.Parts.{PartsState}
-use Rattle.logged_machine.specs.PartsLifeLogged.{IsLogged}
-use Rattle.logged_machine.specs.Taking.{TakesNext, checkpoint_sectors}
-use Rattle.logged_machine.specs.Taken.{HasNumber, IsTaken, LeavesSettled, StaysUntaken, WritesCheckpoint, again}
-use Rattle.logged_machine.specs.Doing.{Did, Refreshed, Unrefreshed}
-use Rattle.logged_machine.specs.Logged.{LoggedState}
+use Rattle.logged_machine.specs.LoggedParts.{IsLogged}
+use Rattle.logged_machine.specs.UntakenCheckpoint.{TakesNext, checkpoint_sectors}
+use Rattle.logged_machine.specs.TakenCheckpoint.{HasNumber, IsTaken, LeavesSettled, StaysUntaken, WritesCheckpoint, again}
+use Rattle.logged_machine.specs.Attempts.{Did, Refreshed, Unrefreshed}
+use Rattle.logged_machine.specs.LoggedState.{LoggedState}
 
 -- ---- images
 
@@ -33,9 +33,9 @@ none_there : (w : Writer) (image : Image) (count first sequence epoch : ℕ) →
 none_there w image count first sequence epoch f c s e p end =
     chain-ended count image first sequence epoch
     (λ some.
-    subst (λ (n : ℕ). opened n (sequence + 0) (sector_at image (first + 0)) ≡ None) e
-    (subst (λ (n : ℕ). opened w.epoch (n + 0) (sector_at image (first + 0)) ≡ None) s
-    (subst (λ (n : ℕ). opened w.epoch (w.sequence + 0) (sector_at image (n + 0)) ≡ None) f (end.free 0 (omega (arith, p)) (omega (arith, some, c))))))
+    subst (λ (n : ℕ). opened_payload n (sequence + 0) (sector_at image (first + 0)) ≡ None) e
+    (subst (λ (n : ℕ). opened_payload w.epoch (n + 0) (sector_at image (first + 0)) ≡ None) s
+    (subst (λ (n : ℕ). opened_payload w.epoch (w.sequence + 0) (sector_at image (n + 0)) ≡ None) f (end.free 0 (omega (arith, p)) (omega (arith, some, c))))))
 
 -- Each image has the number of the restart sector, and an empty log behind it.
 pub has_number : (parts : PartsState) (units : List ℕ) (next : ℕ) (journal : JournalState) (text : List ℕ) (disk : DiskState) → IsLogged parts units next journal text disk → journal.log.place ≡ 0

@@ -10,24 +10,24 @@ use Rattle.model_machine.specs.declared.entry.Entry.{Entry}
 use Rattle.model_machine.specs.declared.entry.ControlFault.{ControlFault}
 use Rattle.model_machine.specs.declared.entry.ControlFault.TheVariants.{Memory, Disk, Spent}
 use Rattle.checkpointing.specs.Checkpoint.{KeepsRecovery}
-use Rattle.checkpointing.specs.Parts.{sequence_behind}
-use Rattle.checkpointing.specs.Texts.{KeepsText}
+use Rattle.checkpointing.specs.CheckpointParts.{sequence_behind}
+use Rattle.checkpointing.specs.DefinitionText.{KeepsText}
 use Rattle.checkpointing.specs.Counts.{CountsUpTo}
-use Rattle.disk_law.specs.Counted.{StandsUpTo}
+use Rattle.disk_law.specs.UnitCounts.{StandsUpTo}
 use Rattle.restart_data.specs.declared.restart.RestartSector.{RestartSector}
 use Rattle.log_writer.specs.Writer.{Writer}
-use Rattle.log_writer.specs.Log.{sectors_of}
-use Rattle.disk_law.specs.Journal.{JournalState}
-use Rattle.journal.specs.Counts.{AreUnspent}
+use Rattle.log_writer.specs.ForcedLog.{log_sectors_of}
+use Rattle.disk_law.specs.JournalState.{JournalState}
+use Rattle.journal.specs.UnspentCounts.{AreUnspent}
 use Rattle.tm_machine.specs.Parts.{PartsState}
-use Rattle.journal.specs.Counted.{IsCounted}
-use Rattle.logged_machine.specs.PartsLifeLogged.{IsLogged}
-use Rattle.logged_machine.specs.Taking.{SameAll, TakesNext, Untaken, checkpoint_sectors, settled_parts}
-use Rattle.logged_machine.specs.Logged.{LoggedState}
-use Rattle.logged_machine.specs.Calls.{NumbersBy}
-use Rattle.logged_machine.specs.Goes.{ActsOn}
-use Rattle.logged_machine.specs.Leaving.{Brings, Leaves}
-use Rattle.logged_machine.specs.Doing.{Did, FailsIn, LeavesCounts, Refreshed, Unrefreshed, is_memory, lasting_with}
+use Rattle.journal.specs.CountRanges.{AreCountsInRange}
+use Rattle.logged_machine.specs.LoggedParts.{IsLogged}
+use Rattle.logged_machine.specs.UntakenCheckpoint.{SameAll, TakesNext, Untaken, checkpoint_sectors, settled_parts}
+use Rattle.logged_machine.specs.LoggedState.{LoggedState}
+use Rattle.logged_machine.specs.ToldCalls.{NumbersBy}
+use Rattle.logged_machine.specs.CallOutcome.{ActsOn}
+use Rattle.logged_machine.specs.LeftImages.{Brings, CrashesLeave}
+use Rattle.logged_machine.specs.Attempts.{Did, FailsIn, LeavesCounts, Refreshed, Unrefreshed, is_memory, lasting_with}
 use Rattle.logged_machine.proofs.Leaving.{leaves_same, leaves_within}
 use Rattle.logged_machine.proofs.Logging.{recover, have_text}
 
@@ -42,7 +42,7 @@ module _ {D : Type 0} (state : D → DiskState) (parts parts' : PartsState) (tex
   abbrev pub is : Bool → LoggedState D
   is served = record { machine = parts'; text = text; served = served; journal = journal'; units = units; next_unit = next; disk = disk' }
 
-  leaves : Leaves (Brings parts.system text parts.moment.lasting parts.moment.lasting) (state disk) (state disk')
+  leaves : CrashesLeave (Brings parts.system text parts.moment.lasting parts.moment.lasting) (state disk) (state disk')
   leaves = record {
     later = any.later;
     from = λ time image early left.
@@ -65,26 +65,26 @@ module _ {D : Type 0} (state : D → DiskState) (parts parts' : PartsState) (tex
   sequence_low : journal.log.sequence + journal.log.place < 1000000000000000000 → sequence_behind journal.log < 1000000000000000000 + 4294967296
   sequence_low low =
       let w = h.carried.is.is_life.writer in
-      let fits : journal.log.place + sectors_of (length journal.log.appended) ≤ journal.log.count =
-      subst (λ (x : Writer). x.place + sectors_of (length x.appended) ≤ x.count) h.writer h.carried.is.is_life.appended.fits in
+      let fits : journal.log.place + log_sectors_of (length journal.log.appended) ≤ journal.log.count =
+      subst (λ (x : Writer). x.place + log_sectors_of (length x.appended) ≤ x.count) h.writer h.carried.is.is_life.appended.fits in
       let few : journal.log.count < 2 ^ 32 = subst (λ (x : Writer). x.count < 2 ^ 32) h.writer (subst (λ (n : ℕ). n < 2 ^ 32) (sym w.count) h.carried.is.is_life.few) in
-      below journal.log.sequence journal.log.place (sectors_of (length journal.log.appended)) journal.log.count low fits few
+      below journal.log.sequence journal.log.place (log_sectors_of (length journal.log.appended)) journal.log.count low fits few
     where
       below : (s p n c : ℕ) → s + p < 1000000000000000000 → p + n ≤ c → c < 2 ^ 32 → s + p + n < 1000000000000000000 + 4294967296
       below s p n c a b d = omega (arith, a, b, d)
 
   sequence_on : journal'.log.sequence ≡ sequence_behind journal.log → journal'.log.sequence ≤ journal.log.sequence + journal.log.place + parts.system.logs
   sequence_on is =
-      let fits : journal.log.place + sectors_of (length journal.log.appended) ≤ journal.log.count =
-      subst (λ (x : Writer). x.place + sectors_of (length x.appended) ≤ x.count) h.writer h.carried.is.is_life.appended.fits in
+      let fits : journal.log.place + log_sectors_of (length journal.log.appended) ≤ journal.log.count =
+      subst (λ (x : Writer). x.place + log_sectors_of (length x.appended) ≤ x.count) h.writer h.carried.is.is_life.appended.fits in
       let count : journal.log.count ≡ parts.system.logs =
       sym (ap (λ (x : Writer). x.count) h.writer) ∙ h.carried.is.is_life.writer.count ∙ ap (λ (s : System). s.logs) h.carried.is.of_system in
-      below journal.log.sequence journal.log.place (sectors_of (length journal.log.appended)) journal.log.count parts.system.logs journal'.log.sequence is fits count
+      below journal.log.sequence journal.log.place (log_sectors_of (length journal.log.appended)) journal.log.count parts.system.logs journal'.log.sequence is fits count
     where
       below : (s p n c l t : ℕ) → t ≡ s + p + n → p + n ≤ c → c ≡ l → t ≤ s + p + l
       below s p n c l t is fits count = omega (arith, is, fits, count)
 
-  pub refreshed : up ≡ true → parts' ≡ settled_parts parts → IsCounted 0 parts.moment.lasting next journal → TakesNext parts.system journal journal' → Only (state disk').shown (state disk') → (state disk').faults ≡ (state disk).faults
+  pub refreshed : up ≡ true → parts' ≡ settled_parts parts → AreCountsInRange 0 parts.moment.lasting next journal → TakesNext parts.system journal journal' → Only (state disk').shown (state disk') → (state disk').faults ≡ (state disk).faults
       → ((high : ℕ) → StandsUpTo high journal next → StandsUpTo (high + parts.system.logs) journal' next) → Refreshed state was (is up)
   refreshed served settled counted takes synced no_fault raised =
       let number : journal'.restart.checkpoint ≡ journal.restart.checkpoint + 1 = ap (λ (r : RestartSector). r.checkpoint) takes.restart in
@@ -162,8 +162,8 @@ did_same state fault old mid new entry same did = subst (λ (l : LoggedState _).
 pub served_same : {D : Type 0} (old mid : LoggedState D) → mid ≡ old → old.served ≡ true → mid.served ≡ true
 served_same old mid same served = ap (λ (l : LoggedState _). l.served) same ∙ served
 
-pub counted_same : {D : Type 0} (more : ℕ) (old mid : LoggedState D) → mid ≡ old → IsCounted more old.machine.moment.lasting old.next_unit old.journal → IsCounted more mid.machine.moment.lasting mid.next_unit mid.journal
-counted_same more old mid same counted = subst (λ (l : LoggedState _). IsCounted more l.machine.moment.lasting l.next_unit l.journal) (sym same) counted
+pub counted_same : {D : Type 0} (more : ℕ) (old mid : LoggedState D) → mid ≡ old → AreCountsInRange more old.machine.moment.lasting old.next_unit old.journal → AreCountsInRange more mid.machine.moment.lasting mid.next_unit mid.journal
+counted_same more old mid same counted = subst (λ (l : LoggedState _). AreCountsInRange more l.machine.moment.lasting l.next_unit l.journal) (sym same) counted
 
 -- one state or the other, where they are the same
 pub one_state : (system : System) (text : List ℕ) (before after : LastingState) (image : Image) → Brings system text before before image → Brings system text before after image
@@ -187,7 +187,7 @@ unrefreshed state old new entry Disk served h = record {
 unrefreshed state old new entry (Spent counter) served h = absurd h
 
 -- behind the first checkpoint the counts may be higher
-pub counted_more : (lasting : LastingState) (next : ℕ) (journal : JournalState) → IsCounted 0 lasting next journal → IsCounted 4294967296 lasting next journal
+pub counted_more : (lasting : LastingState) (next : ℕ) (journal : JournalState) → AreCountsInRange 0 lasting next journal → AreCountsInRange 4294967296 lasting next journal
 counted_more lasting next journal c = record {
   counts = c.counts;
   unit = c.unit;

@@ -5,9 +5,9 @@ use Rattle.std.specs.List.{flat_map, AllByRecursion}
 use Rattle.std.specs.Option.{is_some, option_and_then, option_map_or}
 use Rattle.tm_types.specs.declared.command.LastingCommand.{LastingCommand}
 use Rattle.log_records.specs.declared.record.Record.{Record}
-use Rattle.log_records.specs.Spelling.{spelling, IsRecord}
+use Rattle.log_records.specs.RecordSpelling.{record_spelling, IsLogRecord}
 use Rattle.log_records.proofs.Takes.{IsBytes}
-use Rattle.log_writer.specs.Log.{sectors_of}
+use Rattle.log_writer.specs.ForcedLog.{log_sectors_of}
 use Rattle.log_writer.specs.Writer.{Writer}
 use Rattle.disk_law.specs.Life.{LifeOnDisk}
 use Rattle.model_machine.specs.declared.answer.Answer.{Answer}
@@ -26,45 +26,45 @@ use Rattle.model_machine.specs.declared.entry.Taken.{Taken}
 use Rattle.model_machine.specs.declared.entry.Taken.TheVariants.{New, Already}
 use Rattle.model_machine.specs.declared.entry.Turned.{Turned}
 use Rattle.model_machine.specs.declared.entry.Turned.TheVariants.{Idle}
-use Rattle.model_machine.specs.ModelMachineCommands.{CommandAnswer, command_answer, lasting_command, steps_by}
+use Rattle.model_machine.specs.CommandAnswers.{CommandAnswer, command_answer, lasting_command, steps_by}
 use Rattle.model_machine.specs.History.{victims_in}
-use Rattle.model_machine.specs.Lasting.{KeptInput, LastingStep, applied, kept_input}
+use Rattle.model_machine.specs.LastingSteps.{KeptInput, LastingStep, applied, kept_input}
 use Rattle.model_machine.specs.Machine.{Moment, Slot, slot_at}
 use Rattle.model_machine.specs.Pick.{Candidate}
 use Rattle.model_machine.specs.Requests.{blocked_now}
-use Rattle.model_machine.specs.Steps.{AtWork, accepts, ack_answer, acknowledges, blocked_answer, ended_step, ending_step, input_answer, lasting_step, need_now, next_message, pick_now, schedule_answer, slot_answer, slot_work, step_in_turn, sync_answer, turn_answer, turn_by, turn_step, unless_blocked, work_answer}
+use Rattle.model_machine.specs.MachineCalls.{AtWork, accepted_step, ack_answer, acknowledged_step, blocked_answer, ended_step, ending_step, input_answer, lasting_step, need_now, next_message, pick_now, schedule_answer, slot_answer, slot_work, step_in_turn, sync_answer, turn_answer, turn_by, turn_step, unless_blocked, work_answer}
 use Rattle.model_machine.specs.Trial.{Advance, Trial}
 use Rattle.model_machine.specs.Trial.Advance.{Goes, Stops}
 use Rattle.model_machine.specs.Trial.WorkEnd.{Ends, Syncs, Abends}
-use Rattle.program_rows.specs.OnSlots.{SlotsState}
+use Rattle.program_rows.specs.SlotsState.{SlotsState}
 use Rattle.tm_machine.specs.Answers.{IsAnswered}
 use Rattle.tm_machine.specs.Parts.{PartsState}
-use Rattle.tm_machine.specs.Told.{ends_work}
-use Rattle.journal.specs.Going.{GoesOn, StepsOn}
+use Rattle.tm_machine.specs.ToldByCall.{ends_work}
+use Rattle.journal.specs.LifeByCall.{LifeGoesOn, LifeStepsOn}
 use Rattle.journal.proofs.Inputs.{HasRoom}
 use Rattle.journal.proofs.Turns.{GoesBy}
-use Rattle.journal.specs.Steps.{is_lasting, is_new, is_removed}
+use Rattle.journal.specs.LastingAnswers.{is_lasting, is_new, is_removed}
 
 -- Records that a journal's writer has room for have it in its life's log.
-pub room_in_log : (records : List Record) (log : Writer) (life : LifeOnDisk) → life.log ≡ log → AllByRecursion IsRecord records → IsBytes (flat_map spelling records)
-    → log.place + sectors_of (length (log.appended ++ flat_map spelling records)) ≤ log.count → HasRoom records life
+pub room_in_log : (records : List Record) (log : Writer) (life : LifeOnDisk) → life.log ≡ log → AllByRecursion IsLogRecord records → IsBytes (flat_map record_spelling records)
+    → log.place + log_sectors_of (length (log.appended ++ flat_map record_spelling records)) ≤ log.count → HasRoom records life
 room_in_log records log life same valid bytes fits =
-    record { valid = valid; fits = subst (λ (w : Writer). w.place + sectors_of (length (w.appended ++ flat_map spelling records)) ≤ w.count) (sym same) fits; bytes = bytes }
+    record { valid = valid; fits = subst (λ (w : Writer). w.place + log_sectors_of (length (w.appended ++ flat_map record_spelling records)) ≤ w.count) (sym same) fits; bytes = bytes }
 
 module _ (bytes : List ℕ) (system : System) (moment : Moment) (slots : SlotsState) (units : List ℕ) (next : ℕ) (life : LifeOnDisk) where
   -- Where there is a step, the life takes it.
-  pub goes_step : (step : Option LastingStep) → is_some step ≡ true → GoesBy step bytes system moment slots units next life → StepsOn bytes system moment slots units next life
+  pub goes_step : (step : Option LastingStep) → is_some step ≡ true → GoesBy step bytes system moment slots units next life → LifeStepsOn bytes system moment slots units next life
   goes_step None is goes = let clash : false ≡ true = is in absurd cc
   goes_step (Some step) is goes = goes
 
   -- Where there is none, it goes on.
-  pub goes_quiet : (step : Option LastingStep) → is_some step ≡ false → GoesBy step bytes system moment slots units next life → GoesOn bytes system moment slots units next life
+  pub goes_quiet : (step : Option LastingStep) → is_some step ≡ false → GoesBy step bytes system moment slots units next life → LifeGoesOn bytes system moment slots units next life
   goes_quiet None is goes = goes
   goes_quiet (Some step) is goes = let clash : true ≡ false = is in absurd cc
 
 -- ---- inputs
 
-accepts_new : (terminal : List ℕ) (number : ℕ) (kept : KeptInput) (answer : Result Taken InputRefused) → is_some (accepts terminal number kept answer) ≡ is_new answer
+accepts_new : (terminal : List ℕ) (number : ℕ) (kept : KeptInput) (answer : Result Taken InputRefused) → is_some (accepted_step terminal number kept answer) ≡ is_new answer
 accepts_new terminal number kept (Ok (New id)) = refl
 accepts_new terminal number kept (Ok Already) = refl
 accepts_new terminal number kept (Err refused) = refl
@@ -81,7 +81,7 @@ input_steps old new terminal number segments answer is =
 
 -- ---- acknowledgements
 
-acknowledges_removed : (terminal : List ℕ) (answer : Result Acked AckRefused) → is_some (acknowledges terminal answer) ≡ is_removed answer
+acknowledges_removed : (terminal : List ℕ) (answer : Result Acked AckRefused) → is_some (acknowledged_step terminal answer) ≡ is_removed answer
 acknowledges_removed terminal (Ok Removed) = refl
 acknowledges_removed terminal (Ok AckAlready) = refl
 acknowledges_removed terminal (Err refused) = refl

@@ -9,18 +9,18 @@ use Rattle.model_machine.specs.History.{May, after_entry}
 use Rattle.model_machine.specs.declared.entry.Entry.{Entry}
 use Rattle.model_machine.specs.declared.entry.ControlFault.{ControlFault}
 use Rattle.model_machine.specs.declared.entry.ControlFault.TheVariants.{Memory, Disk, Spent}
-use Rattle.model_image.specs.Recovered.{Recovers}
-use Rattle.checkpointing.specs.Texts.{HasText}
-use Rattle.disk_law.specs.Kept.{RecoversEither}
-use Rattle.logged_machine.specs.Logged.{LoggedState, AreLasting}
-use Rattle.logged_machine.specs.Goes.{Keeps, WentOn, GoesBy, CrashesBy, ActsOn}
-use Rattle.logged_machine.specs.Calls.{DoesTo, NumbersBy}
-use Rattle.logged_machine.specs.Taking.{settled_parts}
+use Rattle.model_image.specs.RecoveredState.{Recovers}
+use Rattle.checkpointing.specs.DefinitionText.{HasText}
+use Rattle.disk_law.specs.KeptImages.{RecoversEither}
+use Rattle.logged_machine.specs.LoggedState.{LoggedState, AreLasting}
+use Rattle.logged_machine.specs.CallOutcome.{KeepsMachine, WentOn, MachineGoesBy, CrashesBy, ActsOn}
+use Rattle.logged_machine.specs.ToldCalls.{DoesTo, NumbersBy}
+use Rattle.logged_machine.specs.UntakenCheckpoint.{settled_parts}
 use Rattle.tm_machine.specs.Parts.{PartsState}
-use Rattle.logged_machine.specs.Leaving.{Brings}
+use Rattle.logged_machine.specs.LeftImages.{Brings}
 use Rattle.checkpointing.specs.Counts.{CountsUpTo}
 use Rattle.checkpointing.proofs.Counted.{up_to_more}
-use Rattle.logged_machine.specs.Doing.{CountsSince, Did, DidBy, LeavesCounts, LeavesSo, Refreshed, lasting_with}
+use Rattle.logged_machine.specs.Attempts.{CountsSince, Did, DidBy, LeavesCounts, AttemptLeaves, Refreshed, lasting_with}
 use Rattle.logged_machine.proofs.Leaving.{leaves_then, leaves_all, leaves_now}
 
 -- there was memory
@@ -48,7 +48,7 @@ acts_behind units entry old new (inr does) =
     inr (subst (λ (marks : List (List ℕ)). DoesTo units entry (record old { databases = record old.databases { changed = marks } }) new) (unmarked_twice old.databases.changed) does)
 
 module _ {D : Type 0} (state : D → DiskState) where
-  pub keeps_then : (a b c : LoggedState D) → b.served ≡ true → Keeps state a b → Keeps state b c → Keeps state a c
+  pub keeps_then : (a b c : LoggedState D) → b.served ≡ true → KeepsMachine state a b → KeepsMachine state b c → KeepsMachine state a c
   keeps_then a b c up one two = record {
     system = two.system ∙ one.system;
     text = two.text ∙ one.text;
@@ -60,7 +60,7 @@ module _ {D : Type 0} (state : D → DiskState) where
   -- ---- behind a checkpoint
 
   module _ (old mid new : LoggedState D) (entry : Entry) (fresh : Refreshed state old mid) where
-    both : (P : LastingState) → LeavesSo state mid new P → LeavesSo state old new P
+    both : (P : LastingState) → AttemptLeaves state mid new P → AttemptLeaves state old new P
     both P leaves =
         leaves_then (Brings old.machine.system old.text old.machine.moment.lasting old.machine.moment.lasting) (Brings mid.machine.system mid.text mid.machine.moment.lasting P)
         (Brings old.machine.system old.text old.machine.moment.lasting P) (state old.disk) (state mid.disk) (state new.disk)
@@ -95,10 +95,10 @@ module _ {D : Type 0} (state : D → DiskState) where
     }
 
     by : (fault : Option ControlFault) → IsNoMemory fault → DidBy state fault mid new entry → DidBy state fault old new entry
-    by None found d = (went d.0, subst (LeavesSo state old new) same_after (both (lasting_with mid entry) d.1))
+    by None found d = (went d.0, subst (AttemptLeaves state old new) same_after (both (lasting_with mid entry) d.1))
     by (Some Disk) found d = (
       record { served = d.0.served; failed = failed_later (state old.disk) (state mid.disk) (state new.disk) fresh.stood.no_fault d.0.failed },
-      subst (LeavesSo state old new) same_after (both (lasting_with mid entry) d.1),
+      subst (AttemptLeaves state old new) same_after (both (lasting_with mid entry) d.1),
     )
     by (Some Memory) found d = absurd (found refl)
     by (Some (Spent counter)) found d = absurd d
@@ -112,18 +112,18 @@ module _ {D : Type 0} (state : D → DiskState) where
     stands : (P : LastingState) (image : Image) → (state old.disk).may_leave image → Brings old.machine.system old.text old.machine.moment.lasting P image
     stands P image left = record { recovers = inl (before.recover image left); has_text = before.have_text image left }
 
-    either : (P : LastingState) → LeavesSo state old new P → (image : Image) → (state new.disk).left_since (state old.disk).clock image → RecoversEither old.machine.system old.machine.moment.lasting P image
+    either : (P : LastingState) → AttemptLeaves state old new P → (image : Image) → (state new.disk).left_since (state old.disk).clock image → RecoversEither old.machine.system old.machine.moment.lasting P image
     either P leaves image left =
         (leaves_all (Brings old.machine.system old.text old.machine.moment.lasting P) (state old.disk) (state new.disk) old_disk (stands P) leaves image left).recovers
 
-    alone : LeavesSo state old new old.machine.moment.lasting → (image : Image) → (state new.disk).left_since (state old.disk).clock image → Recovers old.machine.system image (Ok old.machine.moment.lasting)
+    alone : AttemptLeaves state old new old.machine.moment.lasting → (image : Image) → (state new.disk).left_since (state old.disk).clock image → Recovers old.machine.system image (Ok old.machine.moment.lasting)
     alone leaves image left = ⊎_elim (λ r. r) (λ r. r) (either old.machine.moment.lasting leaves image left)
 
-    texts : (P : LastingState) → LeavesSo state old new P → (image : Image) → (state new.disk).may_leave image → HasText old.machine.system old.text image
+    texts : (P : LastingState) → AttemptLeaves state old new P → (image : Image) → (state new.disk).may_leave image → HasText old.machine.system old.text image
     texts P leaves image left =
         (leaves_now (Brings old.machine.system old.text old.machine.moment.lasting P) (state old.disk) (state new.disk) old_disk new_disk (stands P) leaves image left).has_text
 
-    pub goes : (fault : Option ControlFault) → DidBy state fault old new entry → GoesBy state fault old new entry
+    pub goes : (fault : Option ControlFault) → DidBy state fault old new entry → MachineGoesBy state fault old new entry
     goes None d = d.0
     goes (Some Disk) d = record { served = d.0.served; failed = d.0.failed; have_text = texts (lasting_with old entry) d.1 }
     goes (Some Memory) d = d

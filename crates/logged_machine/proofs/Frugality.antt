@@ -1,7 +1,7 @@
 -- What a call writes, and how far it raises what is counted on.
 use Rattle.std.proofs.Common.{◌≡◌, ◌≤◌, ◌<◌, ◌+◌, ◌*◌, ℕ, Bool, true, false, List, [], ◌∷◌, length, refl, sym, ◌∙◌, ap, subst, arith, ⊎_elim, inl, inr}
 use Rattle.std.specs.Prelude.{Option, Some, None}
-use Rattle.tm_disk.specs.Disk.{DiskState, ComesFrom, Within, WritesAtMost}
+use Rattle.tm_disk.specs.Disk.{DiskState, ComesFrom, Within, WritesAtMost, ChangesOnly}
 use Rattle.model_system.specs.System.{System}
 use Rattle.model_machine.specs.History.{call_of}
 use Rattle.model_machine.specs.declared.entry.Entry.{Entry}
@@ -10,21 +10,21 @@ use Rattle.model_machine.specs.declared.entry.ControlFault.TheVariants.{Memory, 
 use Rattle.log_records.specs.declared.untold.Untold.{Untold}
 use Rattle.log_records.specs.declared.untold.Untold.TheVariants.{Full}
 use Rattle.log_writer.specs.Writer.{Writer}
-use Rattle.log_writer.specs.Log.{AddsFront, ChangesOnly, sectors_of}
-use Rattle.disk_law.specs.Changes.{with_bytes}
-use Rattle.disk_law.specs.Journal.{JournalState}
-use Rattle.lasting_state.specs.Untold.{WhereFull}
+use Rattle.log_writer.specs.ForcedLog.{AddsFront, log_sectors_of}
+use Rattle.disk_law.specs.SlotChanges.{with_bytes_behind}
+use Rattle.disk_law.specs.JournalState.{JournalState}
+use Rattle.lasting_state.specs.UntoldSteps.{WhereFull}
 use Rattle.tm_machine.specs.Parts.{PartsState}
 use Rattle.checkpointing.specs.Counts.{CountsUpTo}
 use Rattle.checkpointing.proofs.Counted.{up_to_more}
-use Rattle.disk_law.specs.Counted.{StandsUpTo}
-use Rattle.logged_machine.specs.PartsLifeLogged.{IsLogged}
-use Rattle.logged_machine.specs.Taking.{checkpoint_sectors, settled_parts}
-use Rattle.logged_machine.specs.Calls.{own_bytes}
-use Rattle.logged_machine.specs.Telling.{IsAllBut, StayFree}
-use Rattle.logged_machine.specs.Logged.{LoggedState}
-use Rattle.logged_machine.specs.Doing.{Done, DoneFrugally, GoesOnIn, IsDue, LeavesCounts, Refreshed, Tried, Unrefreshed}
-use Rattle.logged_machine.specs.Frugal.{DoesNothing, NoneIsDue, Raises, WritesBehind, WritesBy, WritesLog, has_lasting_step}
+use Rattle.disk_law.specs.UnitCounts.{StandsUpTo}
+use Rattle.logged_machine.specs.LoggedParts.{IsLogged}
+use Rattle.logged_machine.specs.UntakenCheckpoint.{checkpoint_sectors, settled_parts}
+use Rattle.logged_machine.specs.ToldCalls.{own_bytes}
+use Rattle.logged_machine.specs.RecordsBehindLog.{IsAllBut, StayFree}
+use Rattle.logged_machine.specs.LoggedState.{LoggedState}
+use Rattle.logged_machine.specs.Attempts.{Done, DoneFrugally, GoesOnIn, WritesAsDue, LeavesCounts, Refreshed, Tried, Unrefreshed}
+use Rattle.logged_machine.specs.CheckpointDue.{DoesNothing, NoCheckpointIsDue, Raises, WritesBehindDueCheckpoint, WritesBy, WritesLog, has_lasting_step}
 use Rattle.logged_machine.proofs.Checkpointed.{nothing, unrefreshed}
 use Rattle.logged_machine.proofs.Doing.{IsNoMemory, did_behind}
 use Rattle.logged_machine.proofs.Settled.{same_bytes}
@@ -33,7 +33,7 @@ use Rattle.logged_machine.proofs.Leaving.{leaves_same, leaves_same_then, leaves_
 -- ---- what a force writes
 
 -- where the log gained a front, no other sectors have changed
-only_there : (log : Writer) (old new : DiskState) → Within (AddsFront log) old new → Within (ChangesOnly (log.first + log.place) (sectors_of (length log.appended))) old new
+only_there : (log : Writer) (old new : DiskState) → Within (AddsFront log) old new → Within (ChangesOnly (log.first + log.place) (log_sectors_of (length log.appended))) old new
 only_there log old new within = record {
   later = within.later;
   from = λ time image early left.
@@ -43,8 +43,8 @@ only_there log old new within = record {
   keeps = within.keeps;
 }
 
-pub writes_log : (log mid : Writer) (own : List ℕ) (old new : DiskState) → mid ≡ with_bytes own log → Within (AddsFront mid) old new → WritesAtMost (sectors_of (length mid.appended)) old new
-    → WritesLog (with_bytes own log) old new
+pub writes_log : (log mid : Writer) (own : List ℕ) (old new : DiskState) → mid ≡ with_bytes_behind own log → Within (AddsFront mid) old new → WritesAtMost (log_sectors_of (length mid.appended)) old new
+    → WritesLog (with_bytes_behind own log) old new
 writes_log log mid own old new is within most = subst (λ (w : Writer). WritesLog w old new) is (record { most = most; only = only_there mid old new within })
 
 -- ---- the log's area
@@ -61,12 +61,12 @@ longer P untold is told = subst (λ (u : Untold). WhereFull P u) is told
 -- ---- whether a checkpoint is due
 
 -- None is, where the bytes are no more than the room.
-none_due : (log : Writer) (own : List ℕ) (room : ℕ) → StayFree room log → length own ≤ room → NoneIsDue log own
+none_due : (log : Writer) (own : List ℕ) (room : ℕ) → StayFree room log → length own ≤ room → NoCheckpointIsDue log own
 none_due log [] room kept fits = inl refl
 none_due log (byte ∷ own) room kept fits = inr (kept (length (byte ∷ own)) (omega arith) fits)
 
 -- One is, where they are more.
-one_due : (log : Writer) (own : List ℕ) (room : ℕ) → IsAllBut room log → room < length own → NoneIsDue log own → ⊥
+one_due : (log : Writer) (own : List ℕ) (room : ℕ) → IsAllBut room log → room < length own → NoCheckpointIsDue log own → ⊥
 one_due log own room all longer none =
     ⊎_elim (λ (empty : own ≡ []). over (length own) longer (let e : length own ≡ 0 = ap length empty in omega (arith, e))) (λ free. over (length own) longer (all (length own) free)) none
   where
@@ -93,7 +93,7 @@ module _ {D : Type 0} (state : D → DiskState) where
       leaves_same_then (CountsUpTo old.machine.system (high + less)) (CountsUpTo old.machine.system (high + more)) (state old.disk) (state new.disk)
       (λ image c. up_to_more old.machine.system (high + less) (high + more) image (omega (arith, le)) c) (counts high stands)
 
-  nothing_due : (old new : LoggedState D) (entry : Entry) → new ≡ old → IsDue state (Some Memory) old new entry
+  nothing_due : (old new : LoggedState D) (entry : Entry) → new ≡ old → WritesAsDue state (Some Memory) old new entry
   nothing_due old new entry same = subst (λ (l : LoggedState D). DoesNothing old.journal l.journal old.disk l.disk) (sym same) (record { journal = refl; disk_is = refl })
 
   -- A call that left all as it was.
@@ -164,11 +164,11 @@ module _ {D : Type 0} (state : D → DiskState) where
       (subst (λ (p : PartsState). WritesBy state fault (has_lasting_step p (call_of entry)) (own_bytes p mid.units (call_of entry)) mid.journal new.journal mid.disk new.disk) fresh.machine writes))
 
   behind : (old mid new : LoggedState D) (entry : Entry) (fault : Option ControlFault) → Refreshed state old mid → Tried state fault mid new entry
-      → WritesBehind state fault (has_lasting_step old.machine (call_of entry)) (own_bytes old.machine old.units (call_of entry)) old.machine.system
+      → WritesBehindDueCheckpoint state fault (has_lasting_step old.machine (call_of entry)) (own_bytes old.machine old.units (call_of entry)) old.machine.system
       (checkpoint_sectors old.machine.system old.machine.databases.changed old.journal) old.journal new.journal old.disk new.disk
   behind old mid new entry fault fresh t = record { middle = mid.journal; mid = mid.disk; takes = fresh.takes; most = fresh.most; writes = own_writes old mid new entry fault fresh t.writes }
 
-  due_behind : (old mid new : LoggedState D) (entry : Entry) (fault : Option ControlFault) → IsNoMemory fault → Refreshed state old mid → Tried state fault mid new entry → IsDue state fault old new entry
+  due_behind : (old mid new : LoggedState D) (entry : Entry) (fault : Option ControlFault) → IsNoMemory fault → Refreshed state old mid → Tried state fault mid new entry → WritesAsDue state fault old new entry
   due_behind old mid new entry None found fresh t = behind old mid new entry None fresh t
   due_behind old mid new entry (Some Disk) found fresh t = inr (behind old mid new entry (Some Disk) fresh t)
   due_behind old mid new entry (Some Memory) found fresh t = absurd (found refl)

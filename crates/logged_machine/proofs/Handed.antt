@@ -6,10 +6,10 @@ use Rattle.model_system.specs.System.{System}
 use Rattle.openings.specs.FirstImage.{sectors_needed}
 use Rattle.openings.specs.declared.refusals.OpenError.{OpenError}
 use Rattle.openings.specs.declared.refusals.OpenError.TheVariants.{TooSmall, Memory}
-use Rattle.openings.specs.Opening.{OpeningCause, WroteNothing}
+use Rattle.openings.specs.OpenedImage.{OpeningCause, WroteNothing}
 use Rattle.openings.specs.declared.how.How.{How}
-use Rattle.openings.specs.Opened.{KeepsBy, Refuses}
-use Rattle.openings.specs.Opened.{HandsBack}
+use Rattle.openings.specs.LifeBeginning.{KeepsBy, Refuses}
+use Rattle.openings.specs.LifeBeginning.{HandsBack}
 
 module _ {D : Type 0} (state : D → DiskState) (how : How) (system : System) (text : List ℕ) where
   -- nothing was written

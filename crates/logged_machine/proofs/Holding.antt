@@ -6,18 +6,18 @@ use Rattle.model_data.specs.Table.{EnqueueTable}
 use Rattle.model_image.specs.States.{has_right_pad}
 use Rattle.model_machine.specs.Machine.{Moment}
 use Rattle.model_system.specs.System.{System}
-use Rattle.pi_enqueue.specs.Kept.{IsKept}
-use Rattle.program_rows.specs.OnSlots.{HaveSlots, HoldsSlot, touched_in}
-use Rattle.tm_machine.specs.OnSlots.{HasSlots, slots_now}
+use Rattle.pi_enqueue.specs.KeptTable.{IsTableKept}
+use Rattle.program_rows.specs.SlotsState.{HaveSlots, HoldsSlot, touched_in}
+use Rattle.tm_machine.specs.SlotChanges.{HasSlots, slots_now}
 use Rattle.tm_machine.specs.Parts.{PartsState}
-use Rattle.journal.specs.Carried.{HoldTouched}
+use Rattle.journal.specs.CarriedLife.{HoldTouched}
 use Rattle.logged_machine.proofs.Pads.{pads_right}
 
 -- regions hold what they have touched, by the moment's table
 pub hold_touched : (parts : PartsState) → HasSlots parts → HoldTouched parts.moment.enqueues (slots_now parts)
 hold_touched parts has = record {
   held = λ region least. subst (λ (table : EnqueueTable). AllByRecursion (HoldsSlot table region) (touched_in region (slots_now parts))) has.table_is (has.held region least);
-  compatible = subst IsKept has.table_is has.compatible;
+  compatible = subst IsTableKept has.table_is has.compatible;
 }
 
 -- the slots of parts with the same system

@@ -5,30 +5,30 @@ use Rattle.tm_disk.specs.Disk.{Image, DiskState, Within}
 use Rattle.model_system.specs.System.{System}
 use Rattle.model_machine.specs.Machine.{LastingState, Moment}
 use Rattle.log_writer.specs.Writer.{Writer}
-use Rattle.log_writer.specs.Log.{IsReady, AddsFront}
+use Rattle.log_writer.specs.ForcedLog.{IsWriterReady, AddsFront}
 use Rattle.restart_data.specs.declared.restart.RestartSector.{RestartSector}
 use Rattle.model_image.specs.Areas.{data_first, snapshot_area}
-use Rattle.model_image.specs.Recovered.{Recovers}
+use Rattle.model_image.specs.RecoveredState.{Recovers}
 use Rattle.model_image.specs.Text.{text_in}
 use Rattle.model_image.proofs.Places.{log_below, slot_above}
 use Rattle.restart_data.specs.Restart.{restart_in}
 use Rattle.disk_law.specs.Life.{IsWriterOf}
-use Rattle.disk_law.specs.Changes.{with_bytes}
-use Rattle.disk_law.specs.Kept.{AreKept, RecoversEither}
+use Rattle.disk_law.specs.SlotChanges.{with_bytes_behind}
+use Rattle.disk_law.specs.KeptImages.{AreImagesKept, RecoversEither}
 use Rattle.disk_law.proofs.Front.{recovers}
 use Rattle.disk_law.proofs.Forcing.{restart_stays, text_stays}
-use Rattle.disk_law.specs.Steps.{after_step, with_records}
+use Rattle.disk_law.specs.LifeSteps.{after_step, with_step_records, forced_by_step}
 use Rattle.disk_law.proofs.Stepping.{step_front}
-use Rattle.disk_law.specs.Journal.{JournalState}
-use Rattle.journal.specs.State.{IsStepOf, forced}
-use Rattle.tm_machine.specs.OnSlots.{slots_now}
+use Rattle.disk_law.specs.JournalState.{JournalState}
+use Rattle.journal.specs.JournalDisk.{IsStepOf}
+use Rattle.tm_machine.specs.SlotChanges.{slots_now}
 use Rattle.tm_machine.specs.Parts.{PartsState}
-use Rattle.journal.specs.Carried.{IsCarriedBy}
-use Rattle.journal.specs.Going.{GoesOn, StepsOn}
-use Rattle.checkpointing.specs.Texts.{HasText}
-use Rattle.disk_law.specs.Counted.{TellUnits}
-use Rattle.logged_machine.specs.PartsLifeLogged.{IsLogged}
-use Rattle.logged_machine.specs.Leaving.{Leaves, Brings}
+use Rattle.journal.specs.CarriedLife.{IsCarriedBy}
+use Rattle.journal.specs.LifeByCall.{LifeGoesOn, LifeStepsOn}
+use Rattle.checkpointing.specs.DefinitionText.{HasText}
+use Rattle.disk_law.specs.UnitCounts.{TellUnits}
+use Rattle.logged_machine.specs.LoggedParts.{IsLogged}
+use Rattle.logged_machine.specs.LeftImages.{CrashesLeave, Brings}
 use Rattle.logged_machine.proofs.Leaving.{leaves_within}
 
 -- ---- what each image has
@@ -37,7 +37,7 @@ same_restart : {E : Type 0} (x : Result (Option RestartSector) E) (r s : Restart
 same_restart x r s one other = cc
 
 -- a writer with more bytes appended is where its log ends, too
-more_ready : (bytes : List ℕ) (log : Writer) (disk : DiskState) → IsReady log disk → IsReady (with_bytes bytes log) disk
+more_ready : (bytes : List ℕ) (log : Writer) (disk : DiskState) → IsWriterReady log disk → IsWriterReady (with_bytes_behind bytes log) disk
 more_ready bytes log disk ready image left = let end = ready image left in record { written = end.written; free = end.free }
 
 module _ (parts : PartsState) (units : List ℕ) (next_unit : ℕ) (journal : JournalState) (text : List ℕ) (disk : DiskState) (h : IsLogged parts units next_unit journal text disk) where
@@ -74,22 +74,22 @@ module _ (parts : PartsState) (units : List ℕ) (next_unit : ℕ) (journal : Jo
 
   -- ---- a lasting step is forced
 
-  module _ (parts' : PartsState) (units' : List ℕ) (next' : ℕ) (same_system : parts'.system ≡ parts.system) (as_many : length units' ≡ length units) (bytes : List ℕ) (mid : Writer) (told : mid ≡ with_bytes bytes journal.log) where
+  module _ (parts' : PartsState) (units' : List ℕ) (next' : ℕ) (same_system : parts'.system ≡ parts.system) (as_many : length units' ≡ length units) (bytes : List ℕ) (mid : Writer) (told : mid ≡ with_bytes_behind bytes journal.log) where
     all_numbered : length units' ≡ length parts'.system.regions
     all_numbered = as_many ∙ h.counted ∙ ap (λ (y : System). length y.regions) (sym same_system)
 
-    module _ (s : StepsOn bytes parts.system parts'.moment (slots_now parts') units' next' h.life) where
+    module _ (s : LifeStepsOn bytes parts.system parts'.moment (slots_now parts') units' next' h.life) where
       pub step_of : IsStepOf mid h.life s.step
       step_of = record {
-        writer = ap (λ (b : List ℕ). with_bytes b h.life.log) (sym s.spelled) ∙ ap (with_bytes bytes) h.writer ∙ sym told;
+        writer = ap (λ (b : List ℕ). with_bytes_behind b h.life.log) (sym s.spelled) ∙ ap (with_bytes_behind bytes) h.writer ∙ sym told;
         is_life = h.carried.is.is_life;
         is_step = s.is_step;
       }
 
-      forced_text : (before after : Image) → disk.may_leave before → AddsFront (with_records h.life s.step.records) before after → HasText system text after
+      forced_text : (before after : Image) → disk.may_leave before → AddsFront (with_step_records h.life s.step.records) before after → HasText system text after
       forced_text before after left front r found =
           let k = h.kept before left in
-          let w = with_records h.life s.step.records in
+          let w = with_step_records h.life s.step.records in
           let over : IsWriterOf h.life.system h.life.now w = record {
             first = h.carried.is.is_life.writer.first;
             count = h.carried.is.is_life.writer.count;
@@ -105,11 +105,11 @@ module _ (parts : PartsState) (units : List ℕ) (next_unit : ℕ) (journal : Jo
           ∙ text_stays h.life.system h.life.now w over h.carried.is.is_life.in_range s.is_step.room.fits before after front.changes front.each k.restart
           ∙ k.has_text ∙ h.text_is
 
-      pub force_leaves : (new : DiskState) → Within (AddsFront mid) disk new → Leaves (Brings system text moment.lasting parts'.moment.lasting) disk new
+      pub force_leaves : (new : DiskState) → Within (AddsFront mid) disk new → CrashesLeave (Brings system text moment.lasting parts'.moment.lasting) disk new
       force_leaves new within =
           leaves_within (AddsFront mid) (Brings system text moment.lasting parts'.moment.lasting) disk new
           (λ before after left front.
-          let by_records : AddsFront (with_records h.life s.step.records) before after = subst (λ (w : Writer). AddsFront w before after) (sym step_of.writer) front in
+          let by_records : AddsFront (with_step_records h.life s.step.records) before after = subst (λ (w : Writer). AddsFront w before after) (sym step_of.writer) front in
           record {
             recovers =
                 subst (λ (l : LastingState). RecoversEither system moment.lasting l after) s.lasts
@@ -120,13 +120,13 @@ module _ (parts : PartsState) (units : List ℕ) (next_unit : ℕ) (journal : Jo
           })
           within
 
-      pub stepped : (journal' : JournalState) (new : DiskState) → AreKept (after_step s.step h.life) new → journal'.log ≡ forced mid → journal'.restart ≡ journal.restart → IsReady journal'.log new → new.size ≡ disk.size
+      pub stepped : (journal' : JournalState) (new : DiskState) → AreImagesKept (after_step s.step h.life) new → journal'.log ≡ forced_by_step mid → journal'.restart ≡ journal.restart → IsWriterReady journal'.log new → new.size ≡ disk.size
           → TellUnits parts.system journal' next' new → IsLogged parts' units' next' journal' text new
       stepped journal' new kept log restart ready size tell = record {
         life = after_step s.step h.life;
         carried = subst (λ (y : System). IsCarriedBy y parts'.moment (slots_now parts') units' next' (after_step s.step h.life)) (sym same_system) s.is;
         kept = kept;
-        writer = ap forced step_of.writer ∙ sym log;
+        writer = ap forced_by_step step_of.writer ∙ sym log;
         now = h.now ∙ sym restart;
         text_is = h.text_is;
         areas = subst (λ (n : ℕ). data_first parts'.system (length parts'.system.databases) ≤ n) (sym size) (subst (λ (y : System). data_first y (length y.databases) ≤ disk.size) (sym same_system) h.areas);
@@ -137,17 +137,17 @@ module _ (parts : PartsState) (units : List ℕ) (next_unit : ℕ) (journal : Jo
 
     -- ---- changes are appended, or nothing is
 
-    pub continued : (g : GoesOn bytes parts.system parts'.moment (slots_now parts') units' next' h.life) (journal' : JournalState) → journal'.log ≡ mid → journal'.restart ≡ journal.restart
+    pub continued : (g : LifeGoesOn bytes parts.system parts'.moment (slots_now parts') units' next' h.life) (journal' : JournalState) → journal'.log ≡ mid → journal'.restart ≡ journal.restart
         → TellUnits parts.system journal' next' disk → IsLogged parts' units' next' journal' text disk
     continued g journal' log restart tell = record {
       life = g.behind;
       carried = subst (λ (y : System). IsCarriedBy y parts'.moment (slots_now parts') units' next' g.behind) (sym same_system) g.is;
       kept = λ image left. g.kept image (h.kept image left);
-      writer = g.log ∙ ap (with_bytes bytes) h.writer ∙ sym told ∙ sym log;
+      writer = g.log ∙ ap (with_bytes_behind bytes) h.writer ∙ sym told ∙ sym log;
       now = g.now ∙ h.now ∙ sym restart;
       text_is = g.text ∙ h.text_is;
       areas = subst (λ (y : System). data_first y (length y.databases) ≤ disk.size) (sym same_system) h.areas;
-      ready = subst (λ (w : Writer). IsReady w disk) (sym (log ∙ told)) (more_ready bytes journal.log disk h.ready);
+      ready = subst (λ (w : Writer). IsWriterReady w disk) (sym (log ∙ told)) (more_ready bytes journal.log disk h.ready);
       counted = all_numbered;
       told = subst (λ (y : System). TellUnits y journal' next' disk) (sym same_system) tell;
     }

@@ -6,34 +6,34 @@ use Rattle.std.specs.Option.{is_some}
 use Rattle.tm_disk.specs.Disk.{DiskState, Stays, Within, FailedSince}
 use Rattle.tm_disk.proofs.Words.{stays_same}
 use Rattle.model_machine.specs.Machine.{LastingState, Moment}
-use Rattle.model_machine.specs.Lasting.{LastingStep}
+use Rattle.model_machine.specs.LastingSteps.{LastingStep}
 use Rattle.model_machine.specs.History.{after_entry}
 use Rattle.model_machine.specs.declared.entry.Entry.{Entry}
 use Rattle.model_machine.specs.declared.entry.ControlFault.TheVariants.{Disk}
 use Rattle.log_records.specs.declared.record.Record.{Record}
-use Rattle.log_records.specs.Spelling.{spelling}
-use Rattle.log_writer.specs.Log.{AddsFront}
-use Rattle.disk_law.specs.Counted.{TellUnits}
-use Rattle.disk_law.specs.Journal.{JournalState}
+use Rattle.log_records.specs.RecordSpelling.{record_spelling}
+use Rattle.log_writer.specs.ForcedLog.{AddsFront}
+use Rattle.disk_law.specs.UnitCounts.{TellUnits}
+use Rattle.disk_law.specs.JournalState.{JournalState}
 use Rattle.tm_machine.specs.Answers.{IsAnswered}
-use Rattle.tm_machine.specs.OnSlots.{slots_now}
+use Rattle.tm_machine.specs.SlotChanges.{slots_now}
 use Rattle.tm_machine.specs.Parts.{PartsState}
-use Rattle.journal.specs.Going.{StepsOn}
+use Rattle.journal.specs.LifeByCall.{LifeStepsOn}
 use Rattle.journal.proofs.Turns.{GoesBy}
 use Rattle.logged_machine.proofs.Closing.{goes_quiet, goes_step}
-use Rattle.logged_machine.specs.Telling.{Appends}
-use Rattle.logged_machine.specs.Logged.{LoggedState}
-use Rattle.logged_machine.specs.PartsLifeLogged.{IsLogged}
-use Rattle.logged_machine.specs.Leaving.{Brings, Leaves}
-use Rattle.logged_machine.specs.Calls.{DoesTo, NumbersBy}
-use Rattle.logged_machine.specs.Forcing.{Forces}
-use Rattle.logged_machine.specs.Doing.{Did, lasting_with}
+use Rattle.logged_machine.specs.RecordsBehindLog.{Appends}
+use Rattle.logged_machine.specs.LoggedState.{LoggedState}
+use Rattle.logged_machine.specs.LoggedParts.{IsLogged}
+use Rattle.logged_machine.specs.LeftImages.{Brings, CrashesLeave}
+use Rattle.logged_machine.specs.ToldCalls.{DoesTo, NumbersBy}
+use Rattle.logged_machine.specs.ForcedLog.{Forces}
+use Rattle.logged_machine.specs.Attempts.{Did, lasting_with}
 use Rattle.logged_machine.proofs.Leaving.{leaves_same}
 use Rattle.logged_machine.proofs.Logging.{force_leaves, step_of, stepped, continued}
 
 module _ {D : Type 0} (state : D → DiskState) (parts parts' : PartsState) (text : List ℕ) (journal mid : JournalState) (units units' : List ℕ) (next next' : ℕ) (disk : D) (up : Bool)
     (h : IsLogged parts units next journal text (state disk)) (as_many : length units' ≡ length units) (entry : Entry) (answered : IsAnswered parts parts' entry) (records : List Record) (told : Appends records journal mid)
-    (step : Option LastingStep) (goes : GoesBy step (flat_map spelling records) parts.system parts'.moment (slots_now parts') units' next' h.life) where
+    (step : Option LastingStep) (goes : GoesBy step (flat_map record_spelling records) parts.system parts'.moment (slots_now parts') units' next' h.life) where
   abbrev pub was : LoggedState D
   was = record { machine = parts; text = text; served = up; journal = journal; units = units; next_unit = next; disk = disk }
 
@@ -58,15 +58,15 @@ module _ {D : Type 0} (state : D → DiskState) (parts parts' : PartsState) (tex
 
   pub quiet_logged : is_some step ≡ false → TellUnits parts.system mid next' (state disk) → IsLogged parts' units' next' mid text (state disk)
   quiet_logged none tell =
-      continued parts units next journal text (state disk) h parts' units' next' answered.system as_many (flat_map spelling records) mid.log told.log
-      (goes_quiet (flat_map spelling records) parts.system parts'.moment (slots_now parts') units' next' h.life step none goes) mid refl told.restart tell
+      continued parts units next journal text (state disk) h parts' units' next' answered.system as_many (flat_map record_spelling records) mid.log told.log
+      (goes_quiet (flat_map record_spelling records) parts.system parts'.moment (slots_now parts') units' next' h.life step none goes) mid refl told.restart tell
 
   module _ (some : is_some step ≡ true) (journal' : JournalState) (disk' : D) where
-    steps : StepsOn (flat_map spelling records) parts.system parts'.moment (slots_now parts') units' next' h.life
-    steps = goes_step (flat_map spelling records) parts.system parts'.moment (slots_now parts') units' next' h.life step some goes
+    steps : LifeStepsOn (flat_map record_spelling records) parts.system parts'.moment (slots_now parts') units' next' h.life
+    steps = goes_step (flat_map record_spelling records) parts.system parts'.moment (slots_now parts') units' next' h.life step some goes
 
-    leaves : Within (AddsFront mid.log) (state disk) (state disk') → Leaves (Brings parts.system text parts.moment.lasting parts'.moment.lasting) (state disk) (state disk')
-    leaves within = force_leaves parts units next journal text (state disk) h parts' units' next' answered.system as_many (flat_map spelling records) mid.log told.log steps (state disk') within
+    leaves : Within (AddsFront mid.log) (state disk) (state disk') → CrashesLeave (Brings parts.system text parts.moment.lasting parts'.moment.lasting) (state disk) (state disk')
+    leaves within = force_leaves parts units next journal text (state disk) h parts' units' next' answered.system as_many (flat_map record_spelling records) mid.log told.log steps (state disk') within
 
     abbrev pub is : LoggedState D
     is = record { machine = parts'; text = text; served = up; journal = journal'; units = units'; next_unit = next'; disk = disk' }
@@ -76,7 +76,7 @@ module _ {D : Type 0} (state : D → DiskState) (parts parts' : PartsState) (tex
     wrote numbers does served f restart = record {
       did = (
         record { answered = answered; numbers = numbers; acts = inl does; served = served; no_fault = f.no_fault },
-        subst (λ (l : LastingState). Leaves (Brings parts.system text parts.moment.lasting l) (state disk) (state disk')) (sym same_lasting) (leaves f.within),
+        subst (λ (l : LastingState). CrashesLeave (Brings parts.system text parts.moment.lasting l) (state disk) (state disk')) (sym same_lasting) (leaves f.within),
       );
       keeps = record {
         system = answered.system;
@@ -89,8 +89,8 @@ module _ {D : Type 0} (state : D → DiskState) (parts parts' : PartsState) (tex
 
     pub wrote_logged : Forces mid.log journal'.log (state disk) (state disk') → journal'.restart ≡ mid.restart → TellUnits parts.system journal' next' (state disk') → IsLogged parts' units' next' journal' text (state disk')
     wrote_logged f restart tell =
-        stepped parts units next journal text (state disk) h parts' units' next' answered.system as_many (flat_map spelling records) mid.log told.log steps journal' (state disk')
-        (f.kept h.life steps.step (step_of parts units next journal text (state disk) h parts' units' next' answered.system as_many (flat_map spelling records) mid.log told.log steps) h.kept)
+        stepped parts units next journal text (state disk) h parts' units' next' answered.system as_many (flat_map record_spelling records) mid.log told.log steps journal' (state disk')
+        (f.kept h.life steps.step (step_of parts units next journal text (state disk) h parts' units' next' answered.system as_many (flat_map record_spelling records) mid.log told.log steps) h.kept)
         f.log_is (restart ∙ told.restart) f.ready f.stays.size tell
 
     -- the disk failed in the force
@@ -102,7 +102,7 @@ module _ {D : Type 0} (state : D → DiskState) (parts parts' : PartsState) (tex
     failed broken same within stays cause = record {
       did = (
         record { served = refl; failed = cause },
-        subst (λ (l : LastingState). Leaves (Brings parts.system text parts.moment.lasting l) (state disk) (state disk')) (sym (ap (λ (m : Moment). m.lasting) same ∙ same_lasting)) (leaves within),
+        subst (λ (l : LastingState). CrashesLeave (Brings parts.system text parts.moment.lasting l) (state disk) (state disk')) (sym (ap (λ (m : Moment). m.lasting) same ∙ same_lasting)) (leaves within),
       );
       keeps = record {
         system = answered.system;

@@ -14,26 +14,26 @@ use Rattle.model_machine.specs.declared.entry.ControlCall.TheVariants.{Turn}
 use Rattle.model_machine.specs.declared.entry.Turned.{Turned}
 use Rattle.model_machine.specs.declared.entry.Turned.TheVariants.{Scheduled, Called, Next, QC, Done, Abended, Idle, Held, Waits, Backed}
 use Rattle.model_machine.specs.Machine.{LastingState, Moment, Slot, message_at, output_at}
-use Rattle.model_machine.specs.Lasting.{LastingStep, sent}
-use Rattle.model_machine.specs.Lasting.LastingStep.{Accepts, Acknowledges, Completes, Discards, Commands}
-use Rattle.model_machine.specs.Steps.{lasting_step}
+use Rattle.model_machine.specs.LastingSteps.{LastingStep, output_sent}
+use Rattle.model_machine.specs.LastingSteps.LastingStep.{Accepts, Acknowledges, Completes, Discards, Commands}
+use Rattle.model_machine.specs.MachineCalls.{lasting_step}
 use Rattle.log_records.specs.declared.record.Record.{Record}
 use Rattle.log_records.specs.declared.record.Record.TheVariants.{Input, Command, Reply, Discarded, Completed, Acknowledged, SyncPoint, Checkpoint, Terminal, Code, Change}
-use Rattle.model_image.specs.Counters.{unit_of, greatest_unit}
+use Rattle.model_image.specs.Counters.{unit_of_record, greatest_unit}
 use Rattle.seg_store.specs.Slots.{Stored}
-use Rattle.unit_work.specs.Told.{IsTold}
-use Rattle.model_image.specs.Records.{output_records, completion_records, completed_by, discarded_by, step_records}
+use Rattle.unit_work.specs.ToldChanges.{IsChangeTold}
+use Rattle.model_image.specs.StepRecords.{output_records, completion_records, completed_by_step, discarded_by, step_records}
 use Rattle.tm_machine.specs.Parts.{PartsState}
-use Rattle.tm_machine.specs.Told.{records_of}
-use Rattle.tm_machine.specs.OnSlots.{TellByCall, TurnsSo, changes_told, turn_records}
-use Rattle.journal.specs.Turning.{AreNumbered}
-use Rattle.journal.specs.Turning as turning
+use Rattle.tm_machine.specs.ToldByCall.{told_records_of}
+use Rattle.tm_machine.specs.SlotChanges.{TellByCall, TurnsSo, changes_told, turn_records}
+use Rattle.journal.specs.UnitNumbers.{AreUnitsNumbered}
+use Rattle.journal.specs.UnitNumbers as turning
 
 -- ---- lists
 
 most_both : (n : ℕ) (xs ys : List Record) → greatest_unit xs ≤ n → greatest_unit ys ≤ n → greatest_unit (xs ++ ys) ≤ n
 most_both n [] ys one other = other
-most_both n (r ∷ xs) ys one other = both (unit_of r) (greatest_unit xs) (greatest_unit (xs ++ ys)) n one (λ less. most_both n xs ys less other)
+most_both n (r ∷ xs) ys one other = both (unit_of_record r) (greatest_unit xs) (greatest_unit (xs ++ ys)) n one (λ less. most_both n xs ys less other)
   where
     both : (u a b m : ℕ) → max u a ≤ m → (a ≤ m → b ≤ m) → max u b ≤ m
     both u a b m one more = let rest = more (omega (arith, one)) in omega (arith, one, rest)
@@ -43,7 +43,7 @@ most_more n u a one other = omega (arith, one, other)
 
 -- ---- a step's records
 
-output_most : (unit : ℕ) (b : Bool) (one other : Record) → unit_of one ≤ unit → unit_of other ≤ unit → unit_of (if b then one else other) ≤ unit
+output_most : (unit : ℕ) (b : Bool) (one other : Record) → unit_of_record one ≤ unit → unit_of_record other ≤ unit → unit_of_record (if b then one else other) ≤ unit
 output_most unit true one other first second = first
 output_most unit false one other first second = second
 
@@ -52,9 +52,9 @@ outputs_most unit origin [] lasting = omega arith
 outputs_most unit origin (output ∷ outputs) lasting =
     most_more unit _ _
     (output_most unit (is_some (output_at lasting.outputs output.to)) (Reply unit output.to (next_of output.to lasting.outputs) output.segments) (Input unit lasting.next_id origin output.to 0 false output.segments) (omega arith) (omega arith))
-    (outputs_most unit origin outputs (sent origin output lasting))
+    (outputs_most unit origin outputs (output_sent origin output lasting))
 
-completed_most : (unit : ℕ) (message : Option Message) (outputs : List EndedMessage) (pad : PadChange) (lasting : LastingState) → greatest_unit (completed_by unit message outputs pad lasting) ≤ unit
+completed_most : (unit : ℕ) (message : Option Message) (outputs : List EndedMessage) (pad : PadChange) (lasting : LastingState) → greatest_unit (completed_by_step unit message outputs pad lasting) ≤ unit
 completed_most unit None outputs pad lasting = omega arith
 completed_most unit (Some message) outputs pad lasting =
     most_both unit (completion_records unit message.origin message.id outputs lasting) (SyncPoint unit pad ∷ [])
@@ -73,7 +73,7 @@ step_most unit (Discards id abend) lasting = discarded_most unit (message_at las
 step_most unit (Commands command) lasting = most_more unit 0 0 (omega arith) (omega arith)
 
 -- The records of a call's step are of its unit, or of none.
-pub records_most : (system : System) (moment : Moment) (unit : ℕ) (call : ControlCall) → greatest_unit (records_of system moment unit call) ≤ unit
+pub records_most : (system : System) (moment : Moment) (unit : ℕ) (call : ControlCall) → greatest_unit (told_records_of system moment unit call) ≤ unit
 records_most system moment unit call = by (lasting_step system moment call)
   where
     by : (step : Option LastingStep) → greatest_unit (option_map_or (λ s. step_records unit s moment.lasting) step []) ≤ unit
@@ -82,7 +82,7 @@ records_most system moment unit call = by (lasting_step system moment call)
 
 -- ---- a turn's records
 
-told_most : (unit : ℕ) (old new : List Stored) (records : List Record) → AllByRecursion (IsTold unit old new) records → greatest_unit records ≤ unit
+told_most : (unit : ℕ) (old new : List Stored) (records : List Record) → AllByRecursion (IsChangeTold unit old new) records → greatest_unit records ≤ unit
 told_most unit old new [] all = omega arith
 told_most unit old new (Change u database slot before after ∷ records) all = most_more unit u (greatest_unit records) (omega (arith, all.0.by)) (told_most unit old new records all.1)
 told_most unit old new (Input u id origin code number conversation segments ∷ records) all = absurd all.0
@@ -115,10 +115,10 @@ module _ (parts parts' : PartsState) (unit region : ℕ) where
   -- So are those of a turn.
   pub turn_most : (turned : Turned) → TurnsSo parts parts' unit region turned → TellByCall (changes_told parts unit region) turned → greatest_unit (turn_records parts unit region) ≤ unit
   turn_most turned turns quiet =
-      most_both unit (changes_told parts unit region) (records_of parts.system parts.moment unit (Turn region)) (changes_most turned turns quiet) (records_most parts.system parts.moment unit (Turn region))
+      most_both unit (changes_told parts unit region) (told_records_of parts.system parts.moment unit (Turn region)) (changes_most turned turns quiet) (records_most parts.system parts.moment unit (Turn region))
 
 -- A region's unit is below the next one.
-pub unit_below : (slots : List (Option Slot)) (units : List ℕ) (next region : ℕ) → AreNumbered slots units next → turning.unit_of units region < next
+pub unit_below : (slots : List (Option Slot)) (units : List ℕ) (next region : ℕ) → AreUnitsNumbered slots units next → turning.unit_of_region units region < next
 unit_below slots units next region numbers = at units (region - 1) (λ place unit found. numbers.below place unit found)
   where
     at : (us : List ℕ) (place : ℕ) → ((p unit : ℕ) → slice_get us p ≡ Some unit → unit < next) → slice_index_or us place 0 < next

@@ -3,13 +3,13 @@ use Rattle.std.proofs.Common.{◌≡◌, ◌≤◌, ◌<◌, ◌+◌, ◌^◌, �
 use Rattle.log_writer.specs.Writer.{Writer}
 use Rattle.restart_data.specs.Restart.{IsCounter}
 use Rattle.tm_disk.specs.Disk.{DiskState, IsToldToStop}
-use Rattle.disk_law.specs.Journal.{JournalState}
+use Rattle.disk_law.specs.JournalState.{JournalState}
 use Rattle.model_image.specs.Areas.{data_first}
 use Rattle.std.specs.Prelude.{length}
 use Rattle.tm_machine.specs.Parts.{PartsState}
-use Rattle.logged_machine.specs.PartsLifeLogged.{IsLogged}
+use Rattle.logged_machine.specs.LoggedParts.{IsLogged}
 use Rattle.logged_machine.proofs.Counts.{standing_up_to}
-use Rattle.logged_machine.specs.Logged.{LoggedState, AreLasting}
+use Rattle.logged_machine.specs.LoggedState.{LoggedState, AreLasting}
 use Rattle.logged_machine.proofs.Logging.{recover, have_text}
 
 -- what lasts is on each image

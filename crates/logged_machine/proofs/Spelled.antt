@@ -6,20 +6,20 @@ use Rattle.log_records.specs.declared.record.Record.{Record}
 use Rattle.model_machine.specs.Machine.{LastingState}
 use Rattle.unit_work.specs.declared.change.Change.{Change}
 use Rattle.disk_law.specs.Life.{LifeOnDisk}
-use Rattle.journal.specs.Units.{insert_unit, numbered, units_open}
+use Rattle.journal.specs.NumberedUnits.{insert_unit, numbered_unit, units_open}
 use Rattle.checkpointing.specs.declared.touches.OpenUnit.{OpenUnit}
-use Rattle.checkpointing.specs.Records.{snapshot_records}
-use Rattle.checkpointing.specs.Spelled.{Adds, IsWritable}
-use Rattle.checkpointing.specs.Touches.{AreAllSpelled, HasOneSector, changes_of}
-use Rattle.program_rows.specs.OnSlots.{touched_in}
-use Rattle.tm_machine.specs.OnSlots.{HasSlots, slots_now}
+use Rattle.checkpointing.specs.SnapshotRecords.{snapshot_records}
+use Rattle.checkpointing.specs.SpelledRecords.{AddsSpelled, IsWritable}
+use Rattle.checkpointing.specs.Touches.{AreAllSpelled, HasOneSector, changes_of_units}
+use Rattle.program_rows.specs.SlotsState.{touched_in}
+use Rattle.tm_machine.specs.SlotChanges.{HasSlots, slots_now}
 use Rattle.tm_machine.specs.Parts.{PartsState}
-use Rattle.journal.specs.Opens.{AreUnitsOf}
+use Rattle.journal.specs.OpenUnits.{AreUnitsOf}
 use Rattle.journal.proofs.Listed.{few_listed, units_listed}
-use Rattle.logged_machine.specs.Carried.{IsCarried}
+use Rattle.logged_machine.specs.CarriedParts.{IsCarried}
 use Rattle.logged_machine.proofs.Storing.{all_spelled, one_sector}
-use Rattle.logged_machine.proofs.PartsLifeWriting.{writable}
-use Rattle.logged_machine.specs.Taking.{IsSnapshot}
+use Rattle.logged_machine.proofs.WritableParts.{writable}
+use Rattle.logged_machine.specs.UntakenCheckpoint.{IsSnapshot}
 
 -- ---- the units of regions, from the last one on
 
@@ -46,14 +46,14 @@ one_more (u ∷ units) (some ∷ touched) (suc k) unit found same = one_more uni
 
 -- The unit of the region at a place, behind those from the next place on.
 pub unit_before : (parts : PartsState) (units : List ℕ) → HasSoMany parts units → (place unit : ℕ) → slice_get units place ≡ Some unit → (before after : List OpenUnit)
-    → map numbered before ≡ units_open (drop (place + 1) units) (drop (place + 1) (slots_now parts).touched)
-    → map numbered after ≡ (if nat_lt 0 unit then insert_unit (unit, touched_in (place + 1) (slots_now parts)) (map numbered before) else map numbered before)
-    → map numbered after ≡ units_open (drop place units) (drop place (slots_now parts).touched)
+    → map numbered_unit before ≡ units_open (drop (place + 1) units) (drop (place + 1) (slots_now parts).touched)
+    → map numbered_unit after ≡ (if nat_lt 0 unit then insert_unit (unit, touched_in (place + 1) (slots_now parts)) (map numbered_unit before) else map numbered_unit before)
+    → map numbered_unit after ≡ units_open (drop place units) (drop place (slots_now parts).touched)
 unit_before parts units many place unit found before after so added =
     let next : place + 1 ≡ suc place = omega arith in
     let region : place + 1 - 1 ≡ place = omega arith in
     added
-    ∙ ap (λ (r : ℕ). if nat_lt 0 unit then insert_unit (unit, slice_index_or (slots_now parts).touched r []) (map numbered before) else map numbered before) region
+    ∙ ap (λ (r : ℕ). if nat_lt 0 unit then insert_unit (unit, slice_index_or (slots_now parts).touched r []) (map numbered_unit before) else map numbered_unit before) region
     ∙ ap (λ (l : List (ℕ × List Change)). if nat_lt 0 unit then insert_unit (unit, slice_index_or (slots_now parts).touched place []) l else l)
     (so ∙ ap (λ (n : ℕ). units_open (drop n units) (drop n (slots_now parts).touched)) next)
     ∙ sym (one_more units (slots_now parts).touched place unit found many.touched)
@@ -66,7 +66,7 @@ touched_so (x ∷ touched) zero some found = let same : x ≡ some = cc in sym s
 touched_so (x ∷ touched) (suc k) some found = touched_so touched k some found
 
 module _ (parts : PartsState) (units : List ℕ) (next : ℕ) (has : HasSlots parts) (carried : (life : LifeOnDisk) × IsCarried parts units next life) (counted : length units ≡ length parts.system.regions)
-    (opens : List OpenUnit) (are : map numbered opens ≡ units_open units (slots_now parts).touched) where
+    (opens : List OpenUnit) (are : map numbered_unit opens ≡ units_open units (slots_now parts).touched) where
   its : AreUnitsOf (slots_now parts) units opens
   its =
       units_listed (slots_now parts) parts.moment.slots units next carried.1.is.numbers (slots_now parts).touched (has.have.count ∙ sym counted)
@@ -91,10 +91,10 @@ module _ (parts : PartsState) (units : List ℕ) (next : ℕ) (has : HasSlots pa
   }
 
   -- What is spelled is a snapshot.
-  pub snapshot_of : (number : ℕ) (bytes : List ℕ) → Adds (snapshot_records number next parts.moment.lasting (changes_of (slots_now parts).stores opens)) [] bytes → IsSnapshot parts units next number bytes
+  pub snapshot_of : (number : ℕ) (bytes : List ℕ) → AddsSpelled (snapshot_records number next parts.moment.lasting (changes_of_units (slots_now parts).stores opens)) [] bytes → IsSnapshot parts units next number bytes
   snapshot_of number bytes adds = record { opens = opens; are = its; few = few; adds = adds }
 
 -- A state with the same but for the rows is spelled alike.
-pub spelled_so : (number next : ℕ) (state lasting : LastingState) (changes : List Record) (bytes : List ℕ) → state ≡ record lasting { rows = [] } → Adds (snapshot_records number next state changes) [] bytes
-    → Adds (snapshot_records number next lasting changes) [] bytes
-spelled_so number next state lasting changes bytes same adds = subst (λ (s : LastingState). Adds (snapshot_records number next s changes) [] bytes) same adds
+pub spelled_so : (number next : ℕ) (state lasting : LastingState) (changes : List Record) (bytes : List ℕ) → state ≡ record lasting { rows = [] } → AddsSpelled (snapshot_records number next state changes) [] bytes
+    → AddsSpelled (snapshot_records number next lasting changes) [] bytes
+spelled_so number next state lasting changes bytes same adds = subst (λ (s : LastingState). AddsSpelled (snapshot_records number next s changes) [] bytes) same adds

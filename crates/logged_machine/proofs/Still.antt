@@ -1,17 +1,15 @@
 -- Calls that leave the databases as they are.
-use Rattle.std.proofs.Common.{◌≡◌, ℕ, true, false, List, refl}
+use Rattle.std.proofs.Common.{◌≡◌, ℕ, false, List, refl}
 use Rattle.model_machine.specs.History.{call_of}
 use Rattle.model_machine.specs.declared.entry.ControlCall.{ControlCall}
 use Rattle.model_machine.specs.declared.entry.ControlCall.TheVariants.{Input, Receive, Acknowledge, Turn, Command, Checkpoint}
 use Rattle.model_machine.specs.declared.entry.Entry.{Entry}
 use Rattle.model_machine.specs.declared.entry.Entry.TheVariants.{Accept, Show, Acked, Commanded, Checked, Turn as TurnEntry}
 use Rattle.tm_machine.specs.Parts.{PartsState}
-use Rattle.logged_machine.specs.Taking.{settled_parts}
-use Rattle.logged_machine.specs.Calls.{ChangesBy, Does, DoesTo, may_change, own_records}
+use Rattle.logged_machine.specs.UntakenCheckpoint.{settled_parts}
+use Rattle.logged_machine.specs.ToldCalls.{ChangesBy, DoesCall, DoesTo, may_change, own_records}
 use Rattle.logged_machine.proofs.Behind.{answered_settled, databases_settled}
-
-apart : true ≡ false → ⊥
-apart e = cc
+use Rattle.tm_types.proofs.Truths.{apart}
 
 pub still : (units : List ℕ) (entry : Entry) (old new : PartsState) → may_change (call_of entry) ≡ false → DoesTo units entry old new → new.databases ≡ old.databases
 still units (Accept terminal number segments answer) old new none does = does
@@ -38,8 +36,8 @@ no_changes units (Checked freeze answer) parts none = tt
 no_changes units (TurnEntry region answer) parts none = absurd (apart none)
 
 -- it did so on parts where no slot counts as changed
-pub does_settled : (units : List ℕ) (entry : Entry) (parts made parts' : PartsState) → may_change (call_of entry) ≡ false → parts' ≡ settled_parts made → Does units entry parts made
-    → Does units entry (settled_parts parts) parts'
+pub does_settled : (units : List ℕ) (entry : Entry) (parts made parts' : PartsState) → may_change (call_of entry) ≡ false → parts' ≡ settled_parts made → DoesCall units entry parts made
+    → DoesCall units entry (settled_parts parts) parts'
 does_settled units entry parts made parts' none is d = record {
   answered = answered_settled parts made parts' entry is d.answered;
   no_fault = d.no_fault;

@@ -4,26 +4,26 @@ use Rattle.std.specs.Prelude.{slice_get}
 use Rattle.std.specs.List.{AllByRecursion}
 use Rattle.tm_types.specs.declared.dbd.Dbd.{Dbd}
 use Rattle.model_data.specs.declared.row.Row.{Row}
-use Rattle.model_data.specs.Record.{spelling}
-use Rattle.log_writer.specs.Log.{sectors_of}
+use Rattle.model_data.specs.Record.{rows_spelling}
+use Rattle.log_writer.specs.ForcedLog.{log_sectors_of}
 use Rattle.seg_store.specs.Slots.{Stored, IsSlot}
 use Rattle.unit_work.specs.declared.change.Change.{Change}
 use Rattle.unit_work.specs.Marks.{is_marked}
 use Rattle.checkpointing.specs.declared.touches.OpenUnit.{OpenUnit}
-use Rattle.checkpointing.specs.Records.{snapshot_records}
-use Rattle.checkpointing.specs.Spelled.{Adds}
-use Rattle.checkpointing.specs.Touches.{AreAllSpelled, AreOpen, AreTouched, HasOneSector, IsSpelled, IsTouched, changes_of}
+use Rattle.checkpointing.specs.SnapshotRecords.{snapshot_records}
+use Rattle.checkpointing.specs.SpelledRecords.{AddsSpelled}
+use Rattle.checkpointing.specs.Touches.{AreAllSpelled, AreOpen, AreSlotsTouched, HasOneSector, IsSpelled, IsSlotTouched, changes_of_units}
 use Rattle.checkpointing.proofs.Judged.{AreCounts}
 use Rattle.disk_law.specs.Life.{LifeOnDisk}
-use Rattle.disk_law.specs.Checkpointing.{MayCheckpoint, after_checkpoint}
-use Rattle.program_rows.specs.OnSlots.{SlotsState, HaveSlots, IsTouchedSlot, all_stores, touched_in}
-use Rattle.program_rows.specs.State.{settled}
-use Rattle.tm_machine.specs.OnSlots.{HasSlots, slots_now}
+use Rattle.disk_law.specs.LifeCheckpoint.{MayCheckpoint, after_checkpoint}
+use Rattle.program_rows.specs.SlotsState.{SlotsState, HaveSlots, IsTouchedSlot, slots_stores, touched_in}
+use Rattle.program_rows.specs.DatabasesState.{with_all_settled}
+use Rattle.tm_machine.specs.SlotChanges.{HasSlots, slots_now}
 use Rattle.tm_machine.specs.Parts.{PartsState}
-use Rattle.journal.specs.Opens.{AreUnitsOf, written}
+use Rattle.journal.specs.OpenUnits.{AreUnitsOf, written}
 use Rattle.journal.proofs.Checkpoints as checkpoints
 use Rattle.journal.proofs.Checkpoints.{none_marked}
-use Rattle.logged_machine.specs.Carried.{IsCarried}
+use Rattle.logged_machine.specs.CarriedParts.{IsCarried}
 use Rattle.logged_machine.proofs.Holding.{hold_touched}
 
 -- ---- slots that are written
@@ -63,25 +63,25 @@ one_at [] k store each found = absurd cc
 one_at (s ∷ stores) zero store each found = let same : s ≡ store = cc in subst HasOneSector same each.0
 one_at (s ∷ stores) (suc k) store each found = one_at stores k store each.1 found
 
-short_record : (dbd : Dbd) (rows : List Row) → dbd.sectors ≤ 1 → IsSlot dbd rows → length (spelling rows) ≤ 4000
+short_record : (dbd : Dbd) (rows : List Row) → dbd.sectors ≤ 1 → IsSlot dbd rows → length (rows_spelling rows) ≤ 4000
 short_record dbd rows one is =
     ⊎_elim
-    (λ (none : rows ≡ []). subst (λ (l : List Row). length (spelling l) ≤ 4000) (sym none) (omega arith))
+    (λ (none : rows ≡ []). subst (λ (l : List Row). length (rows_spelling l) ≤ 4000) (sym none) (omega arith))
     (λ valid. omega (arith, valid.within, one))
     is
 
-slot_spelled : (stores : List Stored) → AllByRecursion HasOneSector stores → (c : Change) → IsTouched stores c → IsSpelled stores c
+slot_spelled : (stores : List Stored) → AllByRecursion HasOneSector stores → (c : Change) → IsSlotTouched stores c → IsSpelled stores c
 slot_spelled stores one c t = record {
   least = t.least;
   most = omega (arith, below stores (c.db - 1) t.store t.found, t.least);
   short = short_record t.store.dbd c.before (one_at stores (c.db - 1) t.store one t.found) t.before;
 }
 
-slots_spelled : (stores : List Stored) → AllByRecursion HasOneSector stores → (some : List Change) → AllByRecursion (IsTouched stores) some → AllByRecursion (IsSpelled stores) some
+slots_spelled : (stores : List Stored) → AllByRecursion HasOneSector stores → (some : List Change) → AllByRecursion (IsSlotTouched stores) some → AllByRecursion (IsSpelled stores) some
 slots_spelled stores one [] all = tt
 slots_spelled stores one (c ∷ some) all = (slot_spelled stores one c all.0, slots_spelled stores one some all.1)
 
-units_spelled : (stores : List Stored) → AllByRecursion HasOneSector stores → (opens : List OpenUnit) → AllByRecursion (λ u. AreTouched stores u.work.now.slots) opens → AreAllSpelled stores opens
+units_spelled : (stores : List Stored) → AllByRecursion HasOneSector stores → (opens : List OpenUnit) → AllByRecursion (λ u. AreSlotsTouched stores u.work.now.slots) opens → AreAllSpelled stores opens
 units_spelled stores one [] all = tt
 units_spelled stores one (u ∷ opens) all = (record { each = slots_spelled stores one u.work.now.slots all.0.each; few = all.0.few }, units_spelled stores one opens all.1)
 
@@ -101,17 +101,17 @@ module _ (parts : PartsState) (units : List ℕ) (next : ℕ) (life : LifeOnDisk
   all_spelled = units_spelled (slots_now parts).stores one_sector opens open_units.each
 
   module _ (few : length opens ≤ length parts.system.regions) (counts : AreCounts (life.now.checkpoint + 1) next) (bytes : List ℕ)
-      (adds : Adds (snapshot_records (life.now.checkpoint + 1) next parts.moment.lasting (changes_of (slots_now parts).stores opens)) [] bytes)
-      (sequence : life.log.sequence + life.log.place + sectors_of (length life.log.appended) < 2000000000000000000) where
+      (adds : AddsSpelled (snapshot_records (life.now.checkpoint + 1) next parts.moment.lasting (changes_of_units (slots_now parts).stores opens)) [] bytes)
+      (sequence : life.log.sequence + life.log.place + log_sectors_of (length life.log.appended) < 2000000000000000000) where
     -- The checkpoint may be taken.
-    pub may_store : MayCheckpoint bytes (all_stores (slots_now parts))
+    pub may_store : MayCheckpoint bytes (slots_stores (slots_now parts))
         (checkpoints.kept_now parts.system has.defined regions parts.moment (slots_now parts) units next life c has.have has.one_sector (hold_touched parts has) opens o)
-        (snapshot_records (life.now.checkpoint + 1) next parts.moment.lasting (changes_of (slots_now parts).stores opens)) life
+        (snapshot_records (life.now.checkpoint + 1) next parts.moment.lasting (changes_of_units (slots_now parts).stores opens)) life
     may_store =
         checkpoints.may_checkpoint parts.system has.defined regions parts.moment (slots_now parts) units next life c has.have has.one_sector (hold_touched parts has) opens o counts few bytes adds sequence
 
     -- Once it is taken, and no slot counts as changed any more, the life goes with the parts.
-    pub stored : IsCarried (record parts { databases = settled parts.databases }) units next
+    pub stored : IsCarried (record parts { databases = with_all_settled parts.databases }) units next
         (after_checkpoint bytes (checkpoints.kept_now parts.system has.defined regions parts.moment (slots_now parts) units next life c has.have has.one_sector (hold_touched parts has) opens o) life)
     stored =
         checkpoints.checkpoint_carried parts.system has.defined regions parts.moment (slots_now parts) units next life c has.have has.one_sector (hold_touched parts has) opens o counts few bytes adds sequence

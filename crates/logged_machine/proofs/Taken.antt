@@ -6,42 +6,42 @@ use Rattle.tm_disk.proofs.Words.{within_where}
 use Rattle.model_image.specs.Areas.{data_first, snapshot_area}
 use Rattle.model_system.specs.System.{System}
 use Rattle.log_records.specs.declared.record.Record.{Record}
-use Rattle.log_writer.specs.Log.{IsReady, sectors_of}
+use Rattle.log_writer.specs.ForcedLog.{IsWriterReady, log_sectors_of}
 use Rattle.log_writer.specs.Writer.{Writer}
 use Rattle.restart_data.specs.declared.restart.RestartSector.{RestartSector}
 use Rattle.restart_data.specs.Snapshot as snapshot
-use Rattle.seg_store.specs.Changed.{AllStores}
-use Rattle.seg_store.specs.WriteBack.{changed_count}
-use Rattle.disk_law.specs.Committed.{Touches}
-use Rattle.checkpointing.specs.Parts.{CheckpointParts, next_restart, next_writer}
+use Rattle.seg_store.specs.ChangedSlots.{AllStores}
+use Rattle.seg_store.specs.WrittenSlots.{changed_count}
+use Rattle.disk_law.specs.CommittedBytes.{Touches}
+use Rattle.checkpointing.specs.CheckpointParts.{CheckpointParts, next_restart, next_writer}
 use Rattle.checkpointing.specs.Checkpoint.{IsCheckpointed}
 use Rattle.checkpointing.specs.Counts.{CountsUpTo}
-use Rattle.checkpointing.specs.Steps.{Takes}
-use Rattle.checkpointing.specs.Records.{snapshot_records}
-use Rattle.checkpointing.specs.Spelled.{Adds}
-use Rattle.checkpointing.specs.Touches.{changes_of}
+use Rattle.checkpointing.specs.CheckpointSteps.{Takes}
+use Rattle.checkpointing.specs.SnapshotRecords.{snapshot_records}
+use Rattle.checkpointing.specs.SpelledRecords.{AddsSpelled}
+use Rattle.checkpointing.specs.Touches.{changes_of_units}
 use Rattle.checkpointing.proofs.Judged.{AreCounts}
-use Rattle.disk_law.specs.Kept.{AreKept}
+use Rattle.disk_law.specs.KeptImages.{AreImagesKept}
 use Rattle.disk_law.specs.Life.{LifeOnDisk}
-use Rattle.disk_law.specs.Checkpointing.{after_checkpoint, parts_with}
-use Rattle.disk_law.specs.Counted.{StandsUpTo, TellsUnits, TellUnits}
+use Rattle.disk_law.specs.LifeCheckpoint.{after_checkpoint, parts_with}
+use Rattle.disk_law.specs.UnitCounts.{StandsUpTo, TellsUnits, TellUnits}
 use Rattle.disk_law.proofs.Counting.{checkpoint_tells, takes_up_to}
-use Rattle.journal.specs.Checkpoints.{CanCheckpoint, IsOf, parts_for}
-use Rattle.disk_law.specs.Journal.{JournalState}
-use Rattle.program_rows.specs.OnSlots.{all_stores}
-use Rattle.program_rows.specs.State.{settled}
-use Rattle.tm_machine.specs.OnSlots.{HasSlots, slots_now}
+use Rattle.journal.specs.CheckpointFor.{CanCheckpoint, AreCheckpointPartsOf, parts_for}
+use Rattle.disk_law.specs.JournalState.{JournalState}
+use Rattle.program_rows.specs.SlotsState.{slots_stores}
+use Rattle.program_rows.specs.DatabasesState.{with_all_settled}
+use Rattle.tm_machine.specs.SlotChanges.{HasSlots, slots_now}
 use Rattle.tm_machine.specs.Parts.{PartsState}
 use Rattle.journal.proofs.Checkpoints as checkpoints
 use Rattle.logged_machine.proofs.Counts.{of_life, own_epoch, own_sequence}
 use Rattle.logged_machine.proofs.Holding.{hold_touched}
 use Rattle.logged_machine.proofs.Storing as storing
-use Rattle.journal.specs.Counted.{IsCounted}
-use Rattle.logged_machine.specs.PartsLifeLogged.{IsLogged}
-use Rattle.logged_machine.specs.Taking.{IsSnapshot, checkpoint_sectors}
+use Rattle.journal.specs.CountRanges.{AreCountsInRange}
+use Rattle.logged_machine.specs.LoggedParts.{IsLogged}
+use Rattle.logged_machine.specs.UntakenCheckpoint.{IsSnapshot, checkpoint_sectors}
 
 module _ (parts : PartsState) (units : List ℕ) (next : ℕ) (journal : JournalState) (text : List ℕ) (disk : DiskState) (h : IsLogged parts units next journal text disk) (has : HasSlots parts)
-    (c : IsCounted 0 parts.moment.lasting next journal) (bytes : List ℕ) (s : IsSnapshot parts units next (journal.restart.checkpoint + 1) bytes) where
+    (c : AreCountsInRange 0 parts.moment.lasting next journal) (bytes : List ℕ) (s : IsSnapshot parts units next (journal.restart.checkpoint + 1) bytes) where
   same_checkpoint : h.life.now.checkpoint ≡ journal.restart.checkpoint
   same_checkpoint = ap (λ (r : RestartSector). r.checkpoint) h.now
 
@@ -56,12 +56,12 @@ module _ (parts : PartsState) (units : List ℕ) (next : ℕ) (journal : Journal
         ∙ lt-ltb next 2000000000000000000 (omega (arith, c.unit));
   }
 
-  sequence : h.life.log.sequence + h.life.log.place + sectors_of (length h.life.log.appended) < 2000000000000000000
+  sequence : h.life.log.sequence + h.life.log.place + log_sectors_of (length h.life.log.appended) < 2000000000000000000
   sequence = omega (arith, same_sequence, c.sequence, h.carried.is.is_life.appended.fits, h.carried.is.is_life.writer.count, h.carried.is.is_life.few)
 
-  adds : Adds (snapshot_records (h.life.now.checkpoint + 1) next parts.moment.lasting (changes_of (slots_now parts).stores s.opens)) [] bytes
+  adds : AddsSpelled (snapshot_records (h.life.now.checkpoint + 1) next parts.moment.lasting (changes_of_units (slots_now parts).stores s.opens)) [] bytes
   adds =
-      subst (λ (n : ℕ). Adds (snapshot_records (n + 1) next parts.moment.lasting (changes_of (slots_now parts).stores s.opens)) [] bytes) (sym same_checkpoint) s.adds
+      subst (λ (n : ℕ). AddsSpelled (snapshot_records (n + 1) next parts.moment.lasting (changes_of_units (slots_now parts).stores s.opens)) [] bytes) (sym same_checkpoint) s.adds
 
   -- what the units keep
   abbrev touches : Touches
@@ -69,9 +69,9 @@ module _ (parts : PartsState) (units : List ℕ) (next : ℕ) (journal : Journal
       checkpoints.kept_now parts.system has.defined (length parts.system.regions) parts.moment (slots_now parts) units next h.life h.carried has.have has.one_sector (hold_touched parts has) s.opens s.are
 
   abbrev told : List Record
-  told = snapshot_records (h.life.now.checkpoint + 1) next parts.moment.lasting (changes_of (slots_now parts).stores s.opens)
+  told = snapshot_records (h.life.now.checkpoint + 1) next parts.moment.lasting (changes_of_units (slots_now parts).stores s.opens)
 
-  its : IsOf parts.system journal (all_stores (slots_now parts)) bytes touches told disk h.life
+  its : AreCheckpointPartsOf parts.system journal (slots_stores (slots_now parts)) bytes touches told disk h.life
   its = record {
     of_system = h.carried.is.of_system;
     writer = h.writer;
@@ -82,7 +82,7 @@ module _ (parts : PartsState) (units : List ℕ) (next : ℕ) (journal : Journal
   }
 
   -- It may be taken.
-  pub can : CanCheckpoint parts.system journal (all_stores (slots_now parts)) bytes disk
+  pub can : CanCheckpoint parts.system journal (slots_stores (slots_now parts)) bytes disk
   can = record {
     life = h.life;
     touches = touches;
@@ -109,30 +109,30 @@ module _ (parts : PartsState) (units : List ℕ) (next : ℕ) (journal : Journal
   own_parts = ap (λ (y : System). parts_for y h.life.now bytes) h.carried.is.of_system ∙ ap (λ (r : RestartSector). parts_for parts.system r bytes) h.now
 
   -- Whenever a crash comes in it, the image counts up to this.
-  pub counts_up_to : 1 ≤ parts.system.logs → (high : ℕ) → StandsUpTo high journal next → (before after : Image) → disk.may_leave before → Takes (parts_for parts.system journal.restart bytes) journal.log (all_stores (slots_now parts)) before after
+  pub counts_up_to : 1 ≤ parts.system.logs → (high : ℕ) → StandsUpTo high journal next → (before after : Image) → disk.may_leave before → Takes (parts_for parts.system journal.restart bytes) journal.log (slots_stores (slots_now parts)) before after
       → CountsUpTo parts.system (high + parts.system.logs) after
   counts_up_to some high stands before after left takes =
       let same_logs : h.life.system.logs ≡ parts.system.logs = ap (λ (y : System). y.logs) h.carried.is.of_system in
       let same : h.life.now.sequence ≡ journal.log.sequence = own_sequence parts units next journal text disk h in
       subst (λ (y : System). CountsUpTo y (high + y.logs) after) h.carried.is.of_system
-      (takes_up_to bytes (all_stores (slots_now parts)) touches told h.life h.carried.is.is_life its.may before (h.kept before left) next refl (of_life parts units next journal text disk h before left) (high + h.life.system.logs)
+      (takes_up_to bytes (slots_stores (slots_now parts)) touches told h.life h.carried.is.is_life its.may before (h.kept before left) next refl (of_life parts units next journal text disk h before left) (high + h.life.system.logs)
       (omega (arith, own_epoch parts units next journal text disk h, stands.epoch)) (omega (arith, same, stands.sequence)) (omega (arith, same_checkpoint, stands.checkpoint, some, same_logs)) (omega (arith, stands.unit)) (omega (arith, some, same_logs))
       after
-      (subst (λ (p : CheckpointParts). Takes p h.life.log (all_stores (slots_now parts)) before after) (sym own_parts)
-      (subst (λ (w : Writer). Takes (parts_for parts.system journal.restart bytes) w (all_stores (slots_now parts)) before after) (sym h.writer) takes)))
+      (subst (λ (p : CheckpointParts). Takes p h.life.log (slots_stores (slots_now parts)) before after) (sym own_parts)
+      (subst (λ (w : Writer). Takes (parts_for parts.system journal.restart bytes) w (slots_stores (slots_now parts)) before after) (sym h.writer) takes)))
 
-  pub within_up_to : 1 ≤ parts.system.logs → (disk' : DiskState) → Within (Takes (parts_for parts.system journal.restart bytes) journal.log (all_stores (slots_now parts))) disk disk'
+  pub within_up_to : 1 ≤ parts.system.logs → (disk' : DiskState) → Within (Takes (parts_for parts.system journal.restart bytes) journal.log (slots_stores (slots_now parts))) disk disk'
       → (high : ℕ) → StandsUpTo high journal next → Within (λ before after. CountsUpTo parts.system (high + parts.system.logs) after) disk disk'
   within_up_to some disk' within high stands =
-      within_where (Takes (parts_for parts.system journal.restart bytes) journal.log (all_stores (slots_now parts))) (λ before after. CountsUpTo parts.system (high + parts.system.logs) after) disk disk'
+      within_where (Takes (parts_for parts.system journal.restart bytes) journal.log (slots_stores (slots_now parts))) (λ before after. CountsUpTo parts.system (high + parts.system.logs) after) disk disk'
       (λ before after left takes. counts_up_to some high stands before after left takes) within
 
   -- The machine's own counters rise so far.
   pub raised : 1 ≤ parts.system.logs → (journal' : JournalState) → journal'.log ≡ next_writer (parts_for parts.system journal.restart bytes) journal.log → journal'.restart ≡ next_restart (parts_for parts.system journal.restart bytes) journal.log
       → (high : ℕ) → StandsUpTo high journal next → StandsUpTo (high + parts.system.logs) journal' next
   raised some journal' log restart high stands =
-      let fits : journal.log.place + sectors_of (length journal.log.appended) ≤ journal.log.count =
-      subst (λ (w : Writer). w.place + sectors_of (length w.appended) ≤ w.count) h.writer h.carried.is.is_life.appended.fits in
+      let fits : journal.log.place + log_sectors_of (length journal.log.appended) ≤ journal.log.count =
+      subst (λ (w : Writer). w.place + log_sectors_of (length w.appended) ≤ w.count) h.writer h.carried.is.is_life.appended.fits in
       let count : journal.log.count ≡ parts.system.logs =
       sym (ap (λ (w : Writer). w.count) h.writer) ∙ h.carried.is.is_life.writer.count ∙ ap (λ (y : System). y.logs) h.carried.is.of_system in
       let number : journal'.restart.checkpoint ≡ journal.restart.checkpoint + 1 = ap (λ (r : RestartSector). r.checkpoint) restart in
@@ -143,23 +143,23 @@ module _ (parts : PartsState) (units : List ℕ) (next : ℕ) (journal : Journal
         unit = omega (arith, stands.unit);
       }
 
-  tells_behind : (disk' : DiskState) → Follows (IsCheckpointed (parts_for parts.system journal.restart bytes) journal.log (all_stores (slots_now parts))) disk disk'
+  tells_behind : (disk' : DiskState) → Follows (IsCheckpointed (parts_for parts.system journal.restart bytes) journal.log (slots_stores (slots_now parts))) disk disk'
       → TellUnits parts.system (record { log = next_writer (parts_for parts.system journal.restart bytes) journal.log; restart = next_restart (parts_for parts.system journal.restart bytes) journal.log }) next disk'
   tells_behind disk' follows image left =
       let from = follows.from image left in
-      let done : IsCheckpointed (parts_with bytes h.life) h.life.log (all_stores (slots_now parts)) from.before image =
-      subst (λ (p : CheckpointParts). IsCheckpointed p h.life.log (all_stores (slots_now parts)) from.before image) (sym own_parts)
-      (subst (λ (w : Writer). IsCheckpointed (parts_for parts.system journal.restart bytes) w (all_stores (slots_now parts)) from.before image) (sym h.writer) from.by) in
+      let done : IsCheckpointed (parts_with bytes h.life) h.life.log (slots_stores (slots_now parts)) from.before image =
+      subst (λ (p : CheckpointParts). IsCheckpointed p h.life.log (slots_stores (slots_now parts)) from.before image) (sym own_parts)
+      (subst (λ (w : Writer). IsCheckpointed (parts_for parts.system journal.restart bytes) w (slots_stores (slots_now parts)) from.before image) (sym h.writer) from.by) in
       subst (λ (y : System). TellsUnits y (record { log = next_writer (parts_for parts.system journal.restart bytes) journal.log; restart = next_restart (parts_for parts.system journal.restart bytes) journal.log }) next image) h.carried.is.of_system
       (subst (λ (r : RestartSector). TellsUnits h.life.system (record { log = next_writer (parts_for parts.system journal.restart bytes) journal.log; restart = r }) next image) own_restart
       (subst (λ (w : Writer). TellsUnits h.life.system (record { log = w; restart = next_restart (parts_with bytes h.life) h.life.log }) next image) own_writer
-      (checkpoint_tells bytes (all_stores (slots_now parts)) touches told h.life h.carried.is.is_life its.may from.before (h.kept from.before from.left) next refl image done h.carried.is.numbers.some)))
+      (checkpoint_tells bytes (slots_stores (slots_now parts)) touches told h.life h.carried.is.is_life its.may from.before (h.kept from.before from.left) next refl image done h.carried.is.numbers.some)))
 
   -- Once it is taken, the machine whose slots count as written goes on with its log.
-  pub behind : (parts' : PartsState) → parts' ≡ record parts { databases = settled parts.databases } → (journal' : JournalState) → journal'.log ≡ next_writer (parts_for parts.system journal.restart bytes) journal.log
+  pub behind : (parts' : PartsState) → parts' ≡ record parts { databases = with_all_settled parts.databases } → (journal' : JournalState) → journal'.log ≡ next_writer (parts_for parts.system journal.restart bytes) journal.log
       → journal'.restart ≡ next_restart (parts_for parts.system journal.restart bytes) journal.log → (disk' : DiskState)
-      → ((life : LifeOnDisk) → (some : Touches) → (records : List Record) → IsOf parts.system journal (all_stores (slots_now parts)) bytes some records disk life → AreKept (after_checkpoint bytes some life) disk')
-      → IsReady journal'.log disk' → disk'.size ≡ disk.size → Follows (IsCheckpointed (parts_for parts.system journal.restart bytes) journal.log (all_stores (slots_now parts))) disk disk' → IsLogged parts' units next journal' text disk'
+      → ((life : LifeOnDisk) → (some : Touches) → (records : List Record) → AreCheckpointPartsOf parts.system journal (slots_stores (slots_now parts)) bytes some records disk life → AreImagesKept (after_checkpoint bytes some life) disk')
+      → IsWriterReady journal'.log disk' → disk'.size ≡ disk.size → Follows (IsCheckpointed (parts_for parts.system journal.restart bytes) journal.log (slots_stores (slots_now parts))) disk disk' → IsLogged parts' units next journal' text disk'
   behind parts' is journal' log restart disk' kept ready size follows =
       subst (λ (p : PartsState). IsLogged p units next journal' text disk') (sym is)
       (record {
@@ -181,12 +181,12 @@ module _ (parts : PartsState) (units : List ℕ) (next : ℕ) (journal : Journal
 
 -- It goes on so with the system and the stores that the journal was given.
 pub goes_on : (parts : PartsState) (units : List ℕ) (next : ℕ) (journal : JournalState) (text : List ℕ) (disk : DiskState) → IsLogged parts units next journal text disk → HasSlots parts
-    → IsCounted 0 parts.moment.lasting next journal → (bytes : List ℕ) → IsSnapshot parts units next (journal.restart.checkpoint + 1) bytes
-    → (system : System) → system ≡ parts.system → (stores : AllStores) → stores ≡ all_stores (slots_now parts)
-    → (parts' : PartsState) → parts' ≡ record parts { databases = settled parts.databases } → (journal' : JournalState) → journal'.log ≡ next_writer (parts_for system journal.restart bytes) journal.log
+    → AreCountsInRange 0 parts.moment.lasting next journal → (bytes : List ℕ) → IsSnapshot parts units next (journal.restart.checkpoint + 1) bytes
+    → (system : System) → system ≡ parts.system → (stores : AllStores) → stores ≡ slots_stores (slots_now parts)
+    → (parts' : PartsState) → parts' ≡ record parts { databases = with_all_settled parts.databases } → (journal' : JournalState) → journal'.log ≡ next_writer (parts_for system journal.restart bytes) journal.log
     → journal'.restart ≡ next_restart (parts_for system journal.restart bytes) journal.log → (disk' : DiskState)
-    → ((life : LifeOnDisk) → (touches : Touches) → (told : List Record) → IsOf system journal stores bytes touches told disk life → AreKept (after_checkpoint bytes touches life) disk')
-    → IsReady journal'.log disk' → disk'.size ≡ disk.size → Follows (IsCheckpointed (parts_for system journal.restart bytes) journal.log stores) disk disk' → IsLogged parts' units next journal' text disk'
+    → ((life : LifeOnDisk) → (touches : Touches) → (told : List Record) → AreCheckpointPartsOf system journal stores bytes touches told disk life → AreImagesKept (after_checkpoint bytes touches life) disk')
+    → IsWriterReady journal'.log disk' → disk'.size ≡ disk.size → Follows (IsCheckpointed (parts_for system journal.restart bytes) journal.log stores) disk disk' → IsLogged parts' units next journal' text disk'
 goes_on parts units next journal text disk h has c bytes s system same stores are parts' is journal' log restart disk' kept ready size follows =
     behind parts units next journal text disk h has c bytes s parts' is journal'
     (log ∙ ap (λ (y : System). next_writer (parts_for y journal.restart bytes) journal.log) same)
@@ -194,8 +194,8 @@ goes_on parts units next journal text disk h has c bytes s system same stores ar
     disk'
     (λ life touches told of_life.
     kept life touches told
-    (subst (λ (a : AllStores). IsOf system journal a bytes touches told disk life) (sym are)
-    (subst (λ (y : System). IsOf y journal (all_stores (slots_now parts)) bytes touches told disk life) (sym same) of_life)))
+    (subst (λ (a : AllStores). AreCheckpointPartsOf system journal a bytes touches told disk life) (sym are)
+    (subst (λ (y : System). AreCheckpointPartsOf y journal (slots_stores (slots_now parts)) bytes touches told disk life) (sym same) of_life)))
     ready size
     (subst (λ (a : AllStores). Follows (IsCheckpointed (parts_for parts.system journal.restart bytes) journal.log a) disk disk') are
     (subst (λ (y : System). Follows (IsCheckpointed (parts_for y journal.restart bytes) journal.log stores) disk disk') same follows))
@@ -204,11 +204,11 @@ goes_on parts units next journal text disk h has c bytes s system same stores ar
 
 -- A snapshot takes no more sectors than its area has.
 pub most : (system : System) (journal : JournalState) (stores : AllStores) (bytes : List ℕ) (old new : DiskState) → CanCheckpoint system journal stores bytes old
-    → WritesAtMost (sectors_of (length journal.log.appended) + changed_count stores.changed + snapshot.sectors_of (length bytes) + 1) old new
+    → WritesAtMost (log_sectors_of (length journal.log.appended) + changed_count stores.changed + snapshot.snapshot_sectors_of (length bytes) + 1) old new
     → WritesAtMost (checkpoint_sectors system stores.changed journal) old new
 most system journal stores bytes old new can writes =
-    within new.writes old.writes (sectors_of (length journal.log.appended)) (changed_count stores.changed) (snapshot.sectors_of (length bytes)) (snapshot_area system) writes
-    (subst (λ (y : System). snapshot.sectors_of (length bytes) ≤ snapshot_area y) can.is.of_system can.is.may.fits)
+    within new.writes old.writes (log_sectors_of (length journal.log.appended)) (changed_count stores.changed) (snapshot.snapshot_sectors_of (length bytes)) (snapshot_area system) writes
+    (subst (λ (y : System). snapshot.snapshot_sectors_of (length bytes) ≤ snapshot_area y) can.is.of_system can.is.may.fits)
   where
     within : (w o a c s t : ℕ) → w ≤ o + (a + c + s + 1) → s ≤ t → w ≤ o + (a + c + t + 1)
     within w o a c s t h k = omega (arith, h, k)

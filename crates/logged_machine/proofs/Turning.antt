@@ -5,7 +5,7 @@ use Rattle.std.specs.List.{flat_map}
 use Rattle.tm_types.specs.declared.dbd.Dbd.{Dbd}
 use Rattle.model_data.specs.declared.victim.Victim.{Victim}
 use Rattle.log_records.specs.declared.record.Record.{Record}
-use Rattle.log_records.specs.Spelling.{spelling}
+use Rattle.log_records.specs.RecordSpelling.{record_spelling}
 use Rattle.seg_store.specs.Slots.{rows_of_slots}
 use Rattle.disk_law.specs.Life.{LifeOnDisk}
 use Rattle.model_machine.specs.declared.entry.ControlCall.TheVariants.{Turn}
@@ -14,22 +14,22 @@ use Rattle.model_machine.specs.declared.entry.Turned.{Turned}
 use Rattle.model_machine.specs.declared.entry.Turned.TheVariants.{Scheduled, Called, Next, QC, Done, Abended, Idle, Held, Waits, Backed}
 use Rattle.model_machine.specs.History.{victims_in}
 use Rattle.model_machine.specs.Machine.{Moment, Slot}
-use Rattle.model_machine.specs.Steps.{After, lasting_step, turn_answer}
-use Rattle.program_rows.specs.OnSlots.{SlotsState}
+use Rattle.model_machine.specs.MachineCalls.{After, lasting_step, turn_answer}
+use Rattle.program_rows.specs.SlotsState.{SlotsState}
 use Rattle.tm_machine.specs.Answers.{IsAnswered}
-use Rattle.tm_machine.specs.OnSlots as slots
-use Rattle.tm_machine.specs.OnSlots.{HasSlots, TellByCall, TurnsSo, changes_told, slots_now, turn_records}
+use Rattle.tm_machine.specs.SlotChanges as slots
+use Rattle.tm_machine.specs.SlotChanges.{HasSlots, TellByCall, TurnsSo, changes_told, slots_now, turn_records}
 use Rattle.tm_machine.specs.Parts.{PartsState}
-use Rattle.journal.specs.Counts.{AreUnspent}
-use Rattle.journal.specs.Doing.{DoesSo, GiveUpSo, QuietUnlessCalled}
-use Rattle.journal.specs.Turning.{next_after, unit_of, units_after}
+use Rattle.journal.specs.UnspentCounts.{AreUnspent}
+use Rattle.journal.specs.TurnChanges.{DoesSo, GiveUpInOrder, QuietUnlessCalled}
+use Rattle.journal.specs.UnitNumbers.{next_after, unit_of_region, units_after}
 use Rattle.journal.proofs.Inputs.{HasRoom}
 use Rattle.journal.proofs.Turns.{GoesBy, turn_goes}
-use Rattle.logged_machine.specs.Carried.{IsCarried}
+use Rattle.logged_machine.specs.CarriedParts.{IsCarried}
 use Rattle.logged_machine.proofs.Holding.{have_slots, hold_touched, right_pads}
 
 -- victims give up alike
-give_up : (dbds : List Dbd) (regions : ℕ) (victims : List Victim) (taken : List (Option Slot)) (old new : SlotsState) → slots.GiveUpSo dbds regions taken victims old new → GiveUpSo dbds regions taken victims old new
+give_up : (dbds : List Dbd) (regions : ℕ) (victims : List Victim) (taken : List (Option Slot)) (old new : SlotsState) → slots.GiveUpSo dbds regions taken victims old new → GiveUpInOrder dbds regions taken victims old new
 give_up dbds regions [] taken old new up = up
 give_up dbds regions (v ∷ victims) taken old new up = record {
   least = up.least;
@@ -69,8 +69,8 @@ turned_is : (region : ℕ) (a b : Turned) → TurnEntry region (Ok a) ≡ TurnEn
 turned_is region a b e = cc
 
 module _ (old new : PartsState) (units : List ℕ) (next : ℕ) (life : LifeOnDisk) (c : IsCarried old units next life) (unspent : AreUnspent old.moment.lasting) (has : HasSlots old) (had : HasSlots new)
-    (region : ℕ) (turned : Turned) (answered : IsAnswered old new (TurnEntry region (Ok turned))) (turns : TurnsSo old new (unit_of units region) region turned)
-    (quiet : TellByCall (changes_told old (unit_of units region) region) turned) (room : HasRoom (turn_records old (unit_of units region) region) life) where
+    (region : ℕ) (turned : Turned) (answered : IsAnswered old new (TurnEntry region (Ok turned))) (turns : TurnsSo old new (unit_of_region units region) region turned)
+    (quiet : TellByCall (changes_told old (unit_of_region units region) region) turned) (room : HasRoom (turn_records old (unit_of_region units region) region) life) where
   abbrev victims : List Victim
   victims = victims_in (TurnEntry region (Ok turned))
 
@@ -81,14 +81,14 @@ module _ (old new : PartsState) (units : List ℕ) (next : ℕ) (life : LifeOnDi
   right_rows = had.rows_are ∙ ap (λ (m : Moment). m.lasting.rows) answered.after
 
   -- The life takes the turn's step, or goes on.
-  pub turn_of_parts : GoesBy (lasting_step old.system old.moment (Turn region)) (flat_map spelling (turn_records old (unit_of units region) region)) old.system new.moment (slots_now new)
+  pub turn_of_parts : GoesBy (lasting_step old.system old.moment (Turn region)) (flat_map record_spelling (turn_records old (unit_of_region units region) region)) old.system new.moment (slots_now new)
       (units_after turned region next units) (next_after turned next) life
   turn_of_parts =
-      subst (λ (m : Moment). GoesBy (lasting_step old.system old.moment (Turn region)) (flat_map spelling (turn_records old (unit_of units region) region)) old.system m (slots_now new) (units_after turned region next units) (next_after turned next) life) (sym answered.after)
+      subst (λ (m : Moment). GoesBy (lasting_step old.system old.moment (Turn region)) (flat_map record_spelling (turn_records old (unit_of_region units region) region)) old.system m (slots_now new) (units_after turned region next units) (next_after turned next) life) (sym answered.after)
       (turn_goes old.system has.defined (length old.system.regions) old.moment (slots_now old) (slots_now new) units next life c unspent has.have (have_slots old new had answered.system) has.one_sector
       (hold_touched old has) region answered.may.call.0 answered.may.call.1 victims answered.may.victims
       (right_pads old new after had answered.system answered.after)
-      (subst (λ (m : Moment). Rattle.journal.specs.Carried.HoldTouched m.enqueues (slots_now new)) answered.after (hold_touched new had)) right_rows
-      (changes_told old (unit_of units region) region) turned
+      (subst (λ (m : Moment). Rattle.journal.specs.CarriedLife.HoldTouched m.enqueues (slots_now new)) answered.after (hold_touched new had)) right_rows
+      (changes_told old (unit_of_region units region) region) turned
       (turned_is region turned (turn_answer old.system old.moment region victims) answered.may.answer)
-      (tells_so (changes_told old (unit_of units region) region) turned quiet) (does_so old new (unit_of units region) region turned turns) room)
+      (tells_so (changes_told old (unit_of_region units region) region) turned quiet) (does_so old new (unit_of_region units region) region turned turns) room)

@@ -6,12 +6,12 @@ use Rattle.std.specs.Option.{option_map}
 use Rattle.model_messages.specs.declared.replies.TerminalReplies.{TerminalReplies}
 use Rattle.model_machine.specs.Machine.{LastingState}
 use Rattle.model_machine.specs.declared.counts.Counter.{Counter}
-use Rattle.openings.specs.Opening.{counters, output_counters, first_spent}
+use Rattle.openings.specs.OpenedImage.{counters, output_counters, first_spent}
 use Rattle.model_machine.specs.declared.counts.Counter.TheVariants as counter
 use Rattle.restart_data.specs.declared.restart.RestartSector.{RestartSector}
-use Rattle.disk_law.specs.Journal.{JournalState}
-use Rattle.journal.specs.Counts.{AreUnspent}
-use Rattle.journal.specs.Counted.{IsCounted}
+use Rattle.disk_law.specs.JournalState.{JournalState}
+use Rattle.journal.specs.UnspentCounts.{AreUnspent}
+use Rattle.journal.specs.CountRanges.{AreCountsInRange}
 
 pub record NoneSpent (epoch sequence checkpoint unit : ℕ) (lasting : LastingState) : Type 0 where
   pub epoch_low : epoch < 1000000000000000000
@@ -51,7 +51,7 @@ none_spent epoch sequence checkpoint unit lasting e =
       counts = record { id = d.0; steps = g.0; outputs = outputs_low lasting.outputs g.1 };
     }
 
-pub counted_now : (lasting : LastingState) (next : ℕ) (journal : JournalState) → first_spent (counters journal.restart.epoch (journal.log.sequence + journal.log.place) journal.restart.checkpoint next lasting) ≡ None → IsCounted 0 lasting next journal
+pub counted_now : (lasting : LastingState) (next : ℕ) (journal : JournalState) → first_spent (counters journal.restart.epoch (journal.log.sequence + journal.log.place) journal.restart.checkpoint next lasting) ≡ None → AreCountsInRange 0 lasting next journal
 counted_now lasting next journal e =
     let n = none_spent journal.restart.epoch (journal.log.sequence + journal.log.place) journal.restart.checkpoint next lasting e in
     record { counts = n.counts; unit = n.unit_low; epoch = n.epoch_low; sequence = omega (arith, n.sequence_low); checkpoint = omega (arith, n.checkpoint_low) }

@@ -3,8 +3,8 @@ use Rattle.std.specs.Prelude.{ℕ, List, [], replicate}
 use Rattle.tm_types.specs.declared.dbd.Dbd.{Dbd}
 use Rattle.seg_store.specs.Slots.{Stored}
 use Rattle.seg_store.specs.Stores.{no_changed}
-use Rattle.program_rows.specs.OnSlots.{SlotsState}
-use Rattle.openings.specs.Parts.{OpeningParts}
+use Rattle.program_rows.specs.SlotsState.{SlotsState}
+use Rattle.openings.specs.OpeningParts.{OpeningParts}
 
 -- the slots of stores that a life begins with
 abbrev pub opening_slots : List Stored → List Dbd → ℕ → SlotsState

@@ -3,8 +3,8 @@ ghost use Rattle.std.specs.Prelude.{◌≡◌, length};
 ghost use Rattle.model_machine.specs.Machine.{LastingState, empty_state, start_of};
 ghost use Rattle.restart_data.specs.Restart.{IsRestart};
 ghost use Rattle.openings.specs.Renewal.{first_writer};
-ghost use Rattle.tm_machine.specs.OnSlots.{HasSlots, slots_now};
-ghost use Rattle.tm_machine.specs.Opening.{IsOpenedWith};
+ghost use Rattle.tm_machine.specs.SlotChanges.{HasSlots, slots_now};
+ghost use Rattle.tm_machine.specs.MachineOpening.{IsOpenedWith};
 ghost use Rattle.logged_machine.specs.OpeningSlots.{slots_of_opening};
 
 use image_loading::log_first;

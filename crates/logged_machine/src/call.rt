@@ -4,8 +4,8 @@ ghost use Rattle.model_machine.specs.History.{IsCall, call_of};
 ghost use Rattle.model_machine.specs.declared.entry.ControlCall.{ControlCall};
 ghost use Rattle.model_machine.specs.declared.entry.Entry.{Entry};
 ghost use Rattle.openings.specs.Faults.{fault_in};
-ghost use Rattle.lasting_state.specs.Untold.{WhereFull};
-ghost use Rattle.logged_machine.specs.Calls.{Does, IsWithin, NumbersBy, TellsAll, lasts_by, may_last, own_bytes, own_records};
+ghost use Rattle.lasting_state.specs.UntoldSteps.{WhereFull};
+ghost use Rattle.logged_machine.specs.ToldCalls.{DoesCall, IsCallWithin, NumbersBy, TellsAllRecords, lasts_by, may_last, own_bytes, own_records};
 
 use log_records::Untold;
 use model_machine::ControlFault;
@@ -25,7 +25,7 @@ pub trait Call {
 
     /// Whether an input's number is one that an image may have: below 2,000,000,000,000,000,000. It is true of other calls.
     fn is_within(&self) -> bool
-        ensures { IsTrue result ↔ IsWithin (call self.now) };
+        ensures { IsTrue result ↔ IsCallWithin (call self.now) };
 
     /// Lets the machine do it. Its records, of at most `room` bytes, are appended; those of a turn are of its region's unit, which
     /// has its number among these. A refusal changes nothing, and is `Full` only where the records are longer.
@@ -38,8 +38,8 @@ pub trait Call {
         told: &mut Vec<u8>,
     ) -> Result<Self::Answer, Untold>
         requires { IsCall parts.old.system (call self.now) }
-        ensures does { IfOk result (λ answer. Does units.now (entry self.now answer) parts.old parts.new) }
-        ensures told { OnOk result (TellsAll (own_records parts.old units.now (call self.now)) room told.old.items told.new.items) }
+        ensures does { IfOk result (λ answer. DoesCall units.now (entry self.now answer) parts.old parts.new) }
+        ensures told { OnOk result (TellsAllRecords (own_records parts.old units.now (call self.now)) room told.old.items told.new.items) }
         ensures full { IfErr result (WhereFull (room < length (own_bytes parts.old units.now (call self.now)))) }
         ensures err { OnErr result (parts.new ≡ parts.old) }
         ensures untold { OnErr result (told.new.items ≡ told.old.items) };

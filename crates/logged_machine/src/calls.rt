@@ -1,10 +1,10 @@
 //! The calls of which a step may last: inputs, acknowledgements, commands and turns.
 ghost use Rattle.std.specs.Prelude.{◌≡◌, refl};
 ghost use Rattle.std.specs.Option.{is_some};
-ghost use Rattle.model_machine.specs.ModelMachineCommands.{lasting_command};
+ghost use Rattle.model_machine.specs.CommandAnswers.{lasting_command};
 ghost use Rattle.model_machine.specs.declared.entry.ControlCall.TheVariants.{Input as InputCall, Acknowledge as AcknowledgeCall, Command as CommandCall, Turn as TurnCall};
 ghost use Rattle.model_machine.specs.declared.entry.Entry.TheVariants.{Accept, Acked as AckedEntry, Commanded, Turn as TurnEntry};
-ghost use Rattle.tm_machine.specs.Told.{ends_work};
+ghost use Rattle.tm_machine.specs.ToldByCall.{ends_work};
 
 use crate::call::Call;
 use crate::names::see_names;

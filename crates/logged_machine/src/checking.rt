@@ -1,15 +1,15 @@
 //! Checkpoints that are asked for.
 ghost use Rattle.std.specs.Prelude.{◌*◌, ◌≡◌, true, ℕ, None, Ok, IfErr, IfOk, OnOk};
 ghost use Rattle.tm_disk.specs.Disk.{Image};
-ghost use Rattle.model_machine.specs.ModelMachineCommands.{checkpoint_answer, unless_busy};
+ghost use Rattle.model_machine.specs.CommandAnswers.{checkpoint_answer, unless_busy};
 ghost use Rattle.model_machine.specs.declared.entry.Entry.TheVariants.{Checked};
-ghost use Rattle.journal.specs.Counted.{IsCounted};
-ghost use Rattle.logged_machine.specs.Doing.{CountsSince, Did, LeavesCounts};
-ghost use Rattle.logged_machine.specs.Frugal.{Raises};
-ghost use Rattle.logged_machine.specs.Goes.{Keeps, GoesBy, CrashesBy};
+ghost use Rattle.journal.specs.CountRanges.{AreCountsInRange};
+ghost use Rattle.logged_machine.specs.Attempts.{CountsSince, Did, LeavesCounts};
+ghost use Rattle.logged_machine.specs.CheckpointDue.{Raises};
+ghost use Rattle.logged_machine.specs.CallOutcome.{KeepsMachine, MachineGoesBy, CrashesBy};
 ghost use Rattle.openings.specs.Faults.{fault_in};
-ghost use Rattle.logged_machine.specs.Logged.{LastsNow, spent_now};
-ghost use Rattle.logged_machine.specs.Taken.{HasNumber, IsTaken, LeavesSettled, StaysUntaken, WritesCheckpoint, again};
+ghost use Rattle.logged_machine.specs.LoggedState.{LastsNow, machine_spent_now};
+ghost use Rattle.logged_machine.specs.TakenCheckpoint.{HasNumber, IsTaken, LeavesSettled, StaysUntaken, WritesCheckpoint, again};
 
 use crate::logged::LoggedMachine;
 use model_machine::CheckpointRefused;
@@ -21,11 +21,11 @@ impl<D: Disk> LoggedMachine<D> {
     /// changed behind it.
     pub fn checkpoint(&mut self, freeze: bool) -> Result<u64, CheckpointRefused>
         requires served { self.old.served ≡ true }
-        requires unspent { spent_now self.old ≡ None }
-        ensures goes { GoesBy D.state (fault_in (Checked freeze result)) self.old self.new (Checked freeze result) }
+        requires unspent { machine_spent_now self.old ≡ None }
+        ensures goes { MachineGoesBy D.state (fault_in (Checked freeze result)) self.old self.new (Checked freeze result) }
         ensures crash { CrashesBy D.state (fault_in (Checked freeze result)) self.old self.new (Checked freeze result) }
         ensures lasts { LastsNow D.state self.new }
-        ensures keeps { Keeps D.state self.old self.new }
+        ensures keeps { KeepsMachine D.state self.old self.new }
         ensures counts { CountsSince D.state (2 * self.old.machine.system.logs) self.old self.new }
         ensures raises { self.new.served ≡ true → Raises self.old.machine.system.logs self.old.journal self.new.journal self.old.next_unit self.new.next_unit }
         ensures taken { IfOk result (λ number. IsTaken self.new.machine.system number self.old.journal self.new.journal (D.state self.new.disk)) }
@@ -42,7 +42,7 @@ impl<D: Disk> LoggedMachine<D> {
     /// The same, by what it does.
     fn checkpoint_any(&mut self, freeze: bool) -> Result<u64, CheckpointRefused>
         requires served { self.old.served ≡ true }
-        requires counted { IsCounted 0 self.old.machine.moment.lasting self.old.next_unit self.old.journal }
+        requires counted { AreCountsInRange 0 self.old.machine.moment.lasting self.old.next_unit self.old.journal }
         ensures did { Did D.state (fault_in (Checked freeze result)) self.old self.new (Checked freeze result) }
         ensures counts { LeavesCounts D.state (2 * self.old.machine.system.logs) self.old self.new }
         ensures raises { self.new.served ≡ true → Raises self.old.machine.system.logs self.old.journal self.new.journal self.old.next_unit self.new.next_unit }
@@ -61,7 +61,7 @@ impl<D: Disk> LoggedMachine<D> {
     /// The same where no region forbids it.
     fn checkpoint_free(&mut self, freeze: bool) -> Result<u64, CheckpointRefused>
         requires served { self.old.served ≡ true }
-        requires counted { IsCounted 0 self.old.machine.moment.lasting self.old.next_unit self.old.journal }
+        requires counted { AreCountsInRange 0 self.old.machine.moment.lasting self.old.next_unit self.old.journal }
         requires stays { again self.old.machine ≡ self.old.machine.moment }
         requires free { (number : ℕ) → checkpoint_answer self.old.machine.moment freeze number ≡ Ok number }
         ensures did { Did D.state (fault_in (Checked freeze result)) self.old self.new (Checked freeze result) }

@@ -3,16 +3,16 @@ ghost use Rattle.std.specs.Prelude.{◌≡◌, ◌+◌, ℕ, List, false, length
 ghost use Rattle.tm_disk.specs.Disk.{WritesAtMost};
 ghost use Rattle.model_machine.specs.History.{IsCall};
 ghost use Rattle.model_machine.specs.declared.entry.ControlFault.TheVariants as faults;
-ghost use Rattle.tm_machine.specs.OnSlots.{HasSlots};
-ghost use Rattle.journal.specs.Counted.{IsCounted};
-ghost use Rattle.logged_machine.specs.Carried.{IsCarried};
-ghost use Rattle.logged_machine.specs.PartsLifeLogged.{IsLogged};
+ghost use Rattle.tm_machine.specs.SlotChanges.{HasSlots};
+ghost use Rattle.journal.specs.CountRanges.{AreCountsInRange};
+ghost use Rattle.logged_machine.specs.CarriedParts.{IsCarried};
+ghost use Rattle.logged_machine.specs.LoggedParts.{IsLogged};
 ghost use Rattle.disk_law.specs.Life.{LifeOnDisk};
-ghost use Rattle.logged_machine.specs.Taking.{IsSnapshot, Untaken, checkpoint_sectors, settled_parts};
-ghost use Rattle.logged_machine.specs.Calls.{Does, may_change, own_records};
-ghost use Rattle.logged_machine.specs.Due.{Behind, CountsWithin, IsEmptyLog, KeepsOnDisk};
+ghost use Rattle.logged_machine.specs.UntakenCheckpoint.{IsSnapshot, Untaken, checkpoint_sectors, settled_parts};
+ghost use Rattle.logged_machine.specs.ToldCalls.{DoesCall, may_change, own_records};
+ghost use Rattle.logged_machine.specs.ToldCheckpoint.{HasBehindDue, CountsWithin, IsEmptyLog, KeepsOnDisk};
 
-use crate::machine_due_writing::{write_parts, write_told};
+use crate::told_checkpoints::{write_parts, write_told};
 use crate::{Acknowledgement, Call, Input, Turn, all_room, snapshot, tell};
 use journal::Journal;
 use model_machine::{Command, ControlFault};
@@ -34,12 +34,12 @@ pub trait DueCall: Call {
     ) -> Result<Self::Answer, ControlFault>
         requires call { IsCall parts.old.system (Self.call self.now) }
         requires logged { (text : List ℕ) × IsLogged parts.old units.now next_unit journal.old text (D.state disk.old) }
-        requires counted { IsCounted 0 parts.old.moment.lasting next_unit journal.old }
+        requires counted { AreCountsInRange 0 parts.old.moment.lasting next_unit journal.old }
         ensures system { parts.new.system ≡ parts.old.system }
         ensures keeps { KeepsOnDisk parts.old.system (D.state disk.old) (D.state disk.new) }
         ensures counts { CountsWithin parts.old.system journal.old next_unit (D.state disk.old) (D.state disk.new) }
-        ensures behind { OnOk result (Behind D.state parts.old units.entry.now next_unit (own_records (settled_parts parts.old) units.entry.now (Self.call self.entry.now)) journal.old journal.new disk.old disk.new) }
-        ensures does { IfOk result (λ answer. Does units.entry.now (Self.entry self.entry.now answer) (settled_parts parts.old) parts.new) }
+        ensures behind { OnOk result (HasBehindDue D.state parts.old units.entry.now next_unit (own_records (settled_parts parts.old) units.entry.now (Self.call self.entry.now)) journal.old journal.new disk.old disk.new) }
+        ensures does { IfOk result (λ answer. DoesCall units.entry.now (Self.entry self.entry.now answer) (settled_parts parts.old) parts.new) }
         ensures before { OnOk result (HasSlots (settled_parts parts.old)) }
         ensures slots { OnOk result (HasSlots parts.new) }
         ensures writes { WritesAtMost (checkpoint_sectors parts.old.system parts.old.databases.changed journal.old) (D.state disk.old) (D.state disk.new) }
@@ -137,12 +137,12 @@ fn still_due<C: Call, D: Disk>(
     requires call { IsCall parts.old.system (C.call call.now) }
     requires still { may_change (C.call call.now) ≡ false }
     requires logged { (text : List ℕ) × IsLogged parts.old units.now next_unit journal.old text (D.state disk.old) }
-    requires counted { IsCounted 0 parts.old.moment.lasting next_unit journal.old }
+    requires counted { AreCountsInRange 0 parts.old.moment.lasting next_unit journal.old }
     ensures system { parts.new.system ≡ parts.old.system }
     ensures keeps { KeepsOnDisk parts.old.system (D.state disk.old) (D.state disk.new) }
     ensures counts { CountsWithin parts.old.system journal.old next_unit (D.state disk.old) (D.state disk.new) }
-    ensures behind { OnOk result (Behind D.state parts.old units.entry.now next_unit (own_records (settled_parts parts.old) units.entry.now (C.call call.entry.now)) journal.old journal.new disk.old disk.new) }
-    ensures does { IfOk result (λ answer. Does units.entry.now (C.entry call.entry.now answer) (settled_parts parts.old) parts.new) }
+    ensures behind { OnOk result (HasBehindDue D.state parts.old units.entry.now next_unit (own_records (settled_parts parts.old) units.entry.now (C.call call.entry.now)) journal.old journal.new disk.old disk.new) }
+    ensures does { IfOk result (λ answer. DoesCall units.entry.now (C.entry call.entry.now answer) (settled_parts parts.old) parts.new) }
     ensures before { OnOk result (HasSlots (settled_parts parts.old)) }
     ensures slots { OnOk result (HasSlots parts.new) }
     ensures writes { WritesAtMost (checkpoint_sectors parts.old.system parts.old.databases.changed journal.old) (D.state disk.old) (D.state disk.new) }
@@ -168,7 +168,7 @@ fn next_snapshot(
 ) -> Result<Vec<u8>, ControlFault>
     requires carried { (life : LifeOnDisk) × IsCarried parts.now units.now next_unit life }
     requires numbered { length units.now ≡ length parts.now.system.regions }
-    requires counted { IsCounted 0 parts.now.moment.lasting next_unit journal.now }
+    requires counted { AreCountsInRange 0 parts.now.moment.lasting next_unit journal.now }
     ensures snapshot { IfOk result (λ bytes. IsSnapshot parts.entry.now units.entry.now next_unit (journal.entry.now.restart.checkpoint + 1) bytes.items) }
     ensures memory { IfErr result (λ fault. fault ≡ faults.Memory) }
     ensures slots { HasSlots parts.now }

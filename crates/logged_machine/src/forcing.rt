@@ -1,6 +1,6 @@
 //! What a call has told, forced.
 ghost use Rattle.std.specs.Prelude.{◌≡◌, true};
-ghost use Rattle.logged_machine.specs.Forcing.{IsForced, MayForce};
+ghost use Rattle.logged_machine.specs.ForcedLog.{IsForced, MayForce};
 
 use journal::Journal;
 use tm_disk::Disk;

@@ -10,7 +10,7 @@
 //!   where the disk failed. Whenever a crash comes, the image recovers to what lasts. Once it has answered, the machine
 //!   stands where it stood, no slot counts as changed, the restart sector has the next number, the log is empty, and a
 //!   life is on the disk that goes with the machine (specs/UntakenCheckpoint).
-//! - `due`: a call with a checkpoint before it (specs/DueCheckpoint). It takes all memory first: the snapshot is
+//! - `due`: a call with a checkpoint before it (specs/ToldCheckpoint). It takes all memory first: the snapshot is
 //!   spelled, the machine does the call with its records told apart from the journal, and only then is the checkpoint
 //!   written, as all stood before the call, with the call's records behind it. The only other refusal is a disk that
 //!   failed.
@@ -26,9 +26,9 @@
 //!   and written nothing, also where a checkpoint was due. A freeze that a region's work forbids has changed nothing
 //!   and written nothing. The first counter that is spent is told exactly.
 //!
-//! How much is written (specs/CallWrites): no checkpoint is due before a call that has no records of its own, or leaves
-//! 32 sectors of the area free with them: it writes to the log alone, and only where a step lasts of it. Any other
-//! takes one checkpoint, and from there does the same, or the disk failed in the checkpoint, which writes no more
+//! How much is written (specs/CheckpointDue): no checkpoint is due before a call that has no records of its own, or
+//! leaves 32 sectors of the area free with them: it writes to the log alone, and only where a step lasts of it. Any
+//! other takes one checkpoint, and from there does the same, or the disk failed in the checkpoint, which writes no more
 //! sectors than those of what was appended, one of each slot that counts as changed, those of a snapshot's area and the
 //! restart sector. Where the machine's own counters (the epoch, the log's next sequence, the checkpoint, the next unit)
 //! stand up to a bound, whatever a crash leaves at any moment of a call counts further by twice the sectors of a log
@@ -48,9 +48,8 @@ mod checking;
 mod due;
 mod forcing;
 mod logged;
-mod logged_machine_opening;
 mod looking;
-mod machine_due_writing;
+mod machine_opening;
 mod names;
 mod opening;
 mod refreshing;
@@ -60,6 +59,7 @@ mod snapshots;
 mod spending;
 mod step;
 mod telling;
+mod told_checkpoints;
 mod units;
 mod writing;
 

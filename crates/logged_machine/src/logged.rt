@@ -1,14 +1,14 @@
 //! A machine with its log.
 ghost use Rattle.std.specs.Prelude.{◌≡◌, ◌<◌, ◌↔◌, IfOk, IsTrue, IsFalse};
 ghost use Rattle.tm_disk.specs.Disk.{IsToldToStop, armed};
-ghost use Rattle.model_machine.specs.ModelMachineCommands.{command_answer};
+ghost use Rattle.model_machine.specs.CommandAnswers.{command_answer};
 ghost use Rattle.model_machine.specs.declared.entry.Entry.TheVariants.{Show as ShowEntry};
 ghost use Rattle.model_machine.specs.Machine.{output_at, terminal_at};
-ghost use Rattle.model_machine.specs.Steps.{is_quiet, show_answer};
-ghost use Rattle.lasting_state.specs.Showing.{IsShownTo};
+ghost use Rattle.model_machine.specs.MachineCalls.{is_machine_quiet, show_answer};
+ghost use Rattle.lasting_state.specs.ShownTerminal.{IsShownTo};
 ghost use Rattle.tm_machine.specs.Answers.{Answers};
-ghost use Rattle.tm_machine.specs.OnSlots.{HasSlots};
-ghost use Rattle.logged_machine.specs.Logged.{LastsNow};
+ghost use Rattle.tm_machine.specs.SlotChanges.{HasSlots};
+ghost use Rattle.logged_machine.specs.LoggedState.{LastsNow};
 
 use journal::Journal;
 use lasting_state::Shown;
@@ -37,8 +37,8 @@ pub struct LoggedMachine<D: Disk> {
 
 impl<D: Disk> Model for LoggedMachine<D> {
     ghost use Rattle.std.specs.Prelude.{◌≡◌, true};
-    ghost use Rattle.logged_machine.specs.PartsLifeLogged.{IsLogged};
-    ghost use Rattle.logged_machine.specs.Logged.{LoggedState};
+    ghost use Rattle.logged_machine.specs.LoggedParts.{IsLogged};
+    ghost use Rattle.logged_machine.specs.LoggedState.{LoggedState};
 
     ghost Value = { LoggedState D };
 
@@ -84,7 +84,7 @@ impl<D: Disk> LoggedMachine<D> {
 
     /// Whether nothing is left to do.
     pub fn is_quiet(&self) -> bool
-        ensures { result ≡ is_quiet self.now.machine.system self.now.machine.moment }
+        ensures { result ≡ is_machine_quiet self.now.machine.system self.now.machine.moment }
     {
         self.parts.is_quiet()
     }

@@ -2,10 +2,10 @@
 ghost use Rattle.std.specs.Prelude.{◌≡◌, ◌≤◌, length, IfOk, IsTrue};
 ghost use Rattle.tm_disk.specs.Disk.{Stays, Within, Only};
 ghost use Rattle.checkpointing.specs.Counts.{RaisesCounts};
-ghost use Rattle.openings.specs.Opening.{OpeningCause, SizeFirst, TellsCold, TellsOpening};
+ghost use Rattle.openings.specs.OpenedImage.{OpeningCause, SizeFirst, TellsCold, TellsOpening};
 ghost use Rattle.openings.specs.declared.how.How.TheVariants.{Found, Cold};
-ghost use Rattle.logged_machine.specs.Opened.{BeginsOn};
-ghost use Rattle.openings.specs.Opened.{KeepsBy};
+ghost use Rattle.logged_machine.specs.MachineOpening.{BeginsOn};
+ghost use Rattle.openings.specs.LifeBeginning.{KeepsBy};
 
 use model_machine::Lasting;
 use openings::{How, OpenError, Parts};

@@ -1,6 +1,6 @@
 //! Names in commands.
 ghost use Rattle.std.specs.Prelude.{IfSome};
-ghost use Rattle.model_machine.specs.ModelMachineCommands.{lasting_command};
+ghost use Rattle.model_machine.specs.CommandAnswers.{lasting_command};
 ghost use Rattle.tm_types.specs.Commands.{name_in};
 ghost use Rattle.tm_types.specs.Name.{IsName};
 

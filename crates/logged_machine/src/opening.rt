@@ -3,11 +3,11 @@ ghost use Rattle.std.specs.Prelude.{◌≡◌, ◌≤◌, length, IfOk, IfErr, O
 ghost use Rattle.tm_disk.specs.Disk.{Stays, Within, Only};
 ghost use Rattle.model_machine.specs.Machine.{empty_state, start_of};
 ghost use Rattle.checkpointing.specs.Counts.{RaisesCounts};
-ghost use Rattle.openings.specs.Opening.{OpeningCause};
+ghost use Rattle.openings.specs.OpenedImage.{OpeningCause};
 ghost use Rattle.journal.proofs.Openings.{no_units};
-ghost use Rattle.logged_machine.specs.PartsLifeLogged.{IsLogged};
-ghost use Rattle.logged_machine.specs.Opened.{OpensOn};
-ghost use Rattle.openings.specs.Opened.{KeepsBy, Refuses};
+ghost use Rattle.logged_machine.specs.LoggedParts.{IsLogged};
+ghost use Rattle.logged_machine.specs.MachineOpening.{OpensOn};
+ghost use Rattle.openings.specs.LifeBeginning.{KeepsBy, Refuses};
 
 use crate::beginning::begin;
 use crate::looking::look;

@@ -1,7 +1,7 @@
 //! Checkpoints.
 ghost use Rattle.std.specs.Prelude.{◌≡◌, true, OnOk, IfErr};
-ghost use Rattle.journal.specs.Counted.{IsCounted};
-ghost use Rattle.logged_machine.specs.Doing.{Refreshed, Unrefreshed, is_memory};
+ghost use Rattle.journal.specs.CountRanges.{AreCountsInRange};
+ghost use Rattle.logged_machine.specs.Attempts.{Refreshed, Unrefreshed, is_memory};
 
 use crate::checkpoint;
 use crate::logged::LoggedMachine;
@@ -12,7 +12,7 @@ impl<D: Disk> LoggedMachine<D> {
     /// Takes a checkpoint. The machine stands where it stood, and no slot counts as changed.
     pub(crate) fn refresh(&mut self) -> Result<(), ControlFault>
         requires served { self.old.served ≡ true }
-        requires counted { IsCounted 0 self.old.machine.moment.lasting self.old.next_unit self.old.journal }
+        requires counted { AreCountsInRange 0 self.old.machine.moment.lasting self.old.next_unit self.old.journal }
         ensures done { OnOk result (Refreshed D.state self.old self.new) }
         ensures fault { IfErr result (Unrefreshed D.state self.old self.new) }
     {

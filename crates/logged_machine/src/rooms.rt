@@ -1,12 +1,12 @@
 //! Room in the log.
-ghost use Rattle.journal.specs.State.{TellsAllRoom};
-ghost use Rattle.logged_machine.specs.Telling.{HasRoom, IsAllBut, StayFree};
+ghost use Rattle.journal.specs.JournalDisk.{TellsAllRoom};
+ghost use Rattle.logged_machine.specs.RecordsBehindLog.{HasRoomInArea, IsAllBut, StayFree};
 
 use journal::Journal;
 
 /// How many bytes may be appended before a checkpoint is due.
 pub fn room_left(journal: &Journal) -> usize
-    ensures room { HasRoom result journal.now.log }
+    ensures room { HasRoomInArea result journal.now.log }
     ensures all { IsAllBut result journal.now.log }
     ensures kept { StayFree result journal.now.log }
 {
@@ -19,7 +19,7 @@ pub fn room_left(journal: &Journal) -> usize
 
 /// How many bytes may be appended at all.
 pub fn all_room(journal: &Journal) -> usize
-    ensures room { HasRoom result journal.now.log }
+    ensures room { HasRoomInArea result journal.now.log }
     ensures all { TellsAllRoom journal.now.log result }
 {
     journal.all_room() as usize

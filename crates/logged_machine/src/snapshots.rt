@@ -3,14 +3,14 @@ ghost use Rattle.std.specs.Prelude.{◌≡◌, [], length, map, nat_lt, if◌the
 ghost use Rattle.std.specs.List.{AllByRecursion};
 ghost use Rattle.disk_law.specs.Life.{LifeOnDisk};
 ghost use Rattle.model_machine.specs.Machine.{IsRegion};
-ghost use Rattle.journal.specs.Units.{insert_unit, numbered, units_open};
-ghost use Rattle.program_rows.specs.OnSlots.{touched_in};
-ghost use Rattle.checkpointing.specs.Records.{snapshot_records};
-ghost use Rattle.checkpointing.specs.Spelled.{Adds, IsWritable};
-ghost use Rattle.checkpointing.specs.Touches.{AreAllSpelled, HasOneSector, changes_of};
-ghost use Rattle.tm_machine.specs.OnSlots.{slots_now};
-ghost use Rattle.logged_machine.specs.Carried.{IsCarried};
-ghost use Rattle.logged_machine.specs.Taking.{IsSnapshot};
+ghost use Rattle.journal.specs.NumberedUnits.{insert_unit, numbered_unit, units_open};
+ghost use Rattle.program_rows.specs.SlotsState.{touched_in};
+ghost use Rattle.checkpointing.specs.SnapshotRecords.{snapshot_records};
+ghost use Rattle.checkpointing.specs.SpelledRecords.{AddsSpelled, IsWritable};
+ghost use Rattle.checkpointing.specs.Touches.{AreAllSpelled, HasOneSector, changes_of_units};
+ghost use Rattle.tm_machine.specs.SlotChanges.{slots_now};
+ghost use Rattle.logged_machine.specs.CarriedParts.{IsCarried};
+ghost use Rattle.logged_machine.specs.UntakenCheckpoint.{IsSnapshot};
 
 use checkpointing::{OpenUnit, SnapshotView, write};
 use journal::insert;
@@ -39,7 +39,7 @@ pub fn snapshot(
 /// The open units of the regions, by their numbers.
 fn units_of<'a>(alloc: Global, parts: &'a Parts, units: &[u64]) -> Result<Vec<OpenUnit<'a>>, Memory>
     requires counted { length units.now ≡ length parts.now.system.regions }
-    ensures { IfOk result (λ opened. map numbered opened.items ≡ units_open units.entry.now (slots_now parts.entry.now).touched) }
+    ensures { IfOk result (λ opened. map numbered_unit opened.items ≡ units_open units.entry.now (slots_now parts.entry.now).touched) }
 {
     let _stores = parts.stores();
     let mut opened = Vec::new(alloc);
@@ -60,7 +60,7 @@ fn add_unit<'a>(
     opened: &mut Vec<OpenUnit<'a>>,
 ) -> Result<(), Memory>
     requires { IsRegion parts.now.system region }
-    ensures { OnOk result (map numbered opened.new.items ≡ (if nat_lt 0 number then insert_unit (number, touched_in region (slots_now parts.entry.now)) (map numbered opened.old.items) else map numbered opened.old.items)) }
+    ensures { OnOk result (map numbered_unit opened.new.items ≡ (if nat_lt 0 number then insert_unit (number, touched_in region (slots_now parts.entry.now)) (map numbered_unit opened.old.items) else map numbered_unit opened.old.items)) }
 {
     if number == 0 {
         return Ok(());
@@ -81,7 +81,7 @@ fn spell(
     requires writable { IsWritable (record parts.now.moment.lasting { rows = [] }) }
     requires spelled { AreAllSpelled (slots_now parts.now).stores opened.now }
     requires one_sector { AllByRecursion HasOneSector (slots_now parts.now).stores }
-    ensures { IfOk result (λ bytes. Adds (snapshot_records number next_unit parts.entry.now.moment.lasting (changes_of (slots_now parts.entry.now).stores opened.entry.now)) [] bytes.items) }
+    ensures { IfOk result (λ bytes. AddsSpelled (snapshot_records number next_unit parts.entry.now.moment.lasting (changes_of_units (slots_now parts.entry.now).stores opened.entry.now)) [] bytes.items) }
 {
     write(
         alloc,

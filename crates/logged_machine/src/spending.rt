@@ -1,6 +1,6 @@
 //! Counters that are spent.
 ghost use Rattle.std.specs.Prelude.{◌≡◌, true};
-ghost use Rattle.logged_machine.specs.Logged.{LastsNow, spent_now};
+ghost use Rattle.logged_machine.specs.LoggedState.{LastsNow, machine_spent_now};
 
 use crate::logged::LoggedMachine;
 use model_machine::Counter;
@@ -11,7 +11,7 @@ impl<D: Disk> LoggedMachine<D> {
     /// The first counter that stands at its limit.
     pub fn spent(&self) -> Option<Counter>
         requires served { self.now.served ≡ true }
-        ensures value { result ≡ spent_now self.now }
+        ensures value { result ≡ machine_spent_now self.now }
         ensures lasts { LastsNow D.state self.now }
     {
         let _served = self.is_served();

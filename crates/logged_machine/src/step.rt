@@ -2,14 +2,14 @@
 ghost use Rattle.std.specs.Prelude.{◌≡◌, ◌<◌, ◌≤◌, ◌*◌, length, true, None, IfErr, IfOk, OnErr, OnOk};
 ghost use Rattle.model_machine.specs.History.{IsCall};
 ghost use Rattle.openings.specs.Faults.{fault_in};
-ghost use Rattle.lasting_state.specs.Untold.{WhereFull};
-ghost use Rattle.journal.specs.Counted.{IsCounted};
-ghost use Rattle.logged_machine.specs.Calls.{IsWithin, own_bytes};
-ghost use Rattle.logged_machine.specs.Telling.{HasRoom};
-ghost use Rattle.logged_machine.specs.Logged.{LastsNow, spent_now};
-ghost use Rattle.logged_machine.specs.Goes.{Keeps, GoesBy, CrashesBy};
-ghost use Rattle.logged_machine.specs.Doing.{CountsSince, Done, DoneFrugally, Tried};
-ghost use Rattle.logged_machine.specs.Frugal.{IsFrugal, Raises};
+ghost use Rattle.lasting_state.specs.UntoldSteps.{WhereFull};
+ghost use Rattle.journal.specs.CountRanges.{AreCountsInRange};
+ghost use Rattle.logged_machine.specs.ToldCalls.{IsCallWithin, own_bytes};
+ghost use Rattle.logged_machine.specs.RecordsBehindLog.{HasRoomInArea};
+ghost use Rattle.logged_machine.specs.LoggedState.{LastsNow, machine_spent_now};
+ghost use Rattle.logged_machine.specs.CallOutcome.{KeepsMachine, MachineGoesBy, CrashesBy};
+ghost use Rattle.logged_machine.specs.Attempts.{CountsSince, Done, DoneFrugally, Tried};
+ghost use Rattle.logged_machine.specs.CheckpointDue.{TakesCheckpointWhereDue, Raises};
 
 use crate::forcing::force;
 use crate::logged::LoggedMachine;
@@ -24,13 +24,13 @@ impl<D: Disk> LoggedMachine<D> {
     pub fn serve<C: DueCall>(&mut self, call: &C) -> C::Answer
         requires call { IsCall self.old.machine.system (C.call call.now) }
         requires served { self.old.served ≡ true }
-        requires unspent { spent_now self.old ≡ None }
-        ensures goes { GoesBy D.state (fault_in (C.entry call.now result)) self.old self.new (C.entry call.now result) }
+        requires unspent { machine_spent_now self.old ≡ None }
+        ensures goes { MachineGoesBy D.state (fault_in (C.entry call.now result)) self.old self.new (C.entry call.now result) }
         ensures crash { CrashesBy D.state (fault_in (C.entry call.now result)) self.old self.new (C.entry call.now result) }
         ensures lasts { LastsNow D.state self.new }
-        ensures keeps { Keeps D.state self.old self.new }
+        ensures keeps { KeepsMachine D.state self.old self.new }
         ensures counts { CountsSince D.state (2 * self.old.machine.system.logs) self.old self.new }
-        ensures frugal { IsFrugal D.state (fault_in (C.entry call.now result)) self.old.machine self.old.units (C.call call.now) self.old.journal self.new.journal self.old.disk self.new.disk }
+        ensures frugal { TakesCheckpointWhereDue D.state (fault_in (C.entry call.now result)) self.old.machine self.old.units (C.call call.now) self.old.journal self.new.journal self.old.disk self.new.disk }
         ensures raises { self.new.served ≡ true → Raises (2 * self.old.machine.system.logs) self.old.journal self.new.journal self.old.next_unit self.new.next_unit }
     {
         let _before = self.is_served();
@@ -43,7 +43,7 @@ impl<D: Disk> LoggedMachine<D> {
     fn serve_any<C: DueCall>(&mut self, call: &C) -> C::Answer
         requires call { IsCall self.old.machine.system (C.call call.now) }
         requires served { self.old.served ≡ true }
-        requires counted { IsCounted 0 self.old.machine.moment.lasting self.old.next_unit self.old.journal }
+        requires counted { AreCountsInRange 0 self.old.machine.moment.lasting self.old.next_unit self.old.journal }
         ensures did { DoneFrugally D.state (fault_in (C.entry call.now result)) self.old self.new (C.entry call.now result) }
     {
         if !call.is_within() {
@@ -60,9 +60,9 @@ impl<D: Disk> LoggedMachine<D> {
     /// The same behind a checkpoint.
     fn serve_behind<C: DueCall>(&mut self, call: &C) -> C::Answer
         requires call { IsCall self.old.machine.system (C.call call.now) }
-        requires within { IsWithin (C.call call.now) }
+        requires within { IsCallWithin (C.call call.now) }
         requires served { self.old.served ≡ true }
-        requires counted { IsCounted 0 self.old.machine.moment.lasting self.old.next_unit self.old.journal }
+        requires counted { AreCountsInRange 0 self.old.machine.moment.lasting self.old.next_unit self.old.journal }
         ensures did { Done D.state (fault_in (C.entry call.now result)) self.old self.new (C.entry call.now result) }
     {
         let done = call.due(
@@ -91,10 +91,10 @@ impl<D: Disk> LoggedMachine<D> {
     /// One attempt, with so much room for records.
     fn serve_once<C: DueCall>(&mut self, call: &C, room: usize) -> Result<C::Answer, Untold>
         requires call { IsCall self.old.machine.system (C.call call.now) }
-        requires within { IsWithin (C.call call.now) }
+        requires within { IsCallWithin (C.call call.now) }
         requires served { self.old.served ≡ true }
-        requires counted { IsCounted 4294967296 self.old.machine.moment.lasting self.old.next_unit self.old.journal }
-        requires room { HasRoom room self.old.journal.log }
+        requires counted { AreCountsInRange 4294967296 self.old.machine.moment.lasting self.old.next_unit self.old.journal }
+        requires room { HasRoomInArea room self.old.journal.log }
         ensures did { IfOk result (λ answer. Tried D.state (fault_in (C.entry call.now answer)) self.old self.new (C.entry call.now answer)) }
         ensures same { OnErr result (self.new ≡ self.old) }
         ensures fits { OnOk result (length (own_bytes self.old.machine self.old.units (C.call call.now)) ≤ room) }

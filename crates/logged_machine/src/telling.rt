@@ -1,10 +1,10 @@
 //! A call of the machine whose records are told behind what was appended to the log.
 ghost use Rattle.std.specs.Prelude.{◌≡◌, ◌<◌, ◌≤◌, length, IfErr, IfOk, OnErr, OnOk};
 ghost use Rattle.model_machine.specs.History.{IsCall};
-ghost use Rattle.lasting_state.specs.Untold.{WhereFull};
-ghost use Rattle.tm_machine.specs.OnSlots.{HasSlots};
-ghost use Rattle.logged_machine.specs.Calls.{Does, own_bytes, own_records};
-ghost use Rattle.logged_machine.specs.Telling.{Appends, HasRoom};
+ghost use Rattle.lasting_state.specs.UntoldSteps.{WhereFull};
+ghost use Rattle.tm_machine.specs.SlotChanges.{HasSlots};
+ghost use Rattle.logged_machine.specs.ToldCalls.{DoesCall, own_bytes, own_records};
+ghost use Rattle.logged_machine.specs.RecordsBehindLog.{Appends, HasRoomInArea};
 
 use crate::bytes::see_bytes;
 use crate::call::Call;
@@ -24,8 +24,8 @@ pub fn tell<C: Call>(
     room: usize,
 ) -> Result<C::Answer, Untold>
     requires call { IsCall parts.old.system (C.call call.now) }
-    requires room { HasRoom room journal.old.log }
-    ensures does { IfOk result (λ answer. Does units.now (C.entry call.now answer) parts.old parts.new) }
+    requires room { HasRoomInArea room journal.old.log }
+    ensures does { IfOk result (λ answer. DoesCall units.now (C.entry call.now answer) parts.old parts.new) }
     ensures told { OnOk result (Appends (own_records parts.old units.now (C.call call.now)) journal.old journal.new) }
     ensures fits { OnOk result (length (own_bytes parts.old units.now (C.call call.now)) ≤ room) }
     ensures full { IfErr result (WhereFull (room < length (own_bytes parts.old units.now (C.call call.now)))) }

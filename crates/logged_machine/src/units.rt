@@ -1,13 +1,13 @@
 //! The numbers of the regions' units.
 ghost use Rattle.std.specs.Prelude.{◌≡◌, ◌+◌, ◌-◌, ◌<◌, ◌^◌, drop, slice_set};
-ghost use Rattle.journal.specs.Turning.{unit_of, with_unit, without_units, units_after, next_after};
+ghost use Rattle.journal.specs.UnitNumbers.{unit_of_region, with_unit, without_units, units_after, next_after};
 
 use model_data::Victim;
 use model_machine::Turned;
 
 /// The number of a region's unit.
 pub fn unit_of(units: &[u64], region: u32) -> u64
-    ensures { result ≡ unit_of units.now region }
+    ensures { result ≡ unit_of_region units.now region }
 {
     match units.get(region.saturating_sub(1) as usize) {
         Some(unit) => *unit,

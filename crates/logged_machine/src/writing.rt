@@ -2,17 +2,17 @@
 ghost use Rattle.std.specs.Prelude.{◌≡◌, ◌+◌, List, ℕ, OnOk, OnErr, IfErr};
 ghost use Rattle.tm_disk.specs.Disk.{Stays, Within, WritesAtMost, Only, FailedSince};
 ghost use Rattle.checkpointing.specs.Checkpoint.{KeepsRecovery};
-ghost use Rattle.checkpointing.specs.Parts.{next_restart, next_writer};
-ghost use Rattle.checkpointing.specs.Texts.{KeepsText};
+ghost use Rattle.checkpointing.specs.CheckpointParts.{next_restart, next_writer};
+ghost use Rattle.checkpointing.specs.DefinitionText.{KeepsText};
 ghost use Rattle.checkpointing.specs.Counts.{CountsUpTo};
-ghost use Rattle.checkpointing.specs.Steps.{Takes};
-ghost use Rattle.disk_law.specs.Counted.{StandsUpTo};
-ghost use Rattle.journal.specs.Checkpoints.{CanCheckpoint, parts_for};
-ghost use Rattle.program_rows.specs.OnSlots.{all_stores};
-ghost use Rattle.tm_machine.specs.OnSlots.{slots_now};
-ghost use Rattle.journal.specs.Counted.{IsCounted};
-ghost use Rattle.logged_machine.specs.PartsLifeLogged.{IsLogged};
-ghost use Rattle.logged_machine.specs.Taking.{IsSnapshot, TakesNext, Untaken, checkpoint_sectors, settled_parts};
+ghost use Rattle.checkpointing.specs.CheckpointSteps.{Takes};
+ghost use Rattle.disk_law.specs.UnitCounts.{StandsUpTo};
+ghost use Rattle.journal.specs.CheckpointFor.{CanCheckpoint, parts_for};
+ghost use Rattle.program_rows.specs.SlotsState.{slots_stores};
+ghost use Rattle.tm_machine.specs.SlotChanges.{slots_now};
+ghost use Rattle.journal.specs.CountRanges.{AreCountsInRange};
+ghost use Rattle.logged_machine.specs.LoggedParts.{IsLogged};
+ghost use Rattle.logged_machine.specs.UntakenCheckpoint.{IsSnapshot, TakesNext, Untaken, checkpoint_sectors, settled_parts};
 
 use crate::snapshots::snapshot;
 use journal::Journal;
@@ -32,7 +32,7 @@ pub fn checkpoint<D: Disk>(
     next_unit: u64,
 ) -> Result<(), ControlFault>
     requires logged { (text : List ℕ) × IsLogged parts.old units.now next_unit journal.old text (D.state disk.old) }
-    requires counted { IsCounted 0 parts.old.moment.lasting next_unit journal.old }
+    requires counted { AreCountsInRange 0 parts.old.moment.lasting next_unit journal.old }
     ensures system { parts.new.system ≡ parts.old.system }
     ensures moment { parts.new.moment ≡ parts.old.moment }
     ensures settled { OnOk result (parts.new ≡ settled_parts parts.old) }
@@ -68,15 +68,15 @@ fn take<D: Disk>(
     disk: &mut D,
     bytes: &[u8],
 ) -> Result<(), DiskFault>
-    requires can { CanCheckpoint parts.old.system journal.old (all_stores (slots_now parts.old)) bytes.now (D.state disk.old) }
+    requires can { CanCheckpoint parts.old.system journal.old (slots_stores (slots_now parts.old)) bytes.now (D.state disk.old) }
     ensures system { parts.new.system ≡ parts.old.system }
     ensures moment { parts.new.moment ≡ parts.old.moment }
     ensures settled { OnOk result (parts.new ≡ settled_parts parts.old) }
-    ensures logged { OnOk result ((text units : List ℕ) → (next : ℕ) → IsLogged parts.old units next journal.old text (D.state disk.old) → IsCounted 0 parts.old.moment.lasting next journal.old → IsSnapshot parts.old units next (journal.old.restart.checkpoint + 1) bytes.entry.now → IsLogged parts.new units next journal.new text (D.state disk.new)) }
+    ensures logged { OnOk result ((text units : List ℕ) → (next : ℕ) → IsLogged parts.old units next journal.old text (D.state disk.old) → AreCountsInRange 0 parts.old.moment.lasting next journal.old → IsSnapshot parts.old units next (journal.old.restart.checkpoint + 1) bytes.entry.now → IsLogged parts.new units next journal.new text (D.state disk.new)) }
     ensures stays { Stays (D.state disk.old) (D.state disk.new) }
     ensures any_moment { Within (KeepsRecovery parts.old.system) (D.state disk.old) (D.state disk.new) }
     ensures texts { Within (KeepsText parts.old.system) (D.state disk.old) (D.state disk.new) }
-    ensures steps { Within (Takes (parts_for parts.old.system journal.old.restart bytes.entry.now) journal.old.log (all_stores (slots_now parts.old))) (D.state disk.old) (D.state disk.new) }
+    ensures steps { Within (Takes (parts_for parts.old.system journal.old.restart bytes.entry.now) journal.old.log (slots_stores (slots_now parts.old))) (D.state disk.old) (D.state disk.new) }
     ensures restart { OnOk result (journal.new.restart ≡ next_restart (parts_for parts.old.system journal.old.restart bytes.entry.now) journal.old.log) }
     ensures log { OnOk result (journal.new.log ≡ next_writer (parts_for parts.old.system journal.old.restart bytes.entry.now) journal.old.log) }
     ensures synced { OnOk result (Only (D.state disk.new).shown (D.state disk.new)) }

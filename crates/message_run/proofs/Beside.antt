@@ -11,20 +11,20 @@ use Rattle.model_system.specs.declared.need.Need.{Need}
 use Rattle.model_system.specs.declared.need.Need.TheVariants.{Call, Ended, Abend}
 use Rattle.model_data.specs.declared.need.Need.{Need as RootNeed}
 use Rattle.model_data.specs.Data.{Data}
-use Rattle.script_run.specs.Running.{HasTexts}
+use Rattle.script_run.specs.RunningScript.{HasTexts}
 use Rattle.model_system.specs.Jobs.{Job}
 use Rattle.model_data.specs.declared.request.Holder.{Holder}
 use Rattle.model_data.specs.declared.request.Request.{Request}
-use Rattle.model_data.specs.Modes.{serves}
+use Rattle.model_data.specs.Modes.{mode_serves}
 use Rattle.model_data.specs.Table.{EnqueueTable, holds_of, is_asker}
-use Rattle.model_data.specs.Ask.{released}
-use Rattle.model_machine.specs.Trial.{Given, Reached, Trial, trial_of, trial_need, reached}
+use Rattle.model_data.specs.EnqueueRequests.{released}
+use Rattle.model_machine.specs.Trial.{Given, Reached, Trial, trial_of, trial_need, pcb_reached}
 use Rattle.model_machine.specs.Trial.Reached.{Messages, Rows, Nothing}
 use Rattle.model_machine.specs.Requests.{asked_before, asked_behind, request_for, requests_at, requests_by}
-use Rattle.system_types.specs.Valid.{IsServable}
-use Rattle.program_rows.specs.State.{DatabasesState, AreRowsOf, committed_rows, dbds_of, region_at, rows_of, with_records_from}
-use Rattle.program_rows.specs.Answering.{IsBeside}
-use Rattle.message_run.specs.Ahead.{IsAhead, IsHeld, needs_before}
+use Rattle.system_types.specs.ValidSystem.{IsServable}
+use Rattle.program_rows.specs.DatabasesState.{DatabasesState, AreRowsOf, committed_rows, dbds_of, region_at, rows_of_stores, with_records_from}
+use Rattle.program_rows.specs.CallAnswers.{IsBeside}
+use Rattle.message_run.specs.WorkAhead.{IsAhead, IsHeld, needs_before}
 use Rattle.message_run.specs.RunState.{RunState}
 use Rattle.message_run.proofs.Trials.{gives_again}
 
@@ -40,7 +40,7 @@ at_region region (Rows target) d call = map_region region target.number _
 at_region region Nothing d call = All-nil (λ (r : Request). r.region ≡ region)
 
 by_region : (region : ℕ) (job : Job) (trial : Trial) (need : Need) → All (λ (r : Request). r.region ≡ region) (requests_by region job trial need)
-by_region region job trial (Call call) = at_region region (reached job.system.databases job.pcbs call.pcb) trial.databases call
+by_region region job trial (Call call) = at_region region (pcb_reached job.system.databases job.pcbs call.pcb) trial.databases call
 by_region region job trial Ended = All-nil (λ (r : Request). r.region ≡ region)
 by_region region job trial (Abend code) = All-nil (λ (r : Request). r.region ≡ region)
 
@@ -58,7 +58,7 @@ asked_region region job rows given (suc calls) =
 -- a region that gives up all leaves what others hold
 pub released_keeps : (region : ℕ) (table : EnqueueTable) (r : Request) → (r.region ≡ region → ⊥) → IsHeld table r → IsHeld (released region table) r
 released_keeps region table r other held =
-    ap (λ m. option_map_or (λ mode. serves mode r.mode) m false)
+    ap (λ m. option_map_or (λ mode. mode_serves mode r.mode) m false)
     (lookup-filter-keys (is_asker r) (λ h. not (eqb h.region region)) true (λ h e. passes h (right_of (holds_of r.resource h) (eqb h.region r.region) e)) table.holds)
     ∙ held
   where
@@ -81,7 +81,7 @@ module _ (job : Job) (given : Given) (other : ℕ) (old new : DatabasesState) (r
   -- Where others go on or are backed out, what is committed stays, and so does what this region sees.
   pub kept : new.committed ≡ old.committed → region_at other new ≡ region_at other old → IsAhead job given other new run
   kept committed sees =
-      let rows : committed_rows new ≡ committed_rows old = ap rows_of committed in
+      let rows : committed_rows new ≡ committed_rows old = ap rows_of_stores committed in
       record {
         trial = ahead.trial;
         made = ap (λ rs. trial_of job rs given run.calls) rows ∙ ahead.made;

@@ -21,23 +21,23 @@ use Rattle.model_data.specs.declared.call.Position.{Position}
 use Rattle.model_data.specs.declared.call.RowsLimit.{RowsLimit}
 use Rattle.model_data.specs.declared.need.Need.{Need as RootNeed}
 use Rattle.model_data.specs.Conditions.{IsDbCall, IsPosition}
-use Rattle.model_data.specs.Data.{Data, abend_by, limit_abend, data_abend, data_after, is_changed, most_changed, nowhere, position_at, with_changed}
-use Rattle.model_data.specs.Dli.{DliResult}
+use Rattle.model_data.specs.Data.{Data, limit_abend_by, limit_abend, data_abend, data_after, is_root_changed, most_changed, nowhere, position_at, with_changed_root}
+use Rattle.model_data.specs.DatabaseCalls.{DliResult}
 use Rattle.model_data.specs.Footprint.{AgreeAt, AgreeOn, footprint}
 use Rattle.model_data.specs.declared.request.Holder.{Holder}
 use Rattle.model_data.specs.declared.request.Request.{Request}
-use Rattle.model_data.specs.Modes.{serves, same_resource}
+use Rattle.model_data.specs.Modes.{mode_serves, same_resource}
 use Rattle.model_data.specs.Table.{EnqueueTable, is_asker}
 use Rattle.model_machine.specs.Trial.{DbPcb, db_call, db_result}
 use Rattle.model_machine.specs.Requests.{request_for, database_requests}
-use Rattle.dli_calls.specs.Alike.{AreAlike, rows_changed}
+use Rattle.dli_calls.specs.AlikeCalls.{AreAlike, rows_changed}
 use Rattle.dli_calls.proofs.Same.{same_call}
 use Rattle.dli_calls.proofs.Front.{same_footprint}
 use Rattle.dli_calls.proofs.Kept.{rows_kept}
 use Rattle.dli_calls.proofs.Stands.{position_kept}
-use Rattle.program_rows.specs.State.{AreRowsOf, rows_in, with_records_from}
+use Rattle.program_rows.specs.DatabasesState.{AreRowsOf, database_rows_in, with_records_from}
 use Rattle.program_rows.specs.Isolation.{AgreeOnHeld}
-use Rattle.message_run.specs.Ahead.{IsHeld}
+use Rattle.message_run.specs.WorkAhead.{IsHeld}
 use Rattle.message_run.specs.RunState.{AreStanding}
 use Rattle.message_run.proofs.Standing.{one_stands}
 use Rattle.message_run.proofs.Overlays.{all_alike, put_changed}
@@ -56,13 +56,13 @@ pub record StandOn (dbds : List Dbd) (pcbs : List Pcb) (a b : List (List Row)) (
 
 -- ---- what is held
 -- what a region holds in a mode it holds
-served_holds : (r : Request) (held : List (Holder × Mode)) → IsTrue (option_map_or (λ mode. serves mode r.mode) (lookup (is_asker r) held) false)
+served_holds : (r : Request) (held : List (Holder × Mode)) → IsTrue (option_map_or (λ mode. mode_serves mode r.mode) (lookup (is_asker r) held) false)
     → IsTrue (list_any (λ hold. same_resource hold.0.resource r.resource && (hold.0.region == r.region)) held)
 served_holds r [] h = absurd (false≢true h)
 served_holds r (hold ∷ held) h = by (is_asker r hold.0) h (served_holds r held)
   where
-    by : (t : Bool) → IsTrue (option_map_or (λ mode. serves mode r.mode) (cond t (Some hold.1) (lookup (is_asker r) held)) false)
-        → (IsTrue (option_map_or (λ mode. serves mode r.mode) (lookup (is_asker r) held) false) → IsTrue (list_any (λ k. same_resource k.0.resource r.resource && (k.0.region == r.region)) held))
+    by : (t : Bool) → IsTrue (option_map_or (λ mode. mode_serves mode r.mode) (cond t (Some hold.1) (lookup (is_asker r) held)) false)
+        → (IsTrue (option_map_or (λ mode. mode_serves mode r.mode) (lookup (is_asker r) held) false) → IsTrue (list_any (λ k. same_resource k.0.resource r.resource && (k.0.region == r.region)) held))
         → IsTrue (t || list_any (λ k. same_resource k.0.resource r.resource && (k.0.region == r.region)) held)
     by true g rec = refl
     by false g rec = rec g
@@ -71,10 +71,10 @@ served_holds r (hold ∷ held) h = by (is_asker r hold.0) h (served_holds r held
 agree_on : (table : EnqueueTable) (region number : ℕ) (a b : List (List Row)) (d : Data) → length a ≡ length b → AgreeOnHeld table region a b
     → d.rows ≡ with_records_from d.changed d.rows a
     → (needs : List RootNeed) → All (IsHeld table) (map (request_for region number) needs)
-    → AgreeOn needs (rows_in number d.rows) (rows_in number (with_records_from d.changed d.rows b))
+    → AgreeOn needs (database_rows_in number d.rows) (database_rows_in number (with_records_from d.changed d.rows b))
 agree_on table region number a b d size agree own [] held = tt
 agree_on table region number a b d size agree own (need ∷ needs) held = (
-  subst (λ rows. AgreeAt need.root (rows_in number rows) (rows_in number (with_records_from d.changed d.rows b))) (sym own)
+  subst (λ rows. AgreeAt need.root (database_rows_in number rows) (database_rows_in number (with_records_from d.changed d.rows b))) (sym own)
       (all_alike number need.root d.changed d.rows a b size
       (agree number need.root (served_holds (request_for region number need) table.holds (All-head (IsHeld table) (request_for region number need) (map (request_for region number) needs) held)))),
   agree_on table region number a b d size agree own needs (All-tail (IsHeld table) (request_for region number need) (map (request_for region number) needs) held),
@@ -83,12 +83,12 @@ agree_on table region number a b d size agree own (need ∷ needs) held = (
 -- ---- what is changed
 -- A call without an abend changes just the record that it names.
 named : (number : ℕ) (changed : List (ℕ × List ℕ)) (root : Option (List ℕ)) (refusal : Option RowsLimit) (change : Option (List ℕ × List Row))
-    → abend_by number changed root refusal ≡ None → (refusal ≡ None → root ≡ option_map (λ c. c.0) change) → IfSome change (λ c. root ≡ Some c.0)
+    → limit_abend_by number changed root refusal ≡ None → (refusal ≡ None → root ≡ option_map (λ c. c.0) change) → IfSome change (λ c. root ≡ Some c.0)
     → root ≡ option_map (λ c. c.0) change
 named number changed None refusal None e whole names = refl
 named number changed None refusal (Some c) e whole names = absurd (cc)
 named number changed (Some root) None change e whole names = whole refl
-named number changed (Some root) (Some limit) change e whole names = absurd (by (not (is_changed number root changed) && nat_le most_changed (length changed)) e)
+named number changed (Some root) (Some limit) change e whole names = absurd (by (not (is_root_changed number root changed) && nat_le most_changed (length changed)) e)
   where
     by : (t : Bool) → cond t (Some (record { number = 900 })) (Some (limit_abend limit)) ≡ None → ⊥
     by true f = absurd (cc)
@@ -97,8 +97,8 @@ named number changed (Some root) (Some limit) change e whole names = absurd (by 
 -- a change put over rows that stand beneath other changes
 put_change : (number : ℕ) (changed : List (ℕ × List ℕ)) (from rows : List (List Row)) (dbd : Dbd) (change : Option (List ℕ × List Row)) → IfSome change (λ c. IsUnder dbd.types c.0 c.1)
     → number - 1 < length from → number - 1 < length rows
-    → slice_set (with_records_from changed from rows) (number - 1) (rows_changed change (rows_in number (with_records_from changed from rows)))
-    ≡ with_records_from (with_changed number (option_map (λ c. c.0) change) changed) (slice_set from (number - 1) (rows_changed change (rows_in number from))) rows
+    → slice_set (with_records_from changed from rows) (number - 1) (rows_changed change (database_rows_in number (with_records_from changed from rows)))
+    ≡ with_records_from (with_changed_root number (option_map (λ c. c.0) change) changed) (slice_set from (number - 1) (rows_changed change (database_rows_in number from))) rows
 put_change number changed from rows dbd None under there_from there =
     set-get_or (with_records_from changed from rows) (number - 1) []
     ∙ sym (ap (λ f. with_records_from changed f rows) (set-get_or from (number - 1) []))
@@ -152,10 +152,10 @@ module _ (dbds : List Dbd) (pcbs : List Pcb) (a b : List (List Row)) (size : len
   y = db_result target (over b d) call
 
   abbrev rows_a : List Row
-  rows_a = rows_in target.number d.rows
+  rows_a = database_rows_in target.number d.rows
 
   abbrev rows_b : List Row
-  rows_b = rows_in target.number (with_records_from d.changed d.rows b)
+  rows_b = database_rows_in target.number (with_records_from d.changed d.rows b)
 
   position : IsPosition target.dbd.types (position_at d call.pcb)
   position = stands_at dbds pcbs d.positions (call.pcb - 1) target.number target.options target.dbd stand.standing kind at
@@ -180,7 +180,7 @@ module _ (dbds : List Dbd) (pcbs : List Pcb) (a b : List (List Row)) (size : len
     same_answer = λ i. record { status = sym alike.status i; area = sym alike.area i }
 
     pub same_abend : data_abend target.number (over b d) y ≡ data_abend target.number d x
-    same_abend = λ i. abend_by target.number d.changed (sym alike.changed i) (sym alike.refusal i)
+    same_abend = λ i. limit_abend_by target.number d.changed (sym alike.changed i) (sym alike.refusal i)
 
     module _ (goes_on : data_abend target.number d x ≡ None) where
       names : x.changed ≡ option_map (λ c. c.0) alike.change
@@ -192,14 +192,14 @@ module _ (dbds : List Dbd) (pcbs : List Pcb) (a b : List (List Row)) (size : len
       abbrev new : List (List Row)
       new = slice_set d.rows (target.number - 1) x.rows
 
-      put_on : (rows : List (List Row)) → length rows ≡ length dbds → (result : List Row) → result ≡ rows_changed alike.change (rows_in target.number (with_records_from d.changed d.rows rows))
-          → slice_set (with_records_from d.changed d.rows rows) (target.number - 1) result ≡ with_records_from (with_changed target.number x.changed d.changed) new rows
+      put_on : (rows : List (List Row)) → length rows ≡ length dbds → (result : List Row) → result ≡ rows_changed alike.change (database_rows_in target.number (with_records_from d.changed d.rows rows))
+          → slice_set (with_records_from d.changed d.rows rows) (target.number - 1) result ≡ with_records_from (with_changed_root target.number x.changed d.changed) new rows
       put_on rows e result is =
           ap (slice_set (with_records_from d.changed d.rows rows) (target.number - 1)) is
           ∙ (put_change target.number d.changed d.rows rows target.dbd alike.change alike.under (there d.rows stand.rows.count) (there rows e)
-          ∙ (λ i. with_records_from (with_changed target.number (sym names i) d.changed) (slice_set d.rows (target.number - 1) (sym alike.rows_a i)) rows))
+          ∙ (λ i. with_records_from (with_changed_root target.number (sym names i) d.changed) (slice_set d.rows (target.number - 1) (sym alike.rows_a i)) rows))
 
-      over_b : slice_set (with_records_from d.changed d.rows b) (target.number - 1) y.rows ≡ with_records_from (with_changed target.number x.changed d.changed) new b
+      over_b : slice_set (with_records_from d.changed d.rows b) (target.number - 1) y.rows ≡ with_records_from (with_changed_root target.number x.changed d.changed) new b
       over_b = put_on b sized y.rows alike.rows_b
 
       -- it leaves the same changes over the rows beneath
@@ -207,13 +207,13 @@ module _ (dbds : List Dbd) (pcbs : List Pcb) (a b : List (List Row)) (size : len
       same_after = λ i. record {
         rows = over_b i;
         positions = slice_set d.positions (call.pcb - 1) (sym alike.position i);
-        changed = with_changed target.number (sym alike.changed i) d.changed;
+        changed = with_changed_root target.number (sym alike.changed i) d.changed;
       }
 
-      own_a : new ≡ with_records_from (with_changed target.number x.changed d.changed) new a
+      own_a : new ≡ with_records_from (with_changed_root target.number x.changed d.changed) new a
       own_a =
           ap (λ rows. slice_set rows (target.number - 1) x.rows) stand.own
-          ∙ put_on a (size ∙ sized) x.rows (alike.rows_a ∙ ap (λ rows. rows_changed alike.change (rows_in target.number rows)) stand.own)
+          ∙ put_on a (size ∙ sized) x.rows (alike.rows_a ∙ ap (λ rows. rows_changed alike.change (database_rows_in target.number rows)) stand.own)
 
       pub still_stands : StandOn dbds pcbs a b (data_after target.number call.pcb d x)
       still_stands = record {

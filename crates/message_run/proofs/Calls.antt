@@ -12,12 +12,12 @@ use Rattle.model_system.specs.declared.script_ssa.ScriptSsa.{ScriptSsa}
 use Rattle.model_system.specs.declared.statement.Statement.{Statement}
 use Rattle.model_system.specs.declared.statement.Statement.TheVariants.{Label, Set, Word, Cut, Pad, Add, Less, If, Goto, Call, Abend, End}
 use Rattle.model_system.specs.Arithmetic.{sum_text, difference_text}
-use Rattle.model_system.specs.Script.{ScriptState, Needs, call_ssa, call_text, counted, executed_by, step_by, need_of, need_at, settled, variable_text}
+use Rattle.model_system.specs.Script.{ScriptState, Needs, call_ssa, call_text, computed, executed_by, step_by, need_of, need_at, script_settled, variable_text}
 use Rattle.model_system.specs.declared.pcb.Pcb.{Pcb}
 use Rattle.model_system.specs.declared.pcb.Pcb.TheVariants.{Database, Destination, Modifiable}
 use Rattle.model_system.specs.Pcbs.{pcb_at}
 use Rattle.model_data.specs.Conditions.{AreSsasOf}
-use Rattle.system_types.specs.Valid.{IsServable, IsPcbOf, IsCallOn, IsDatabaseCall}
+use Rattle.system_types.specs.ValidSystem.{IsServable, IsPcbOf, IsCallOn, IsDatabaseCall}
 use Rattle.message_run.specs.RunState.{IsCallBy, IsCallOf}
 
 -- the call of a statement, with the texts of its variables
@@ -29,7 +29,7 @@ record CallsSo (statement : Statement) (state : ScriptState) (call : CallText) :
   is : statement ≡ Call function pcb area ssas
   text : call ≡ call_text state function pcb area ssas
 
-by_count : (state : ScriptState) (x : ℕ) (found : Option (List ℕ)) (statement : Statement) (call : CallText) → need_of (counted state x found) ≡ NeedsCall call → CallsSo statement state call
+by_count : (state : ScriptState) (x : ℕ) (found : Option (List ℕ)) (statement : Statement) (call : CallText) → need_of (computed state x found) ≡ NeedsCall call → CallsSo statement state call
 by_count state x (Some text) statement call e = absurd (cc)
 by_count state x None statement call e = absurd (cc)
 
@@ -60,15 +60,15 @@ record CallsAt (lines : List ScriptLine) (call : CallText) : Type 0 where
   so : CallsSo line.statement state call
 
 called_at : (lines : List ScriptLine) (limit : ℕ) (state : ScriptState) (call : CallText) → need_at lines limit state ≡ NeedsCall call → CallsAt lines call
-called_at lines limit state call e = by (slice_get lines (settled lines limit state).place) refl e
+called_at lines limit state call e = by (slice_get lines (script_settled lines limit state).place) refl e
   where
-    by : (found : Option ScriptLine) → slice_get lines (settled lines limit state).place ≡ found → need_of (step_by limit found (settled lines limit state)) ≡ NeedsCall call
+    by : (found : Option ScriptLine) → slice_get lines (script_settled lines limit state).place ≡ found → need_of (step_by limit found (script_settled lines limit state)) ≡ NeedsCall call
         → CallsAt lines call
     by (Some line) at f = record {
-      state = settled lines limit state;
+      state = script_settled lines limit state;
       line = line;
       at = at;
-      so = by_limit (nat_lt (settled lines limit state).executed limit) line.statement (settled lines limit state) call f;
+      so = by_limit (nat_lt (script_settled lines limit state).executed limit) line.statement (script_settled lines limit state) call f;
     }
     by None at f = absurd (cc)
 

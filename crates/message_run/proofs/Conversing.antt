@@ -14,9 +14,9 @@ use Rattle.model_system.specs.declared.need.Need.TheVariants.{Call, Ended, Abend
 use Rattle.model_system.specs.Jobs.{Job}
 use Rattle.model_system.specs.Lists.{change_at}
 use Rattle.model_system.specs.System.{System}
-use Rattle.model_messages.specs.Work.{MessageWork}
-use Rattle.model_messages.specs.Calls.{gives_back, is_blank, returned_pad, segment_status, segment_work, with_segment, work_by}
-use Rattle.model_machine.specs.Trial.{Given, Trial, Reached, outcome_at, reached, call_outcome, called, gone_on, unless_abend, is_sync, gone, advance, advance_by, trial_need, trial_of}
+use Rattle.model_messages.specs.MessageWork.{MessageWork}
+use Rattle.model_messages.specs.MessageCalls.{gives_back, is_blank, returned_pad, segment_status, segment_work, with_output_segment, message_work_by}
+use Rattle.model_machine.specs.Trial.{Given, Trial, Reached, outcome_at, pcb_reached, call_outcome, called_in_trial, trial_goes_on, unless_abend, is_sync, gone, advance, advance_by, trial_need, trial_of}
 use Rattle.model_machine.specs.Trial.Reached.{Messages, Rows, Nothing}
 use Rattle.model_machine.specs.Trial.Advance.{Stops}
 use Rattle.model_machine.specs.Trial.WorkEnd.{Syncs}
@@ -28,9 +28,9 @@ either of false x y one other = other
 segment_keeps : (work : MessageWork) (pcb : ℕ) (text : List ℕ) → (segment_work work pcb text).conversation ≡ work.conversation
 segment_keeps work pcb text =
     either work.conversation (is_blank (segment_status work pcb text))
-    (record work { inserted = work.inserted + 1; pcbs = change_at work.pcbs (Some pcb) (with_segment text) }) work refl refl
+    (record work { inserted = work.inserted + 1; pcbs = change_at work.pcbs (Some pcb) (with_output_segment text) }) work refl refl
 
-work_keeps : (function : Function) (system : System) (work : MessageWork) (pcb : ℕ) (text : List ℕ) → (work_by function system work pcb text).conversation ≡ work.conversation
+work_keeps : (function : Function) (system : System) (work : MessageWork) (pcb : ℕ) (text : List ℕ) → (message_work_by function system work pcb text).conversation ≡ work.conversation
 work_keeps GU system work pcb text = refl
 work_keeps GN system work pcb text = either work.conversation _ _ _ refl refl
 work_keeps GNP system work pcb text = refl
@@ -59,7 +59,7 @@ step_keeps job rows before one Ended goes = absurd (cc)
 step_keeps job rows before one (Abend code) goes = absurd (cc)
 step_keeps job rows before one (Call call) goes = by_sync (is_sync before.work call) goes
   where
-    by_abend : (o : Option AbendCode) → gone (unless_abend o (gone_on before call (call_outcome job rows before call))) ≡ Some one
+    by_abend : (o : Option AbendCode) → gone (unless_abend o (trial_goes_on before call (call_outcome job rows before call))) ≡ Some one
         → one.work.conversation ≡ before.work.conversation
     by_abend (Some abend) g = absurd (cc)
     by_abend None g =
@@ -71,9 +71,9 @@ step_keeps job rows before one (Call call) goes = by_sync (is_sync before.work c
         let some : Some next ≡ Some one = g in
         let same : next ≡ one = cc in
         sym (ap (λ (t : Trial). t.work.conversation) same)
-        ∙ outcome_keeps job.system rows (reached job.system.databases job.pcbs call.pcb) before.work before.databases call
+        ∙ outcome_keeps job.system rows (pcb_reached job.system.databases job.pcbs call.pcb) before.work before.databases call
 
-    by_sync : (t : Bool) → gone (if t then Stops Syncs else called before call (call_outcome job rows before call)) ≡ Some one
+    by_sync : (t : Bool) → gone (if t then Stops Syncs else called_in_trial before call (call_outcome job rows before call)) ≡ Some one
         → one.work.conversation ≡ before.work.conversation
     by_sync true g = absurd (cc)
     by_sync false g = by_abend (call_outcome job rows before call).abend g

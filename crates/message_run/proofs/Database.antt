@@ -18,27 +18,27 @@ use Rattle.model_data.specs.declared.call.DbCall.{DbCall}
 use Rattle.model_data.specs.declared.call.Position.{Position}
 use Rattle.model_data.specs.Conditions.{AreSsasOf, IsDbCall, IsPosition}
 use Rattle.model_data.specs.Data.{data_abend, nowhere, position_at}
-use Rattle.model_data.specs.Dli.{DliResult, dli}
+use Rattle.model_data.specs.DatabaseCalls.{DliResult, dli}
 use Rattle.model_data.specs.declared.request.Request.{Request}
-use Rattle.model_data.specs.Ask.{after_asks, first_blocked}
+use Rattle.model_data.specs.EnqueueRequests.{after_asks, first_blocked}
 use Rattle.model_machine.specs.Trial.{DbPcb, Outcome, Reached, Rows, Nothing, db_outcome, reached_by}
-use Rattle.program_rows.specs.State.{DatabasesState, IsRegionOf, data_of, region_at, rows_numbered}
+use Rattle.program_rows.specs.DatabasesState.{DatabasesState, IsRegionOf, data_of, region_at, rows_numbered}
 use Rattle.program_rows.specs.Isolation.{requests_of_call}
-use Rattle.program_rows.specs.Answering.{IsAnswer, region_after, told_blocked}
+use Rattle.program_rows.specs.CallAnswers.{IsAnswer, rows_after_call, told_blocked}
 use Rattle.program_rows.specs.declared.answer.Answered.{Answered as DataAnswered}
-use Rattle.system_types.specs.Valid.{IsDatabase}
+use Rattle.system_types.specs.ValidSystem.{IsDatabase}
 use Rattle.log_records.specs.declared.record.Record.{Record}
 use Rattle.log_records.specs.declared.untold.Untold.{Untold}
-use Rattle.program_rows.specs.OnSlots.{slots_in, CallsSo}
-use Rattle.log_records.specs.Telling.{Tells, IsUntold}
-use Rattle.program_rows.specs.Telling.{call_told}
-use Rattle.message_run.specs.Telling.{reach_told, TellsNext}
+use Rattle.program_rows.specs.SlotsState.{slots_state_of, CallsSo}
+use Rattle.log_records.specs.ToldRecords.{TellsInRoom, AreRecordsUntold}
+use Rattle.program_rows.specs.ToldChanges.{call_told}
+use Rattle.message_run.specs.MessageChanges.{reach_told, TellsNext}
 use Rattle.message_run.proofs.Calls.{all_at}
 use Rattle.message_run.proofs.Regions.{set_region}
 use Rattle.message_run.proofs.Standing.{one_stands}
 use Rattle.message_run.specs.RunState.{RunState, AreStanding, IsCallBy}
-use Rattle.script_run.specs.Running.{answered_machine}
-use Rattle.message_run.specs.Answering.{Answers, AreGranted, AreBlocked, outcome_of, requests_by_run, told_run}
+use Rattle.script_run.specs.RunningScript.{answered_machine}
+use Rattle.message_run.specs.CallOutcomes.{AnswersCall, AreGranted, AreBlocked, outcome_of, requests_by_run, told_run}
 
 -- the arguments of a call on a database that is there are in order
 pub is_db_call : (databases : List Dbd) (call : CallText) (number options : ℕ) (dbd : Dbd) → IsCallBy databases call (Some (Database number options))
@@ -150,10 +150,10 @@ module _ (system : System) (region : ℕ) (before : DatabasesState) (run : RunSt
   }
 
   pub answers : (after : DatabasesState) (given : DataAnswered) → IsRegionOf before region → abend_is ≡ None
-      → IsAnswer result given → after.regions ≡ slice_set before.regions (region - 1) (region_after number result (region_at region before))
-      → Answers region comes after run (told_run call.pcb given run) given.status
+      → IsAnswer result given → after.regions ≡ slice_set before.regions (region - 1) (rows_after_call number result (region_at region before))
+      → AnswersCall region comes after run (told_run call.pcb given run) given.status
   answers after given there goes answer left =
-      let seen = set_region before region there (region_after number result (region_at region before)) after left in
+      let seen = set_region before region there (rows_after_call number result (region_at region before)) after left in
       record {
         calls = refl;
         machine =
@@ -172,15 +172,15 @@ module _ (system : System) (region : ℕ) (before : DatabasesState) (run : RunSt
       sym (ap (λ (r : Reached). reach_told unit region before r (data_of region before run.positions) call) reaches_is
       ∙ ap (λ (p : Position). call_told unit region number dbd made p before) at_is)
 
-  pub tells_so : (unit room : ℕ) (after : DatabasesState) (old now : List ℕ) → Tells (call_told unit region number dbd made at before) room old now
-      → CallsSo unit region (slots_in before) (slots_in after) (call_told unit region number dbd made at before)
+  pub tells_so : (unit room : ℕ) (after : DatabasesState) (old now : List ℕ) → TellsInRoom (call_told unit region number dbd made at before) room old now
+      → CallsSo unit region (slots_state_of before) (slots_state_of after) (call_told unit region number dbd made at before)
       → TellsNext unit room region before after old now (reach_told unit region before reaches (data_of region before run.positions) call)
   tells_so unit room after old now tells slots =
       subst (λ (rs : List Record). TellsNext unit room region before after old now rs) (tells_are unit) (record { tells = tells; slots = slots })
 
-  pub untold_so : (unit room : ℕ) (error : Untold) → IsUntold (call_told unit region number dbd made at before) room error
-      → IsUntold (reach_told unit region before reaches (data_of region before run.positions) call) room error
-  untold_so unit room error u = subst (λ (rs : List Record). IsUntold rs room error) (tells_are unit) u
+  pub untold_so : (unit room : ℕ) (error : Untold) → AreRecordsUntold (call_told unit region number dbd made at before) room error
+      → AreRecordsUntold (reach_told unit region before reaches (data_of region before run.positions) call) room error
+  untold_so unit room error u = subst (λ (rs : List Record). AreRecordsUntold rs room error) (tells_are unit) u
 
 -- the PCB of an answered call stands at a position of its database, and the others as before
 pub told_stand : (databases : List Dbd) (pcbs : List Pcb) (old : RunState) (pcb number options : ℕ) (dbd : Dbd) (given : DataAnswered)

@@ -15,8 +15,9 @@ use Rattle.model_data.specs.Rows.{record_of, rows_before, rows_after, with_recor
 use Rattle.model_data.proofs.Order.{key_total}
 use Rattle.model_data.proofs.Lists.{all_then}
 use Rattle.model_data.proofs.Filters.{filter_all, filter_none, filter_within, filter_apart, filter_passes}
-use Rattle.model_data.proofs.Records.{HaveRoot, is_lt-true, is_gt-true, record_rooted, with_record_itself, with_record_other}
+use Rattle.model_data.proofs.Records.{HaveRoot, is_gt-true, record_rooted, with_record_itself, with_record_other}
 use Rattle.model_data.proofs.Roots.{roots_append}
+use Rattle.model_data.proofs.Reading.{is_lt-true}
 
 -- ---- filters
 -- filters in either order

@@ -12,46 +12,43 @@ use Rattle.model_system.specs.Script.{need_at}
 use Rattle.model_system.specs.declared.pcb.Pcb.{Pcb}
 use Rattle.model_system.specs.Jobs.{Job}
 use Rattle.model_system.specs.Pcbs.{pcb_at}
-use Rattle.model_messages.specs.Work.{MessageWork}
+use Rattle.model_messages.specs.MessageWork.{MessageWork}
 use Rattle.model_data.specs.Data.{Data}
-use Rattle.model_machine.specs.Trial.{Given, Trial, reached, reached_by, is_sync, is_get_unique}
+use Rattle.model_machine.specs.Trial.{Given, Trial, pcb_reached, reached_by, is_sync, is_get_unique}
 use Rattle.model_machine.specs.Trial.Reached.{Messages}
 use Rattle.seg_store.specs.Slots.{Stored}
-use Rattle.system_types.specs.Valid.{IsDatabase, IsSystem}
+use Rattle.system_types.specs.ValidSystem.{IsDatabase, IsSystem}
 use Rattle.model_system.specs.System.{System}
 use Rattle.log_records.specs.declared.record.Record.{Record}
 use Rattle.log_records.specs.declared.untold.Untold.{Untold}
-use Rattle.program_rows.specs.State.{DatabasesState, data_of}
-use Rattle.program_rows.specs.Answering.{told_blocked}
-use Rattle.log_records.specs.Telling.{spelled, Tells, IsUntold}
-use Rattle.program_rows.specs.Telling.{unless_stopped}
+use Rattle.program_rows.specs.DatabasesState.{DatabasesState, data_of}
+use Rattle.program_rows.specs.CallAnswers.{told_blocked}
+use Rattle.log_records.specs.ToldRecords.{spelled_records, TellsInRoom, AreRecordsUntold}
+use Rattle.program_rows.specs.ToldChanges.{unless_stopped}
 use Rattle.tm_types.specs.declared.abend.AbendCode.{AbendCode}
 use Rattle.tm_types.specs.declared.resource.Resource.{Resource}
 use Rattle.model_data.specs.declared.request.Request.{Request}
-use Rattle.program_rows.specs.OnSlots.{slots_in}
+use Rattle.program_rows.specs.SlotsState.{slots_state_of}
 use Rattle.program_rows.proofs.Slotted.{calls_none}
 use Rattle.message_run.specs.RunState.{RunState}
-use Rattle.message_run.specs.Ahead.{IsAhead}
-use Rattle.message_run.specs.Telling.{message_told, reach_told, need_told, next_told, TellsNext, TellsOn, IsUntoldOn}
+use Rattle.message_run.specs.WorkAhead.{IsAhead}
+use Rattle.message_run.specs.MessageChanges.{message_told, reach_told, need_told, next_told, TellsNext, TellsOn, IsUntoldOn}
 use Rattle.message_run.proofs.Steps.{trial_needs}
 use Rattle.message_run.proofs.Calls.{all_at}
 use Rattle.message_run.proofs.Standing.{all_nowhere}
 use Rattle.model_data.specs.Data.{nowhere}
 use Rattle.message_run.specs.RunState.{AreStanding}
-use Rattle.message_run.specs.Answering.{IfAnswered, IsRolled, RollsBack}
+use Rattle.message_run.specs.CallOutcomes.{IfAnswered, IsRolled, RollsBack}
 use Rattle.message_run.specs.declared.answer.CallEnd.{CallEnd}
 use Rattle.message_run.specs.declared.answer.CallEnd.TheVariants.{Answered, Abended, Waits}
-
-append_nil : (xs : List ℕ) → xs ++ [] ≡ xs
-append_nil [] = refl
-append_nil (x ∷ xs) = ap (λ ys. x ∷ ys) (append_nil xs)
+use Rattle.program_rows.proofs.Retold.{append_nil}
 
 -- nothing is told, and no slot has changed
-pub tells_nothing : (unit room region : ℕ) (before after : DatabasesState) (xs : List ℕ) → slots_in after ≡ slots_in before → TellsNext unit room region before after xs xs []
+pub tells_nothing : (unit room region : ℕ) (before after : DatabasesState) (xs : List ℕ) → slots_state_of after ≡ slots_state_of before → TellsNext unit room region before after xs xs []
 tells_nothing unit room region before after xs e =
     record {
       tells = record { told = sym (append_nil xs); valid = tt; fits = omega arith };
-      slots = calls_none unit region (slots_in before) (slots_in after) [] refl e;
+      slots = calls_none unit region (slots_state_of before) (slots_state_of after) [] refl e;
     }
 
 -- a call that leads to an abend tells nothing
@@ -59,17 +56,17 @@ none_stopped : (blocked : Option (Request × ℕ)) (code : AbendCode) (records :
 none_stopped None code records = refl
 none_stopped (Some blocked) code records = refl
 
-tells_none : (records : List Record) (room : ℕ) (told now : List ℕ) → records ≡ [] → Tells records room told now → now ≡ told
-tells_none records room told now none t = t.told ∙ (ap (λ rs. told ++ spelled rs) none ∙ append_nil told)
+tells_none : (records : List Record) (room : ℕ) (told now : List ℕ) → records ≡ [] → TellsInRoom records room told now → now ≡ told
+tells_none records room told now none t = t.told ∙ (ap (λ rs. told ++ spelled_records rs) none ∙ append_nil told)
 
 pub quiet_abend : (blocked : Option (Request × ℕ)) (abend : Option AbendCode) (code : AbendCode) (records : List Record) (room : ℕ) (told now : List ℕ) → abend ≡ Some code
-    → Tells (unless_stopped blocked abend records) room told now → now ≡ told
+    → TellsInRoom (unless_stopped blocked abend records) room told now → now ≡ told
 quiet_abend blocked abend code records room told now e t =
     tells_none (unless_stopped blocked abend records) room told now (ap (λ a. unless_stopped blocked a records) e ∙ none_stopped blocked code records) t
 
 -- and so does one that is blocked
 pub quiet_blocked : (blocked : Option (Request × ℕ)) (at : Resource × ℕ) (abend : Option AbendCode) (records : List Record) (room : ℕ) (told now : List ℕ) → Some at ≡ told_blocked blocked
-    → Tells (unless_stopped blocked abend records) room told now → now ≡ told
+    → TellsInRoom (unless_stopped blocked abend records) room told now → now ≡ told
 quiet_blocked None at abend records room told now e t = let clash : Some at ≡ None = e in absurd (cc)
 quiet_blocked (Some blocked) at None records room told now e t = tells_none [] room told now refl t
 quiet_blocked (Some blocked) at (Some code) records room told now e t = tells_none [] room told now refl t
@@ -96,7 +93,7 @@ by_pcb unit region databases dbds pcbs d call true e g = by call.function g
     by ROLL q = refl
 
 sync_tells : (unit region : ℕ) (databases : DatabasesState) (dbds : List Dbd) (pcbs : List Pcb) (work : MessageWork) (d : Data) (call : CallText) → is_sync work call ≡ true
-    → reach_told unit region databases (reached dbds pcbs call.pcb) d call ≡ []
+    → reach_told unit region databases (pcb_reached dbds pcbs call.pcb) d call ≡ []
 sync_tells unit region databases dbds pcbs work d call e =
     let both = parts work.begun (call.pcb == 0) (is_get_unique call.function) e in by_pcb unit region databases dbds pcbs d call (call.pcb == 0) both.0 both.1
   where
@@ -133,11 +130,11 @@ module _ (unit room : ℕ) (job : Job) (region : ℕ) (databases : DatabasesStat
 
   module _ (call : CallText) (e : need ≡ Call call) where
     call_is : (given : Given) (ahead : IsAhead job given region databases run)
-        → next_told unit region databases job ahead.trial ≡ reach_told unit region databases (reached job.system.databases job.pcbs call.pcb) (data_of region databases run.positions) call
+        → next_told unit region databases job ahead.trial ≡ reach_told unit region databases (pcb_reached job.system.databases job.pcbs call.pcb) (data_of region databases run.positions) call
     call_is given ahead =
         need_is given ahead
         ∙ (ap (need_told unit region databases job ahead.trial) e
-        ∙ ap (λ d. reach_told unit region databases (reached job.system.databases job.pcbs call.pcb) d call) ahead.seen)
+        ∙ ap (λ d. reach_told unit region databases (pcb_reached job.system.databases job.pcbs call.pcb) d call) ahead.seen)
 
     pub sync_on : (xs : List ℕ) → is_sync run.work call ≡ true → TellsOn unit room job region databases databases run xs xs
     sync_on xs further given ahead =
@@ -146,13 +143,13 @@ module _ (unit room : ℕ) (job : Job) (region : ℕ) (databases : DatabasesStat
         (tells_nothing unit room region databases databases xs refl)
 
     pub told_on : (after : DatabasesState) (old now : List ℕ)
-        → TellsNext unit room region databases after old now (reach_told unit region databases (reached job.system.databases job.pcbs call.pcb) (data_of region databases run.positions) call)
+        → TellsNext unit room region databases after old now (reach_told unit region databases (pcb_reached job.system.databases job.pcbs call.pcb) (data_of region databases run.positions) call)
         → TellsOn unit room job region databases after run old now
     told_on after old now t given ahead = subst (λ rs. TellsNext unit room region databases after old now rs) (sym (call_is given ahead)) t
 
-    pub untold_on : (error : Untold) → IsUntold (reach_told unit region databases (reached job.system.databases job.pcbs call.pcb) (data_of region databases run.positions) call) room error
+    pub untold_on : (error : Untold) → AreRecordsUntold (reach_told unit region databases (pcb_reached job.system.databases job.pcbs call.pcb) (data_of region databases run.positions) call) room error
         → IsUntoldOn unit room job region databases run error
-    untold_on error u given ahead = subst (λ rs. IsUntold rs room error) (sym (call_is given ahead)) u
+    untold_on error u given ahead = subst (λ rs. AreRecordsUntold rs room error) (sym (call_is given ahead)) u
 
 -- behind a ROLB the PCBs stand
 pub rolled_stands : (region : ℕ) (before after : DatabasesState) (dbds : List Dbd) (pcbs : List Pcb) (old new : RunState) {E : Type 0} (r : Result CallEnd E) → IfOk r (IsRolled region before after old new)

@@ -5,12 +5,12 @@ use Rattle.std.proofs.lemmas.List.{get_or-set_other}
 use Rattle.model_system.specs.Jobs.{Job}
 use Rattle.model_data.specs.declared.request.Request.{Request}
 use Rattle.model_data.specs.Table.{EnqueueTable}
-use Rattle.model_data.specs.Ask.{after_asks, released}
+use Rattle.model_data.specs.EnqueueRequests.{after_asks, released}
 use Rattle.model_machine.specs.Trial.{Given}
-use Rattle.system_types.specs.Valid.{IsServable}
-use Rattle.program_rows.specs.State.{DatabasesState, RegionRows, AreRowsOf, clean_region, committed_rows, dbds_of, no_rows, region_at}
-use Rattle.program_rows.specs.Answering.{IsCommitted, IsGivenUp}
-use Rattle.message_run.specs.Ahead.{IsAhead, IsHeld, StayOthers}
+use Rattle.system_types.specs.ValidSystem.{IsServable}
+use Rattle.program_rows.specs.DatabasesState.{DatabasesState, RegionRows, AreRowsOf, clean_region, committed_rows, dbds_of, no_rows, region_at}
+use Rattle.program_rows.specs.CallAnswers.{IsCommitted, IsGivenUp}
+use Rattle.message_run.specs.WorkAhead.{IsAhead, IsHeld, StayOthers}
 use Rattle.message_run.specs.RunState.{RunState}
 use Rattle.message_run.proofs.Holding.{asks_keep}
 use Rattle.message_run.proofs.Beside.{beside, kept, released_keeps}

@@ -2,8 +2,8 @@
 use Rattle.std.proofs.Common.{◌≡◌, ℕ, ◌-◌, ◌<◌, List, length, get_or, sym, ◌∙◌, ap, arith}
 use Rattle.std.specs.Prelude.{slice_set}
 use Rattle.std.proofs.lemmas.List.{set-get_or, get_or-set_same}
-use Rattle.program_rows.specs.State.{DatabasesState, RegionRows, IsRegionOf, no_rows, region_at, dbds_of}
-use Rattle.message_run.specs.Ahead.{StayOthers}
+use Rattle.program_rows.specs.DatabasesState.{DatabasesState, RegionRows, IsRegionOf, no_rows, region_at, dbds_of}
+use Rattle.message_run.specs.WorkAhead.{StayOthers}
 
 -- a region sees what was put for it
 pub set_region : (before : DatabasesState) (region : ℕ) → IsRegionOf before region → (rows : RegionRows) (after : DatabasesState)

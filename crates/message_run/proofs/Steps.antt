@@ -11,30 +11,30 @@ use Rattle.model_system.specs.declared.need.CallText.{CallText}
 use Rattle.model_system.specs.declared.need.Need.{Need}
 use Rattle.model_system.specs.declared.need.Need.TheVariants.{Call}
 use Rattle.model_system.specs.declared.program.ScriptLine.{ScriptLine}
-use Rattle.model_system.specs.Script.{Answer, ScriptState, script_start, script_after, need_at, answered}
+use Rattle.model_system.specs.Script.{Answer, ScriptState, script_start, script_after, need_at, script_answered}
 use Rattle.model_system.proofs.Settled.{script_after_append}
 use Rattle.model_system.specs.declared.pcb.Pcb.{Pcb}
 use Rattle.model_system.specs.Jobs.{Job}
 use Rattle.model_system.specs.Pcbs.{pcb_at}
-use Rattle.script_run.specs.Running.{Running, HasTexts, answered_machine, waiting_told}
+use Rattle.script_run.specs.RunningScript.{Running, HasTexts, answered_machine, waiting_told}
 use Rattle.script_run.proofs.GoingOn.{answered_more, behind_is}
 use Rattle.model_data.specs.declared.call.Position.{Position}
 use Rattle.model_data.specs.Data.{Data, data_start, nowhere}
 use Rattle.model_data.specs.declared.request.Request.{Request}
 use Rattle.model_data.specs.Table.{EnqueueTable}
-use Rattle.model_data.specs.Ask.{after_asks, first_blocked}
-use Rattle.model_messages.specs.Work.{MessageWork, message_start}
+use Rattle.model_data.specs.EnqueueRequests.{after_asks, first_blocked}
+use Rattle.model_messages.specs.MessageWork.{MessageWork, message_start}
 use Rattle.seg_store.specs.Slots.{Stored}
-use Rattle.program_rows.specs.State.{DatabasesState, RegionRows, IsClean, committed_rows, rows_of, dbds_of, data_of, no_rows}
-use Rattle.program_rows.specs.Answering.{told_blocked}
-use Rattle.model_machine.specs.Trial.{Given, Trial, WorkEnd, Outcome, Advance, trial_start, trial_of, trial_need, advance, advance_by, called, gone, gone_on, is_get_unique, is_sync, unless_abend, call_outcome, outcome_at, Reached, reached, reached_by}
+use Rattle.program_rows.specs.DatabasesState.{DatabasesState, RegionRows, IsClean, committed_rows, rows_of_stores, dbds_of, data_of, no_rows}
+use Rattle.program_rows.specs.CallAnswers.{told_blocked}
+use Rattle.model_machine.specs.Trial.{Given, Trial, WorkEnd, Outcome, Advance, trial_start, trial_of, trial_need, advance, advance_by, called_in_trial, gone, trial_goes_on, is_get_unique, is_sync, unless_abend, call_outcome, outcome_at, Reached, pcb_reached, reached_by}
 use Rattle.model_machine.specs.Trial.Advance.{Goes, Stops}
 use Rattle.model_machine.specs.Trial.Reached.{Messages}
 use Rattle.model_machine.specs.Trial.WorkEnd.{Syncs, Abends}
 use Rattle.model_machine.specs.Requests.{asked_before, asked_behind, requests_at, requests_by, requests_of}
 use Rattle.message_run.specs.RunState.{RunState, AreStanding, IsBetweenTurns}
-use Rattle.message_run.specs.Answering.{Answers, AreGranted, AreBlocked, outcome_of, requests_by_run}
-use Rattle.message_run.specs.Ahead.{IsAhead, IsFree, IsHeld, IsStart, GoesBy, StopsSo, WaitsFor, needs_before, needs_behind}
+use Rattle.message_run.specs.CallOutcomes.{AnswersCall, AreGranted, AreBlocked, outcome_of, requests_by_run}
+use Rattle.message_run.specs.WorkAhead.{IsAhead, IsCallFree, IsHeld, IsStart, TrialGoesBy, StopsSo, WaitsFor, needs_before, needs_behind}
 use Rattle.message_run.proofs.Holding.{asks_keep, asks_hold}
 use Rattle.message_run.proofs.Standing.{all_nowhere}
 use Rattle.model_data.specs.declared.row.Row.{Row}
@@ -55,7 +55,7 @@ abends_not found rest e = ap (λ o. unless_abend o rest) e
 
 -- the work on the call that a script needs, unless that is a further GU
 abbrev target_of : Job → CallText → Reached
-target_of job call = reached job.system.databases job.pcbs call.pcb
+target_of job call = pcb_reached job.system.databases job.pcbs call.pcb
 
 -- behind a call more, what it asked for is asked for
 asked_next : (region : ℕ) (job : Job) (rows : List (List Row)) (given : Given) (calls : ℕ) (trial : Trial) → trial_of job rows given calls ≡ Some trial
@@ -83,7 +83,7 @@ module _ (job : Job) (given : Given) (region : ℕ) (databases : DatabasesState)
   texts_next : (after : DatabasesState) (need : Need) (calls : ℕ) → after.committed ≡ databases.committed → trial_need job ahead.trial ≡ need → HasTexts need
       → calls ≡ run.calls + 1 → All HasTexts (needs_before job (committed_rows after) given calls)
   texts_next after need calls committed needs texts count =
-      subst (λ (ss : List Stored). All HasTexts (needs_before job (rows_of ss) given calls)) (sym committed)
+      subst (λ (ss : List Stored). All HasTexts (needs_before job (rows_of_stores ss) given calls)) (sym committed)
       (subst (All HasTexts) (sym (ap (needs_before job (committed_rows databases) given) count ∙ needs_next job (committed_rows databases) given run.calls ahead.trial ahead.made))
       (All-push HasTexts (needs_before job (committed_rows databases) given run.calls) (trial_need job ahead.trial) ahead.texts (subst HasTexts (sym needs) texts)))
 
@@ -97,7 +97,7 @@ module _ (job : Job) (given : Given) (region : ℕ) (databases : DatabasesState)
   free_of call needs free = ap (λ rs. first_blocked rs databases.table) (asks_are call needs) ∙ free
 
   free_so : (call : CallText) (after : DatabasesState) → need_at job.lines job.transaction.statement_limit run.machine.script ≡ Call call
-      → AreGranted region (requests_by_run (target_of job call) region databases run call) databases after → IsFree job region databases after ahead.trial
+      → AreGranted region (requests_by_run (target_of job call) region databases run call) databases after → IsCallFree job region databases after ahead.trial
   free_so call after needs granted = record {
     free = free_of call needs granted.free;
     asked = granted.asked ∙ ap (λ rs. after_asks region rs databases.table) (sym (asks_are call needs));
@@ -108,18 +108,18 @@ module _ (job : Job) (given : Given) (region : ℕ) (databases : DatabasesState)
       → All (IsHeld after.table) (asked_before region job (committed_rows after) given run.calls)
   held_on after requests committed asked =
       subst (λ (t : EnqueueTable). All (IsHeld t) (asked_before region job (committed_rows after) given run.calls)) (sym asked)
-      (subst (λ (ss : List Stored). All (IsHeld (after_asks region requests databases.table)) (asked_before region job (rows_of ss) given run.calls)) (sym committed)
+      (subst (λ (ss : List Stored). All (IsHeld (after_asks region requests databases.table)) (asked_before region job (rows_of_stores ss) given run.calls)) (sym committed)
       (All-weaker (IsHeld databases.table) (IsHeld (after_asks region requests databases.table)) (asks_keep region requests databases.table)
       (asked_before region job (committed_rows databases) given run.calls) ahead.held))
 
   -- and so is what the call asked for
-  held_next : (after : DatabasesState) (calls : ℕ) → after.committed ≡ databases.committed → IsFree job region databases after ahead.trial → calls ≡ run.calls + 1
+  held_next : (after : DatabasesState) (calls : ℕ) → after.committed ≡ databases.committed → IsCallFree job region databases after ahead.trial → calls ≡ run.calls + 1
       → All (IsHeld after.table) (asked_before region job (committed_rows after) given calls)
   held_next after calls committed granted count =
       let asked = requests_of region job ahead.trial in
       let table = after_asks region asked databases.table in
       subst (λ (t : EnqueueTable). All (IsHeld t) (asked_before region job (committed_rows after) given calls)) (sym granted.asked)
-      (subst (λ (ss : List Stored). All (IsHeld table) (asked_before region job (rows_of ss) given calls)) (sym committed)
+      (subst (λ (ss : List Stored). All (IsHeld table) (asked_before region job (rows_of_stores ss) given calls)) (sym committed)
       (subst (All (IsHeld table)) (sym (ap (asked_before region job (committed_rows databases) given) count ∙ asked_next region job (committed_rows databases) given run.calls ahead.trial ahead.made))
       (All-append (IsHeld table) (asked_before region job (committed_rows databases) given run.calls) asked
       (All-weaker (IsHeld databases.table) (IsHeld table) (asks_keep region asked databases.table) (asked_before region job (committed_rows databases) given run.calls) ahead.held)
@@ -142,7 +142,7 @@ module _ (job : Job) (given : Given) (region : ℕ) (databases : DatabasesState)
       → IsAhead job given region after run
   same_ahead after requests committed regions dbds asked = record {
     trial = ahead.trial;
-    made = ap (λ (ss : List Stored). trial_of job (rows_of ss) given run.calls) committed ∙ ahead.made;
+    made = ap (λ (ss : List Stored). trial_of job (rows_of_stores ss) given run.calls) committed ∙ ahead.made;
     limit = ahead.limit;
     script = ahead.script;
     work = ahead.work;
@@ -150,22 +150,22 @@ module _ (job : Job) (given : Given) (region : ℕ) (databases : DatabasesState)
         ahead.seen
         ∙ ap (λ (rs : List RegionRows). record { rows = (slice_index_or rs (region - 1) no_rows).rows; positions = run.positions; changed = (slice_index_or rs (region - 1) no_rows).changed }) (sym regions);
     held = held_on after requests committed asked;
-    texts = subst (λ (ss : List Stored). All HasTexts (needs_before job (rows_of ss) given run.calls)) (sym committed) ahead.texts;
+    texts = subst (λ (ss : List Stored). All HasTexts (needs_before job (rows_of_stores ss) given run.calls)) (sym committed) ahead.texts;
     dbds = dbds ∙ ahead.dbds;
     standing = ahead.standing;
   }
 
   module _ (call : CallText) (needs : need_at job.lines job.transaction.statement_limit run.machine.script ≡ Call call) (further : is_sync run.work call ≡ false) where
     -- the call isn't a further GU, so the trial makes it
-    makes : advance job rows ahead.trial ≡ called ahead.trial call (call_outcome job rows ahead.trial call)
+    makes : advance job rows ahead.trial ≡ called_in_trial ahead.trial call (call_outcome job rows ahead.trial call)
     makes =
         advance_is (Call call) needs
-        ∙ goes_past (is_sync ahead.trial.work call) (called ahead.trial call (call_outcome job rows ahead.trial call)) (ap (λ w. is_sync w call) ahead.work ∙ further)
+        ∙ goes_past (is_sync ahead.trial.work call) (called_in_trial ahead.trial call (call_outcome job rows ahead.trial call)) (ap (λ w. is_sync w call) ahead.work ∙ further)
 
     abended : (abend : AbendCode) → (outcome_of job.system (target_of job call) region databases run call).abend ≡ Some abend → advance job rows ahead.trial ≡ Stops (Abends abend)
     abended abend found =
         makes
-        ∙ abends_so (call_outcome job rows ahead.trial call).abend abend (gone_on ahead.trial call (call_outcome job rows ahead.trial call)) (ap (λ o. o.abend) (outcome_is call) ∙ found)
+        ∙ abends_so (call_outcome job rows ahead.trial call).abend abend (trial_goes_on ahead.trial call (call_outcome job rows ahead.trial call)) (ap (λ o. o.abend) (outcome_is call) ∙ found)
 
     abbrev next : Trial
     next = record {
@@ -175,11 +175,11 @@ module _ (job : Job) (given : Given) (region : ℕ) (databases : DatabasesState)
     }
 
     script_next : (a : List Answer) (x y : Answer) → script_after job.lines job.transaction.statement_limit script_start a ≡ run.machine.script → x ≡ y
-        → script_after job.lines job.transaction.statement_limit script_start (a ++ x ∷ []) ≡ answered job.lines job.transaction.statement_limit run.machine.script y
+        → script_after job.lines job.transaction.statement_limit script_start (a ++ x ∷ []) ≡ script_answered job.lines job.transaction.statement_limit run.machine.script y
     script_next a x y here same =
         script_after_append job.lines job.transaction.statement_limit script_start a x
-        ∙ ap (λ s. answered job.lines job.transaction.statement_limit s x) here
-        ∙ ap (answered job.lines job.transaction.statement_limit run.machine.script) same
+        ∙ ap (λ s. script_answered job.lines job.transaction.statement_limit s x) here
+        ∙ ap (script_answered job.lines job.transaction.statement_limit run.machine.script) same
 
     made_next : (calls : ℕ) (goes : Goes next (record { function = call.function; pcb = call.pcb; status = (call_outcome job rows ahead.trial call).answer.status }) ≡ advance job rows ahead.trial)
         → calls ≡ run.calls + 1 → trial_of job rows given calls ≡ Some next
@@ -190,7 +190,7 @@ module _ (job : Job) (given : Given) (region : ℕ) (databases : DatabasesState)
     pub called_next : (after : DatabasesState) (new : RunState) (status : Status) → HasTexts (Call call)
         → new.calls ≡ run.calls + 1
         → new.machine.limit ≡ run.machine.limit
-        → new.machine.script ≡ answered job.lines job.transaction.statement_limit run.machine.script (outcome_of job.system (target_of job call) region databases run call).answer
+        → new.machine.script ≡ script_answered job.lines job.transaction.statement_limit run.machine.script (outcome_of job.system (target_of job call) region databases run call).answer
         → new.work ≡ (outcome_of job.system (target_of job call) region databases run call).work
         → data_of region after new.positions ≡ (outcome_of job.system (target_of job call) region databases run call).databases
         → status ≡ (outcome_of job.system (target_of job call) region databases run call).answer.status
@@ -198,17 +198,17 @@ module _ (job : Job) (given : Given) (region : ℕ) (databases : DatabasesState)
         → AreGranted region (requests_by_run (target_of job call) region databases run call) databases after
         → after.committed ≡ databases.committed → dbds_of after ≡ dbds_of databases
         → AreStanding job.system.databases job.pcbs new.positions
-        → GoesBy job given region databases after ahead.trial run new (record { function = call.function; pcb = call.pcb; status = status })
+        → TrialGoesBy job given region databases after ahead.trial run new (record { function = call.function; pcb = call.pcb; status = status })
     called_next after new status texts calls limited script work seen told goes_on granted committed dbds standing =
         let same = outcome_is call in
         let goes : advance job rows ahead.trial ≡ Goes next (record { function = call.function; pcb = call.pcb; status = (call_outcome job rows ahead.trial call).answer.status }) =
-        makes ∙ abends_not (call_outcome job rows ahead.trial call).abend (gone_on ahead.trial call (call_outcome job rows ahead.trial call)) (ap (λ (o : Outcome). o.abend) same ∙ goes_on) in
+        makes ∙ abends_not (call_outcome job rows ahead.trial call).abend (trial_goes_on ahead.trial call (call_outcome job rows ahead.trial call)) (ap (λ (o : Outcome). o.abend) same ∙ goes_on) in
         record {
           calls = calls;
           free = free_so call after needs granted;
           ahead = record {
             trial = next;
-            made = ap (λ stores. trial_of job (rows_of stores) given new.calls) committed ∙ made_next new.calls (sym goes) calls;
+            made = ap (λ stores. trial_of job (rows_of_stores stores) given new.calls) committed ∙ made_next new.calls (sym goes) calls;
             limit = limited ∙ ahead.limit;
             script =
                 script_next ahead.trial.answers (call_outcome job rows ahead.trial call).answer (outcome_of job.system (target_of job call) region databases run call).answer ahead.script
@@ -259,7 +259,7 @@ by_pcb region databases pcbs d call true e = refl
 by_pcb region databases pcbs d call false e = absurd (cc)
 
 sync_asks : (region : ℕ) (databases : List Dbd) (pcbs : List Pcb) (work : MessageWork) (d : Data) (call : CallText) → is_sync work call ≡ true
-    → requests_at region (reached databases pcbs call.pcb) d call ≡ []
+    → requests_at region (pcb_reached databases pcbs call.pcb) d call ≡ []
 sync_asks region databases pcbs work d call e = by_pcb region databases pcbs d call (call.pcb == 0) (middle work.begun (call.pcb == 0) (is_get_unique call.function) e)
   where
     middle : (a b c : Bool) → a && b && c ≡ true → b ≡ true
@@ -294,7 +294,7 @@ module _ (job : Job) (given : Given) (region : ℕ) (databases : DatabasesState)
       stops_so new Syncs same
       (ap (requests_by region job ahead.trial) e ∙ sync_asks region job.system.databases job.pcbs run.work ahead.trial.databases call further)
       (ap (advance_by job (committed_rows databases) ahead.trial) e
-      ∙ stops_at (is_sync ahead.trial.work call) (called ahead.trial call (call_outcome job (committed_rows databases) ahead.trial call)) (ap (λ w. is_sync w call) ahead.work ∙ further))
+      ∙ stops_at (is_sync ahead.trial.work call) (called_in_trial ahead.trial call (call_outcome job (committed_rows databases) ahead.trial call)) (ap (λ w. is_sync w call) ahead.work ∙ further))
 
   -- and at a call that leads to an abend
   pub abends : (new : RunState) (call : CallText) (abend : AbendCode) → new ≡ run → need ≡ Call call → is_sync run.work call ≡ false
@@ -332,10 +332,10 @@ module _ (job : Job) (given : Given) (region : ℕ) (databases : DatabasesState)
         → is_sync run.work call ≡ false
         → calls ≡ run.calls + 1
         → AreGranted region (requests_by_run (target_of job call) region databases run call) databases after
-        → Answers region (outcome_of job.system (target_of job call) region databases run call) after (record run { machine = machine }) new status
+        → AnswersCall region (outcome_of job.system (target_of job call) region databases run call) after (record run { machine = machine }) new status
         → after.committed ≡ databases.committed → dbds_of after ≡ dbds_of databases
         → AreStanding job.system.databases job.pcbs new.positions
-        → GoesBy job given region databases after ahead.trial run (record new { calls = calls }) (record { function = call.function; pcb = call.pcb; status = status })
+        → TrialGoesBy job given region databases after ahead.trial run (record new { calls = calls }) (record { function = call.function; pcb = call.pcb; status = status })
     goes_by machine new calls status texts limited told waits further count granted answers committed dbds standing =
         let answer : Answer = (outcome_of job.system (target_of job call) region databases run call).answer in
         called_next job given region databases run ahead call (needed ∙ e) further after (record new { calls = calls }) status texts
@@ -343,7 +343,7 @@ module _ (job : Job) (given : Given) (region : ℕ) (databases : DatabasesState)
         (ap (λ m. m.limit) answers.machine ∙ limited)
         (ap (λ m. m.script) answers.machine
         ∙ behind_is job.lines run.machine.limit run.machine.script machine.script machine.waiting answer told waits
-        ∙ ap (λ n. answered job.lines n run.machine.script answer) ahead.limit)
+        ∙ ap (λ n. script_answered job.lines n run.machine.script answer) ahead.limit)
         answers.work answers.seen answers.told answers.goes_on granted committed dbds standing
 
 -- a script that is where it was and doesn't wait
@@ -369,8 +369,8 @@ pub rests_on : (lines : List ScriptLine) (old : RunState) (machine new : Running
     → machine.waiting ≡ waiting_told lines old.machine.limit old.machine.script → IsSome machine.waiting → new ≡ answered_machine machine answer → calls ≡ old.calls + 1
     → (new.waiting ≡ None) × (calls ≤ new.script.executed)
 rests_on lines old machine new answer calls rests told waits is count =
-    let more : old.machine.script.executed < (answered lines old.machine.limit old.machine.script answer).executed =
+    let more : old.machine.script.executed < (script_answered lines old.machine.limit old.machine.script answer).executed =
     answered_more lines old.machine.limit old.machine.script machine.waiting answer told waits in
-    let there : new.script.executed ≡ (answered lines old.machine.limit old.machine.script answer).executed =
+    let there : new.script.executed ≡ (script_answered lines old.machine.limit old.machine.script answer).executed =
     ap (λ m. m.script.executed) is ∙ ap (λ (s : ScriptState). s.executed) (behind_is lines old.machine.limit old.machine.script machine.script machine.waiting answer told waits) in
     (ap (λ m. m.waiting) is, omega (arith, rests.1, more, there, count))

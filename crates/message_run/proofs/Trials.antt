@@ -14,22 +14,22 @@ use Rattle.model_system.specs.declared.need.CallText.{CallText}
 use Rattle.model_system.specs.declared.need.Need.{Need}
 use Rattle.model_system.specs.declared.need.Need.TheVariants.{Call, Ended, Abend}
 use Rattle.model_system.specs.Script.{script_after, script_start}
-use Rattle.script_run.specs.Running.{HasTexts}
+use Rattle.script_run.specs.RunningScript.{HasTexts}
 use Rattle.model_system.specs.declared.pcb.Pcb.{Pcb}
 use Rattle.model_system.specs.declared.pcb.Pcb.TheVariants.{Database, Destination, Modifiable}
 use Rattle.model_system.specs.Jobs.{Job}
 use Rattle.model_data.specs.Conditions.{IsDbCall}
 use Rattle.model_data.specs.Data.{Data, data_start, nowhere}
 use Rattle.model_data.specs.Table.{EnqueueTable}
-use Rattle.model_machine.specs.Trial.{Given, Reached, Trial, Outcome, advance, advance_by, call_outcome, called, db_call, gone, gone_on, is_sync, outcome_at, reached, reached_by, rolled_back, trial_need, trial_of, trial_start, unless_abend}
+use Rattle.model_machine.specs.Trial.{Given, Reached, Trial, Outcome, advance, advance_by, call_outcome, called_in_trial, db_call, gone, trial_goes_on, is_sync, outcome_at, pcb_reached, reached_by, rolled_back, trial_need, trial_of, trial_start, unless_abend}
 use Rattle.model_machine.specs.Trial.Advance.{Stops}
 use Rattle.model_machine.specs.Trial.Reached.{Messages, Rows, Nothing}
 use Rattle.model_machine.specs.Trial.WorkEnd.{Syncs}
 use Rattle.model_machine.specs.Requests.{asked_before, asked_behind, requests_at, requests_by, requests_of}
-use Rattle.system_types.specs.Valid.{IsServable}
-use Rattle.program_rows.specs.State.{AreRowsOf}
+use Rattle.system_types.specs.ValidSystem.{IsServable}
+use Rattle.program_rows.specs.DatabasesState.{AreRowsOf}
 use Rattle.program_rows.specs.Isolation.{AgreeOnHeld}
-use Rattle.message_run.specs.Ahead.{IsHeld, needs_before, needs_behind}
+use Rattle.message_run.specs.WorkAhead.{IsHeld, needs_before, needs_behind}
 use Rattle.message_run.specs.RunState.{IsCallBy, IsCallOf}
 use Rattle.message_run.proofs.Calls.{is_call}
 use Rattle.message_run.proofs.Database.{is_db_call}
@@ -87,7 +87,7 @@ ReachedSo dbds pcbs call (Rows target) =
     × (slice_get dbds (target.number - 1) ≡ Some target.dbd)
     × IsDbCall target.dbd.types (db_call target call)
 
-reaches_so : (dbds : List Dbd) (pcbs : List Pcb) (call : CallText) → IsCallOf dbds pcbs call → IsSegmentText call.area → ReachedSo dbds pcbs call (reached dbds pcbs call.pcb)
+reaches_so : (dbds : List Dbd) (pcbs : List Pcb) (call : CallText) → IsCallOf dbds pcbs call → IsSegmentText call.area → ReachedSo dbds pcbs call (pcb_reached dbds pcbs call.pcb)
 reaches_so dbds pcbs call has text = first (call.pcb == 0) refl
   where
     by_dbd : (number options : ℕ) → slice_get pcbs (call.pcb - 1) ≡ Some (Database number options) → IsCallBy dbds call (Some (Database number options))
@@ -170,19 +170,19 @@ module _ (job : Job) (given : Given) (region : ℕ) (table : EnqueueTable) (serv
   one_more before one (Call call) needs texts stand held goes = by_sync (is_sync before.work call) refl goes
     where
       target : Reached
-      target = reached job.system.databases job.pcbs call.pcb
+      target = pcb_reached job.system.databases job.pcbs call.pcb
 
-      so : ReachedSo job.system.databases job.pcbs call (reached job.system.databases job.pcbs call.pcb)
+      so : ReachedSo job.system.databases job.pcbs call (pcb_reached job.system.databases job.pcbs call.pcb)
       so =
           reaches_so job.system.databases job.pcbs call
           (is_call job.system.databases job.pcbs job.lines job.transaction.statement_limit (script_after job.lines job.transaction.statement_limit script_start before.answers) call servable needs)
           texts.0
 
       by_abend : is_sync before.work call ≡ false → (o : Option AbendCode) → (call_outcome job a before call).abend ≡ o
-          → gone (unless_abend o (gone_on before call (call_outcome job a before call))) ≡ Some one → OneMore before one (Call call)
+          → gone (unless_abend o (trial_goes_on before call (call_outcome job a before call))) ≡ Some one → OneMore before one (Call call)
       by_abend further (Some abend) e g = absurd (cc)
       by_abend further None e g =
-          let f = follows_at before call stand (reached job.system.databases job.pcbs call.pcb) so held e in
+          let f = follows_at before call stand (pcb_reached job.system.databases job.pcbs call.pcb) so held e in
           let next : Trial = record {
             answers = before.answers ++ (call_outcome job a before call).answer ∷ [];
             work = (call_outcome job a before call).work;
@@ -192,15 +192,15 @@ module _ (job : Job) (given : Given) (region : ℕ) (table : EnqueueTable) (serv
           let same : next ≡ one = cc in
           record {
             goes =
-                ap (λ t. gone (if t then Stops Syncs else called (moved before) call (call_outcome job b (moved before) call))) further
-                ∙ (ap (λ o. gone (called (moved before) call o)) f.outcome
-                ∙ (ap (λ o. gone (unless_abend o (gone_on (moved before) call (moved_outcome (call_outcome job a before call))))) e
+                ap (λ t. gone (if t then Stops Syncs else called_in_trial (moved before) call (call_outcome job b (moved before) call))) further
+                ∙ (ap (λ o. gone (called_in_trial (moved before) call o)) f.outcome
+                ∙ (ap (λ o. gone (unless_abend o (trial_goes_on (moved before) call (moved_outcome (call_outcome job a before call))))) e
                 ∙ ap (λ t. Some (moved t)) same));
             requests = f.requests;
             stand = subst (λ (t : Trial). Stand t.databases) same f.stand;
           }
 
-      by_sync : (t : Bool) → is_sync before.work call ≡ t → gone (if t then Stops Syncs else called before call (call_outcome job a before call)) ≡ Some one → OneMore before one (Call call)
+      by_sync : (t : Bool) → is_sync before.work call ≡ t → gone (if t then Stops Syncs else called_in_trial before call (call_outcome job a before call)) ≡ Some one → OneMore before one (Call call)
       by_sync true e g = absurd (cc)
       by_sync false e g = by_abend e (call_outcome job a before call).abend refl g
 

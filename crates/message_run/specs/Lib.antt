@@ -1,4 +1,4 @@
 pub mod RunState
-pub mod Answering
-pub mod Ahead
-pub mod Telling
+pub mod CallOutcomes
+pub mod WorkAhead
+pub mod MessageChanges

@@ -6,8 +6,8 @@ use Rattle.model_system.specs.declared.need.CallText.{CallText}
 use Rattle.model_system.specs.declared.pcb.Pcb.{Pcb}
 use Rattle.model_system.specs.declared.pcb.Pcb.TheVariants.{Database, Destination, Modifiable}
 use Rattle.model_system.specs.Pcbs.{pcb_at}
-use Rattle.script_run.specs.Running.{Running}
-use Rattle.model_messages.specs.Work.{MessageWork}
+use Rattle.script_run.specs.RunningScript.{Running}
+use Rattle.model_messages.specs.MessageWork.{MessageWork}
 use Rattle.model_data.specs.declared.call.Position.{Position}
 use Rattle.model_data.specs.Conditions.{AreSsasOf, IsPosition}
 

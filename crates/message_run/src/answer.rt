@@ -1,26 +1,26 @@
 //! How the calls of a script are answered.
-ghost use Rattle.program_rows.specs.OnSlots.{slots_in, CallsSo};
+ghost use Rattle.program_rows.specs.SlotsState.{slots_state_of, CallsSo};
 ghost use Rattle.std.specs.Prelude.{◌≡◌, ◌≤◌, ◌-◌, ℕ, false, Some, IfOk, IfErr, IfSome, IsOk, IsSome, OnOk, OnErr, length, replicate, slice_get};
 ghost use Rattle.std.specs.Option.{option_copied};
 ghost use Rattle.tm_types.specs.Segment.{IsSegmentText};
 ghost use Rattle.model_system.specs.declared.pcb.Pcb.TheVariants.{Database};
-ghost use Rattle.model_messages.specs.Calls.{given, status_alone, unique_answer, unique_work, next_answer, next_work, insert_status, insert_work, purge_status, purge_work, change_status, change_work};
+ghost use Rattle.model_messages.specs.MessageCalls.{given, status_alone, unique_answer, unique_work, next_answer, next_work, insert_status, insert_work, purge_status, purge_work, change_status, change_work};
 ghost use Rattle.io_pcb.specs.Pads.{gives_wrong};
 ghost use Rattle.model_data.specs.Data.{nowhere};
-ghost use Rattle.system_types.specs.Valid.{IsDatabase};
-ghost use Rattle.model_machine.specs.Trial.{reached, reached_by};
+ghost use Rattle.system_types.specs.ValidSystem.{IsDatabase};
+ghost use Rattle.model_machine.specs.Trial.{pcb_reached, reached_by};
 ghost use Rattle.model_machine.specs.Trial.Reached.{Messages};
-ghost use Rattle.model_data.specs.Ask.{waits_for_nothing};
-ghost use Rattle.program_rows.specs.Answering.{regions_backed};
-ghost use Rattle.program_rows.specs.State.{data_of, dbds_of, IsRegionOf};
-ghost use Rattle.message_run.specs.Ahead.{StayOthers};
-ghost use Rattle.message_run.specs.Telling.{reach_told, TellsNext};
-ghost use Rattle.log_records.specs.Telling.{IsUntold};
-ghost use Rattle.program_rows.specs.Telling.{back_told};
+ghost use Rattle.model_data.specs.EnqueueRequests.{waits_for_nothing};
+ghost use Rattle.program_rows.specs.CallAnswers.{regions_backed};
+ghost use Rattle.program_rows.specs.DatabasesState.{data_of, dbds_of, IsRegionOf};
+ghost use Rattle.message_run.specs.WorkAhead.{StayOthers};
+ghost use Rattle.message_run.specs.MessageChanges.{reach_told, TellsNext};
+ghost use Rattle.log_records.specs.ToldRecords.{AreRecordsUntold};
+ghost use Rattle.program_rows.specs.ToldChanges.{back_told};
 ghost use Rattle.std.specs.List.{AllByRecursion};
-ghost use Rattle.message_run.specs.Answering.{ComesTo, IsRolled, Serves, RollsBack, StaysUnlessAnswered, IsQuietUnlessAnswered, told_run, outcome_of, requests_by_run};
+ghost use Rattle.message_run.specs.CallOutcomes.{CallComesTo, IsRolled, ServesCall, RollsBack, StaysUnlessAnswered, IsQuietUnlessAnswered, told_run, outcome_of, requests_by_run};
 ghost use Rattle.message_run.specs.declared.answer.CallEnd.TheVariants.{Answered as AnsweredWith};
-ghost use Rattle.script_run.specs.Running.{answered_machine};
+ghost use Rattle.script_run.specs.RunningScript.{answered_machine};
 ghost use Rattle.message_run.specs.RunState.{AreStanding, IsCallBy, IsCallOf};
 
 use crate::progress::Progress;
@@ -64,16 +64,16 @@ impl Progress {
         requires call { IsCallOf system.now.databases pcbs.now call }
         requires databases { dbds_of databases.old ≡ system.now.databases }
         requires standing { AreStanding system.now.databases pcbs.now self.old.positions }
-        ensures ok { IfOk result (ComesTo region (requests_by_run (reached system.now.databases pcbs.now call.pcb) region databases.old self.old call) (outcome_of system.now (reached system.now.databases pcbs.now call.pcb) region databases.old self.old call) databases.old databases.new self.old self.new) }
+        ensures ok { IfOk result (CallComesTo region (requests_by_run (pcb_reached system.now.databases pcbs.now call.pcb) region databases.old self.old call) (outcome_of system.now (pcb_reached system.now.databases pcbs.now call.pcb) region databases.old self.old call) databases.old databases.new self.old self.new) }
         ensures standing { AreStanding system.now.databases pcbs.now self.new.positions }
         ensures stays { IfOk result (StaysUnlessAnswered databases.old databases.new) }
         ensures others { StayOthers region databases.old databases.new }
         ensures err { OnErr result (self.new ≡ self.old) }
         ensures kept { OnErr result (databases.new ≡ databases.old) }
-        ensures tells { OnOk result (TellsNext unit room region databases.old databases.new told.old.items told.new.items (reach_told unit region databases.old (reached system.now.databases pcbs.now call.pcb) (data_of region databases.old self.old.positions) call)) }
+        ensures tells { OnOk result (TellsNext unit room region databases.old databases.new told.old.items told.new.items (reach_told unit region databases.old (pcb_reached system.now.databases pcbs.now call.pcb) (data_of region databases.old self.old.positions) call)) }
         ensures quiet { IfOk result (IsQuietUnlessAnswered told.old.items told.new.items) }
         ensures untold { OnErr result (told.new.items ≡ told.old.items) }
-        ensures full { IfErr result (IsUntold (reach_told unit region databases.old (reached system.now.databases pcbs.now call.pcb) (data_of region databases.old self.old.positions) call) room) }
+        ensures full { IfErr result (AreRecordsUntold (reach_told unit region databases.old (pcb_reached system.now.databases pcbs.now call.pcb) (data_of region databases.old self.old.positions) call) room) }
     {
         if call.pcb == 0 {
             return self.answer_message(system, pcbs, region, databases, &call, unit, room, told);
@@ -110,7 +110,7 @@ impl Progress {
         requires region { IsRegionOf databases.old region }
         requires databases { dbds_of databases.old ≡ system.now.databases }
         requires standing { AreStanding system.now.databases _pcbs.now self.old.positions }
-        ensures ok { IfOk result (ComesTo region (requests_by_run Messages region databases.old self.old call.now) (outcome_of system.now Messages region databases.old self.old call.now) databases.old databases.new self.old self.new) }
+        ensures ok { IfOk result (CallComesTo region (requests_by_run Messages region databases.old self.old call.now) (outcome_of system.now Messages region databases.old self.old call.now) databases.old databases.new self.old self.new) }
         ensures standing { AreStanding system.now.databases _pcbs.now self.new.positions }
         ensures stays { IfOk result (StaysUnlessAnswered databases.old databases.new) }
         ensures others { StayOthers region databases.old databases.new }
@@ -119,7 +119,7 @@ impl Progress {
         ensures tells { OnOk result (TellsNext unit room region databases.old databases.new told.old.items told.new.items (reach_told unit region databases.old (Messages) (data_of region databases.old self.old.positions) call.now)) }
         ensures quiet { IfOk result (IsQuietUnlessAnswered told.old.items told.new.items) }
         ensures untold { OnErr result (told.new.items ≡ told.old.items) }
-        ensures full { IfErr result (IsUntold (reach_told unit region databases.old (Messages) (data_of region databases.old self.old.positions) call.now) room) }
+        ensures full { IfErr result (AreRecordsUntold (reach_told unit region databases.old (Messages) (data_of region databases.old self.old.positions) call.now) room) }
     {
         let (pcb, area) = (call.pcb, call.area.as_slice());
         match call.function {
@@ -164,7 +164,7 @@ impl Progress {
         ensures kept { OnErr result (databases.new ≡ databases.old) }
         ensures quiet { IfOk result (IsQuietUnlessAnswered told.old.items told.new.items) }
         ensures untold { OnErr result (told.new.items ≡ told.old.items) }
-        ensures full { IfErr result (IsUntold (back_told unit region databases.old) room) }
+        ensures full { IfErr result (AreRecordsUntold (back_told unit region databases.old) room) }
     {
         let length = told.len();
         match databases.tell_back(region, unit, room, told) {
@@ -181,7 +181,7 @@ impl Progress {
 
     fn get_unique(&mut self) -> Result<Status, Memory>
         requires { IsSome self.old.machine.waiting }
-        ensures ok { IfOk result (Serves (unique_answer self.old.work) (unique_work self.old.work) self.old self.new) }
+        ensures ok { IfOk result (ServesCall (unique_answer self.old.work) (unique_work self.old.work) self.old self.new) }
         ensures err { OnErr result (self.new ≡ self.old) }
     {
         let status = give(&mut self.machine, self.work.first())?;
@@ -191,7 +191,7 @@ impl Progress {
 
     fn get_next(&mut self) -> Result<Status, Memory>
         requires { IsSome self.old.machine.waiting }
-        ensures ok { IfOk result (Serves (next_answer self.old.work) (next_work self.old.work) self.old self.new) }
+        ensures ok { IfOk result (ServesCall (next_answer self.old.work) (next_work self.old.work) self.old self.new) }
         ensures err { OnErr result (self.new ≡ self.old) }
     {
         let status = give(&mut self.machine, self.work.next())?;
@@ -203,7 +203,7 @@ impl Progress {
         requires waits { IsSome self.old.machine.waiting }
         requires text { IsSegmentText text.now }
         requires pad { gives_wrong self.old.work pcb text.now ≡ false }
-        ensures ok { IfOk result (Serves (status_alone (insert_status self.old.work pcb text.now)) (insert_work self.old.work pcb text.now) self.old self.new) }
+        ensures ok { IfOk result (ServesCall (status_alone (insert_status self.old.work pcb text.now)) (insert_work self.old.work pcb text.now) self.old self.new) }
         ensures err { OnErr result (self.new ≡ self.old) }
     {
         let status = self.work.insert(pcb, text)?;
@@ -212,7 +212,7 @@ impl Progress {
 
     fn purge(&mut self, pcb: u8) -> Result<Status, Memory>
         requires { IsSome self.old.machine.waiting }
-        ensures ok { IfOk result (Serves (status_alone (purge_status self.old.work pcb)) (purge_work self.old.work pcb) self.old self.new) }
+        ensures ok { IfOk result (ServesCall (status_alone (purge_status self.old.work pcb)) (purge_work self.old.work pcb) self.old self.new) }
         ensures err { OnErr result (self.new ≡ self.old) }
     {
         let status = self.work.purge(pcb)?;
@@ -221,7 +221,7 @@ impl Progress {
 
     fn change(&mut self, system: &System, pcb: u8, name: &[u8]) -> Result<Status, Memory>
         requires { IsSome self.old.machine.waiting }
-        ensures ok { IfOk result (Serves (status_alone (change_status system.now self.old.work pcb name.now)) (change_work system.now self.old.work pcb name.now) self.old self.new) }
+        ensures ok { IfOk result (ServesCall (status_alone (change_status system.now self.old.work pcb name.now)) (change_work system.now self.old.work pcb name.now) self.old self.new) }
         ensures always { IsOk result }
     {
         let status = self.work.change(pcb, name, system);
@@ -243,7 +243,7 @@ impl Progress {
     /// Answers the script's call with a status alone. This takes no memory.
     fn tell(&mut self, status: Status) -> Result<Status, Memory>
         requires { IsSome self.old.machine.waiting }
-        ensures ok { IfOk result (Serves (status_alone status) self.old.work self.old self.new) }
+        ensures ok { IfOk result (ServesCall (status_alone status) self.old.work self.old self.new) }
         ensures always { IsOk result }
     {
         tell(&mut self.machine, status)
@@ -271,7 +271,7 @@ impl Progress {
         requires call { IsCallBy system.now.databases call (Some (Database number options)) }
         requires databases { dbds_of databases.old ≡ system.now.databases }
         requires standing { AreStanding system.now.databases _pcbs.now self.old.positions }
-        ensures ok { IfOk result (ComesTo region (requests_by_run (reached_by system.now.databases (Some (Database number options))) region databases.old self.old call) (outcome_of system.now (reached_by system.now.databases (Some (Database number options))) region databases.old self.old call) databases.old databases.new self.old self.new) }
+        ensures ok { IfOk result (CallComesTo region (requests_by_run (reached_by system.now.databases (Some (Database number options))) region databases.old self.old call) (outcome_of system.now (reached_by system.now.databases (Some (Database number options))) region databases.old self.old call) databases.old databases.new self.old self.new) }
         ensures standing { AreStanding system.now.databases _pcbs.now self.new.positions }
         ensures stays { IfOk result (StaysUnlessAnswered databases.old databases.new) }
         ensures others { StayOthers region databases.old databases.new }
@@ -280,7 +280,7 @@ impl Progress {
         ensures tells { OnOk result (TellsNext unit room region databases.old databases.new told.old.items told.new.items (reach_told unit region databases.old (reached_by system.now.databases (Some (Database number options))) (data_of region databases.old self.old.positions) call)) }
         ensures quiet { IfOk result (IsQuietUnlessAnswered told.old.items told.new.items) }
         ensures untold { OnErr result (told.new.items ≡ told.old.items) }
-        ensures full { IfErr result (IsUntold (reach_told unit region databases.old (reached_by system.now.databases (Some (Database number options))) (data_of region databases.old self.old.positions) call) room) }
+        ensures full { IfErr result (AreRecordsUntold (reach_told unit region databases.old (reached_by system.now.databases (Some (Database number options))) (data_of region databases.old self.old.positions) call) room) }
     {
         let dbd = database_numbered(system, number);
         let CallText {
@@ -344,7 +344,7 @@ fn rolled_back(status: Status, region: u32, databases: &mut Databases) -> CallEn
     ensures committed { databases.new.committed ≡ databases.old.committed }
     ensures dbds { dbds_of databases.new ≡ dbds_of databases.old }
     ensures table { databases.new.table ≡ waits_for_nothing region databases.old.table }
-    ensures slots { (unit : ℕ) → CallsSo unit region (slots_in databases.old) (slots_in databases.new) (back_told unit region databases.old) }
+    ensures slots { (unit : ℕ) → CallsSo unit region (slots_state_of databases.old) (slots_state_of databases.new) (back_told unit region databases.old) }
 {
     databases.back_out(region);
     answered(status, region, databases)

@@ -3,15 +3,15 @@ ghost use Rattle.std.specs.Prelude.{◌≡◌, ◌≤◌, IfOk, IfErr, IfSome, O
 ghost use Rattle.std.specs.Option.{option_copied};
 ghost use Rattle.model_data.specs.Data.{nowhere};
 ghost use Rattle.model_machine.specs.Trial.{is_sync};
-ghost use Rattle.model_messages.specs.Calls.{finish_work, pad_change};
+ghost use Rattle.model_messages.specs.MessageCalls.{finish_work, pad_change};
 ghost use Rattle.io_pcb.specs.Pads.{IsPadText, Suits, lent_pad};
-ghost use Rattle.program_rows.specs.State.{dbds_of, IsRegionOf};
+ghost use Rattle.program_rows.specs.DatabasesState.{dbds_of, IsRegionOf};
 ghost use Rattle.model_system.specs.System as model;
 ghost use Rattle.system_types.specs.Jobs.{lent_job};
-ghost use Rattle.system_types.specs.Valid.{IsServable};
+ghost use Rattle.system_types.specs.ValidSystem.{IsServable};
 ghost use Rattle.message_run.specs.RunState.{AreStanding, IsBetweenTurns};
-ghost use Rattle.message_run.specs.Ahead.{given_with, IsStart, GoesOn, StaysUnlessCalled, StayOthers};
-ghost use Rattle.message_run.specs.Telling.{TellsOn, IsQuietUnlessCalled, IsUntoldOn};
+ghost use Rattle.message_run.specs.WorkAhead.{given_with, IsStart, WorkGoesOn, StaysUnlessCalled, StayOthers};
+ghost use Rattle.message_run.specs.MessageChanges.{TellsOn, IsQuietUnlessCalled, IsUntoldOn};
 
 use crate::answer::CallEnd;
 use crate::run::{Advanced, Ending};
@@ -93,7 +93,7 @@ impl Progress {
         requires databases { dbds_of databases.old ≡ system.now.databases }
         requires standing { AreStanding system.now.databases job.now.pcbs.now self.old.positions }
         requires rests { IsBetweenTurns self.old }
-        ensures advances { IfOk result (GoesOn (lent_job system.now job.now) region databases.old databases.new self.old self.new) }
+        ensures advances { IfOk result (WorkGoesOn (lent_job system.now job.now) region databases.old databases.new self.old self.new) }
         ensures stays { IfOk result (StaysUnlessCalled databases.old databases.new) }
         ensures others { StayOthers region databases.old databases.new }
         ensures rests { IsBetweenTurns self.new }

@@ -1,15 +1,15 @@
 //! The work on a message, from call to call.
 ghost use Rattle.std.specs.Prelude.{◌≡◌, ◌≤◌, IfOk, IfErr, IfSome, OnOk, OnErr, length, replicate};
 ghost use Rattle.std.specs.Option.{option_copied};
-ghost use Rattle.model_messages.specs.Calls.{finish_work, pad_change};
+ghost use Rattle.model_messages.specs.MessageCalls.{finish_work, pad_change};
 ghost use Rattle.io_pcb.specs.Pads.{IsPadText, Suits, lent_pad};
-ghost use Rattle.program_rows.specs.State.{dbds_of, IsRegionOf};
+ghost use Rattle.program_rows.specs.DatabasesState.{dbds_of, IsRegionOf};
 ghost use Rattle.model_system.specs.System as model;
 ghost use Rattle.system_types.specs.Jobs.{lent_job};
-ghost use Rattle.system_types.specs.Valid.{IsServable};
+ghost use Rattle.system_types.specs.ValidSystem.{IsServable};
 ghost use Rattle.message_run.specs.RunState.{AreStanding};
-ghost use Rattle.message_run.specs.Ahead.{given_with, IsStart, GoesOn, StaysUnlessCalled, StayOthers};
-ghost use Rattle.message_run.specs.Telling.{TellsOn, IsQuietUnlessCalled, IsUntoldOn};
+ghost use Rattle.message_run.specs.WorkAhead.{given_with, IsStart, WorkGoesOn, StaysUnlessCalled, StayOthers};
+ghost use Rattle.message_run.specs.MessageChanges.{TellsOn, IsQuietUnlessCalled, IsUntoldOn};
 
 use crate::progress::Progress;
 use io_pcb::LentPad;
@@ -99,7 +99,7 @@ impl Run {
         requires servable { IsServable system.now.databases job.now.pcbs.now job.now.program.now }
         requires databases { dbds_of databases.old ≡ system.now.databases }
         requires standing { AreStanding system.now.databases job.now.pcbs.now self.old.positions }
-        ensures advances { IfOk result (GoesOn (lent_job system.now job.now) region databases.old databases.new self.old self.new) }
+        ensures advances { IfOk result (WorkGoesOn (lent_job system.now job.now) region databases.old databases.new self.old self.new) }
         ensures stays { IfOk result (StaysUnlessCalled databases.old databases.new) }
         ensures others { StayOthers region databases.old databases.new }
         ensures unchanged { OnErr result (self.new ≡ self.old) }

@@ -6,22 +6,15 @@ use Rattle.std.specs.Str.{bytes_eq}
 use Rattle.std.proofs.lemmas.Bool.Decides.{nat_tests}
 use Rattle.std.proofs.lemmas.List.{reverse-append}
 use Rattle.model_system.specs.declared.device_field.DeviceField.{DeviceField}
-use Rattle.model_system.specs.Breaks.{clash, overlap, clashing_field, line_if}
-use Rattle.model_system.specs.Showing.{covers}
-use Rattle.mfs_edit.proofs.Rules.{neither, not_if}
+use Rattle.model_system.specs.FormatRule.{clash, overlap, clashing_field, line_if}
+use Rattle.model_system.specs.ScreenPage.{covers}
+use Rattle.mfs_edit.proofs.Rules.{not_if}
+use Rattle.tm_types.proofs.Truths.{both_true, parts_true, neither}
 
 -- each field clashes with none behind it
 abbrev pub apart : List DeviceField → Bool
 apart [] = true
 apart (field ∷ fields) = list_all (λ other. not (clash other field)) fields && apart fields
-
-both_true : (a b : Bool) → a ≡ true → b ≡ true → (a && b) ≡ true
-both_true true b e f = f
-both_true false b e f = cc
-
-pub parts_true : (a b : Bool) → (a && b) ≡ true → (a ≡ true) × (b ≡ true)
-parts_true true b e = (refl, e)
-parts_true false b e = cc
 
 neither_true : (a b : Bool) → not (a || b) ≡ true → (not a ≡ true) × (not b ≡ true)
 neither_true true b e = cc

@@ -5,18 +5,18 @@ use Rattle.std.specs.List.{list_all}
 use Rattle.std.proofs.lemmas.List.{length-map}
 use Rattle.model_system.specs.declared.fields.FieldValue.{FieldValue}
 use Rattle.model_system.specs.declared.segment_line.SegmentLine.{SegmentLine}
-use Rattle.model_system.specs.Breaks.{KeepsRule, no_input}
-use Rattle.model_system.specs.Entering.{entered, texts_of, unless_unknown}
-use Rattle.model_system.specs.Formats.{FormatLines}
-use Rattle.model_system.specs.Valid.{IsFormat}
+use Rattle.model_system.specs.FormatRule.{KeepsRule, no_input}
+use Rattle.model_system.specs.ScreenInput.{entered, field_texts_of, unless_unknown}
+use Rattle.model_system.specs.FormatLines.{FormatLines}
+use Rattle.model_system.specs.ValidFormat.{IsFormat}
 use Rattle.mfs_edit.specs.declared.refused.EditRefused.{EditRefused}
-use Rattle.mfs_edit.specs.Answers.{AnswersInput}
+use Rattle.mfs_edit.specs.InputAnswers.{AnswersInput}
 use Rattle.mfs_edit.specs.Texts.{is_text, values_printable}
 use Rattle.mfs_edit.proofs.Printable.{all_texts}
 use Rattle.mfs_edit.proofs.Rules.{kept_input, some_input}
 
 abbrev texts_in : List FieldValue → List SegmentLine → List (List ℕ)
-texts_in values lines = map (λ line. texts_of values line.fields) lines
+texts_in values lines = map (λ line. field_texts_of values line.fields) lines
 
 made_by : (found : Option (List ℕ)) (made segments : List (List ℕ)) → unless_unknown found made ≡ Ok segments → segments ≡ made
 made_by None made segments h = cc
@@ -33,7 +33,7 @@ some_line line (segment ∷ lines) h = omega arith
 pub entered_some : (format : FormatLines) (values : List FieldValue) (result : Result (List (List ℕ)) EditRefused) → KeepsRule format
     → AnswersInput result (entered format values) → IfOk result (λ segments. 1 ≤ length segments)
 entered_some format values (Ok segments) rule h =
-    let count : length segments ≡ length format.input = ap length (entered_is format values segments h) ∙ length-map format.input (λ (line : SegmentLine). texts_of values line.fields) in
+    let count : length segments ≡ length format.input = ap length (entered_is format values segments h) ∙ length-map format.input (λ (line : SegmentLine). field_texts_of values line.fields) in
     omega (arith, count, some_line 0 format.input (some_input format rule))
 entered_some format values (Err refused) rule h = tt
 
@@ -44,6 +44,6 @@ all_mapped p f (line ∷ lines) = ap (λ b. p (f line) && b) (all_mapped p f lin
 pub entered_texts : (format : FormatLines) (values : List FieldValue) (result : Result (List (List ℕ)) EditRefused) → KeepsRule format → IsFormat format
     → IsTrue (values_printable values) → AnswersInput result (entered format values) → IfOk result (λ segments. IsTrue (list_all is_text segments))
 entered_texts format values (Ok segments) rule valid printable h =
-    ap (list_all is_text) (entered_is format values segments h) ∙ all_mapped is_text (λ line. texts_of values line.fields) format.input
+    ap (list_all is_text) (entered_is format values segments h) ∙ all_mapped is_text (λ line. field_texts_of values line.fields) format.input
     ∙ all_texts values format.fields format.input printable valid.input (kept_input format rule)
 entered_texts format values (Err refused) rule valid printable h = tt

@@ -5,28 +5,28 @@ use Rattle.model_system.specs.declared.message_field.MessageField.{MessageField}
 use Rattle.model_system.specs.declared.message_field.MessageField.TheVariants.{Source, Literal}
 use Rattle.model_system.specs.declared.message_field.MessageFieldLine.{MessageFieldLine}
 use Rattle.model_system.specs.declared.segment_line.SegmentLine.{SegmentLine}
-use Rattle.model_system.specs.Showing.{Piece, with_piece, pieces_of, all_pieces}
-use Rattle.mfs_edit.specs.Pieces.{left_by, rest_of, piece_of}
+use Rattle.model_system.specs.ScreenPage.{Piece, with_piece, pieces_of, all_pieces}
+use Rattle.mfs_edit.specs.Pieces.{left_by_field, rest_of, piece_of}
 
-with_more : (content : MessageField) (text : List ℕ) (more : List ℕ → List Piece) → with_piece content text more ≡ piece_of content text ++ more (left_by content text)
+with_more : (content : MessageField) (text : List ℕ) (more : List ℕ → List Piece) → with_piece content text more ≡ piece_of content text ++ more (left_by_field content text)
 with_more (Source source) text more = refl
 with_more (Literal literal) text more = refl
 
-rest_last : (lines : List MessageFieldLine) (line : MessageFieldLine) (text : List ℕ) → rest_of (lines ++ line ∷ []) text ≡ left_by line.content (rest_of lines text)
+rest_last : (lines : List MessageFieldLine) (line : MessageFieldLine) (text : List ℕ) → rest_of (lines ++ line ∷ []) text ≡ left_by_field line.content (rest_of lines text)
 rest_last [] line text = refl
-rest_last (first ∷ lines) line text = rest_last lines line (left_by first.content text)
+rest_last (first ∷ lines) line text = rest_last lines line (left_by_field first.content text)
 
 pieces_last : (lines : List MessageFieldLine) (line : MessageFieldLine) (text : List ℕ) → pieces_of (lines ++ line ∷ []) text ≡ pieces_of lines text ++ piece_of line.content (rest_of lines text)
 pieces_last [] line text = with_more line.content text (pieces_of []) ∙ append-nil (piece_of line.content text)
 pieces_last (first ∷ lines) line text =
     with_more first.content text (pieces_of (lines ++ line ∷ []))
-    ∙ ap (λ ps. piece_of first.content text ++ ps) (pieces_last lines line (left_by first.content text))
-    ∙ sym (append_assoc (piece_of first.content text) (pieces_of lines (left_by first.content text)) (piece_of line.content (rest_of lines (left_by first.content text))))
-    ∙ ap (λ ps. ps ++ piece_of line.content (rest_of lines (left_by first.content text))) (sym (with_more first.content text (pieces_of lines)))
+    ∙ ap (λ ps. piece_of first.content text ++ ps) (pieces_last lines line (left_by_field first.content text))
+    ∙ sym (append_assoc (piece_of first.content text) (pieces_of lines (left_by_field first.content text)) (piece_of line.content (rest_of lines (left_by_field first.content text))))
+    ∙ ap (λ ps. ps ++ piece_of line.content (rest_of lines (left_by_field first.content text))) (sym (with_more first.content text (pieces_of lines)))
 
 -- one MFLD more, at an index
 pub rest_more : (lines : List MessageFieldLine) (index : ℕ) (line : MessageFieldLine) (text : List ℕ) → take (index + 1) lines ≡ take index lines ++ line ∷ []
-    → rest_of (take (index + 1) lines) text ≡ left_by line.content (rest_of (take index lines) text)
+    → rest_of (take (index + 1) lines) text ≡ left_by_field line.content (rest_of (take index lines) text)
 rest_more lines index line text e = ap (λ (ls : List MessageFieldLine). rest_of ls text) e ∙ rest_last (take index lines) line text
 
 pub pieces_more : (lines : List MessageFieldLine) (index : ℕ) (line : MessageFieldLine) (text : List ℕ) → take (index + 1) lines ≡ take index lines ++ line ∷ []

@@ -11,18 +11,19 @@ use Rattle.std.proofs.lemmas.List.{reverse-append, same_lists, get_or_append_lef
 use Rattle.std.proofs.lemmas.List.FromFn.{get_or-map-range_with_len, length-map-range_with_len}
 use Rattle.std.proofs.lemmas.Slice.Eq.{bytes_eq-Decides}
 use Rattle.model_system.specs.declared.device_field.DeviceField.{DeviceField}
-use Rattle.model_system.specs.Breaks.{clash}
-use Rattle.model_system.specs.Fitting.{fitted}
+use Rattle.model_system.specs.FormatRule.{clash}
+use Rattle.model_system.specs.FittedValues.{fitted_value}
 use Rattle.model_system.specs.Pages.{IsPage}
-use Rattle.model_system.specs.Showing.{Piece, covers, shown_in, byte_in, byte_at, page_of}
-use Rattle.model_system.specs.Valid.{is_on_page}
-use Rattle.mfs_edit.specs.Pieces.{OnPage, row_with}
+use Rattle.model_system.specs.ScreenPage.{Piece, covers, shown_in, byte_in, screen_byte_at, page_of}
+use Rattle.model_system.specs.ValidFormat.{is_on_page}
+use Rattle.mfs_edit.specs.Pieces.{OnPage, screen_row_with}
 use Rattle.mfs_edit.proofs.Names.{found_backwards}
-use Rattle.mfs_edit.proofs.Clashes.{apart, parts_true, is_false, IsIn, all_in, other_name, one_covers}
+use Rattle.mfs_edit.proofs.Clashes.{apart, is_false, IsIn, all_in, other_name, one_covers}
+use Rattle.tm_types.proofs.Truths.{parts_true}
 
 -- what a piece shows in a field
 abbrev pub set_in : Piece → DeviceField → List ℕ
-set_in piece field = fitted piece.source.justify piece.source.fill field.width piece.text
+set_in piece field = fitted_value piece.source.justify piece.source.fill field.width piece.text
 
 abbrev value_in : DeviceField → Option Piece → List ℕ
 value_in field found = option_map_or (λ piece. set_in piece field) found []
@@ -72,7 +73,7 @@ module _ (done : List Piece) (piece : Piece) where
         ap (λ b. not b && list_all (λ o. not (bytes_eq piece.source.name o.name)) others) (differs other (other_name other field parts.0)) ∙ other_names others parts.1
 
     abbrev byte_now : List DeviceField → ℕ → ℕ → ℕ
-    byte_now fields row column = cond (covers row column field) (get_or (set_in piece field) (column - field.column) 32) (byte_at fields done row column)
+    byte_now fields row column = cond (covers row column field) (get_or (set_in piece field) (column - field.column) 32) (screen_byte_at fields done row column)
 
     own : (b : Bool) (row column : ℕ) (others : List DeviceField) → covers row column field ≡ b → list_all (λ other. not (clash other field)) others ≡ true
         → byte_in (done ++ piece ∷ []) column (cond b (Some field) (find (covers row column) others)) ≡ cond b (get_or (set_in piece field) (column - field.column) 32) (byte_in done column (cond b (Some field) (find (covers row column) others)))
@@ -81,7 +82,7 @@ module _ (done : List Piece) (piece : Piece) where
     own false row column others e h = same_among (covers row column) column others (other_names others h)
 
     behind : (b : Bool) (row column : ℕ) (first : DeviceField) (others : List DeviceField) → covers row column first ≡ b → not (clash field first) ≡ true
-        → byte_at others (done ++ piece ∷ []) row column ≡ byte_now others row column
+        → screen_byte_at others (done ++ piece ∷ []) row column ≡ byte_now others row column
         → byte_in (done ++ piece ∷ []) column (cond b (Some first) (find (covers row column) others)) ≡ cond (covers row column field) (get_or (set_in piece field) (column - field.column) 32) (byte_in done column (cond b (Some first) (find (covers row column) others)))
     behind true row column first others e apart more =
         let none : covers row column field ≡ false = one_covers row column field first apart e in
@@ -98,11 +99,11 @@ module _ (done : List Piece) (piece : Piece) where
     behind false row column first others e apart more = more
 
     -- each place that the field covers has the piece's byte, and each other one has its own
-    pub byte_set : (fields : List DeviceField) (row column : ℕ) → apart fields ≡ true → IsIn field fields → byte_at fields (done ++ piece ∷ []) row column ≡ byte_now fields row column
+    pub byte_set : (fields : List DeviceField) (row column : ℕ) → apart fields ≡ true → IsIn field fields → screen_byte_at fields (done ++ piece ∷ []) row column ≡ byte_now fields row column
     byte_set [] row column e h = absurd h
     byte_set (first ∷ others) row column e (inl same) =
         let parts = parts_true (list_all (λ other. not (clash other first)) others) (apart others) e in
-        subst (λ (f : DeviceField). byte_at (f ∷ others) (done ++ piece ∷ []) row column ≡ byte_now (f ∷ others) row column) (sym same)
+        subst (λ (f : DeviceField). screen_byte_at (f ∷ others) (done ++ piece ∷ []) row column ≡ byte_now (f ∷ others) row column) (sym same)
         (own (covers row column field) row column others refl (subst (λ (f : DeviceField). list_all (λ other. not (clash other f)) others ≡ true) same parts.0))
     byte_set (first ∷ others) row column e (inr h) =
         let parts = parts_true (list_all (λ other. not (clash other first)) others) (apart others) e in
@@ -171,7 +172,7 @@ module _ (g h : ℕ → ℕ) (start width : ℕ) (text xs : List ℕ) (first : 1
       (λ k d within. let below : k < 80 = omega (arith, set_length) in each_place (nat_lt k (start - 1)) k d refl below ∙ sym (get_or-map-range_with_len h 1 80 k (1 + k) d below refl))
 
 abbrev pub row_of : List DeviceField → List Piece → ℕ → List ℕ
-row_of fields pieces row = map (byte_at fields pieces row) (range_with_len 1 80)
+row_of fields pieces row = map (screen_byte_at fields pieces row) (range_with_len 1 80)
 
 pub page_length : (fields : List DeviceField) (pieces : List Piece) → length (page_of fields pieces) ≡ 24
 unfolding page_of
@@ -191,21 +192,21 @@ on_page field e = record {
 
 module _ (fields : List DeviceField) (done : List Piece) (piece : Piece) (field : DeviceField) (clear : apart fields ≡ true) (there : IsIn field fields) (named : piece.source.name ≡ field.name)
     (on : OnPage field) where
-  now_at : (row column : ℕ) → byte_at fields (done ++ piece ∷ []) row column ≡ cond (covers row column field) (get_or (set_in piece field) (column - field.column) 32) (byte_at fields done row column)
+  now_at : (row column : ℕ) → screen_byte_at fields (done ++ piece ∷ []) row column ≡ cond (covers row column field) (get_or (set_in piece field) (column - field.column) 32) (screen_byte_at fields done row column)
   now_at row column = byte_set done piece field named fields row column clear there
 
   other_row : (row : ℕ) → field.row ≢ row → row_of fields done row ≡ row_of fields (done ++ piece ∷ []) row
   other_row row differs =
       let no : (field.row == row) ≡ false = grind (arith, nat_tests) in
-      same_map (byte_at fields done row) (byte_at fields (done ++ piece ∷ []) row) (range_with_len 1 80)
-      (λ column. sym (now_at row column ∙ ap (λ b. cond (b && (nat_le field.column column && nat_lt column (field.column + field.width))) (get_or (set_in piece field) (column - field.column) 32) (byte_at fields done row column)) no))
+      same_map (screen_byte_at fields done row) (screen_byte_at fields (done ++ piece ∷ []) row) (range_with_len 1 80)
+      (λ column. sym (now_at row column ∙ ap (λ b. cond (b && (nat_le field.column column && nat_lt column (field.column + field.width))) (get_or (set_in piece field) (column - field.column) 32) (screen_byte_at fields done row column)) no))
 
   own_row : (old : List ℕ) → length (set_in piece field) ≡ field.width → old ≡ row_of fields done field.row
       → take (field.column - 1) old ++ (set_in piece field ++ drop (field.column - 1 + field.width) old) ≡ row_of fields (done ++ piece ∷ []) field.row
   own_row old size is =
       let yes : (field.row == field.row) ≡ true = grind (arith, nat_tests) in
-      row_set (byte_at fields done field.row) (byte_at fields (done ++ piece ∷ []) field.row) field.column field.width (set_in piece field) old on.first_column on.last_column size is
-      (λ column. now_at field.row column ∙ ap (λ b. cond (b && (nat_le field.column column && nat_lt column (field.column + field.width))) (get_or (set_in piece field) (column - field.column) 32) (byte_at fields done field.row column)) yes)
+      row_set (screen_byte_at fields done field.row) (screen_byte_at fields (done ++ piece ∷ []) field.row) field.column field.width (set_in piece field) old on.first_column on.last_column size is
+      (λ column. now_at field.row column ∙ ap (λ b. cond (b && (nat_le field.column column && nat_lt column (field.column + field.width))) (get_or (set_in piece field) (column - field.column) 32) (screen_byte_at fields done field.row column)) yes)
 
   module _ (rows : List (List ℕ)) (before : rows ≡ page_of fields done) where
     row_before : (k : ℕ) (d : List ℕ) → k < 24 → get_or rows k d ≡ row_of fields done (1 + k)
@@ -215,10 +216,10 @@ module _ (fields : List DeviceField) (done : List Piece) (piece : Piece) (field 
     size_before = ap length before ∙ page_length fields done
 
     pub page_set : length (set_in piece field) ≡ field.width
-        → set rows (field.row - 1) (row_with field (set_in piece field) (get_or rows (field.row - 1) [])) ≡ page_of fields (done ++ piece ∷ [])
+        → set rows (field.row - 1) (screen_row_with field (set_in piece field) (get_or rows (field.row - 1) [])) ≡ page_of fields (done ++ piece ∷ [])
     page_set size =
         let old = get_or rows (field.row - 1) [] in
-        let new = row_with field (set_in piece field) old in
+        let new = screen_row_with field (set_in piece field) old in
         let within : field.row - 1 < 24 = omega (arith, on.first_row, on.last_row) in
         let row : 1 + (field.row - 1) ≡ field.row = omega (arith, on.first_row) in
         let old-is : old ≡ row_of fields done field.row = row_before (field.row - 1) [] within ∙ ap (row_of fields done) row in
@@ -247,7 +248,7 @@ all_at p [] i d below e = absurd (omega (arith, below))
 all_at p (x ∷ xs) zero d below e = (parts_true (p x) (list_all p xs) e).0
 all_at p (x ∷ xs) (suc i) d below e = all_at p xs i d (omega (arith, below)) (parts_true (p x) (list_all p xs) e).1
 
-row_length : (field : DeviceField) (text row : List ℕ) → OnPage field → length text ≡ field.width → length row ≡ 80 → length (row_with field text row) ≡ 80
+row_length : (field : DeviceField) (text row : List ℕ) → OnPage field → length text ≡ field.width → length row ≡ 80 → length (screen_row_with field text row) ≡ 80
 row_length field text row on size whole =
     omega (
       arith,
@@ -262,14 +263,14 @@ row_length field text row on size whole =
     )
 
 pub still_page : (rows : List (List ℕ)) (field : DeviceField) (text : List ℕ) → IsPage rows → OnPage field → length text ≡ field.width
-    → IsPage (set rows (field.row - 1) (row_with field text (get_or rows (field.row - 1) [])))
+    → IsPage (set rows (field.row - 1) (screen_row_with field text (get_or rows (field.row - 1) [])))
 still_page rows field text page on size =
     let within : field.row - 1 < length rows = omega (arith, on.first_row, on.last_row, page.count) in
     let whole : length (get_or rows (field.row - 1) []) ≡ 80 = eqb-true (length (get_or rows (field.row - 1) [])) 80 (all_at (λ (row : List ℕ). length row == 80) rows (field.row - 1) [] within page.widths) in
-    let size-now : length (row_with field text (get_or rows (field.row - 1) [])) ≡ 80 = row_length field text (get_or rows (field.row - 1) []) on size whole in
+    let size-now : length (screen_row_with field text (get_or rows (field.row - 1) [])) ≡ 80 = row_length field text (get_or rows (field.row - 1) []) on size whole in
     record {
-      count = length-set rows (field.row - 1) (row_with field text (get_or rows (field.row - 1) [])) ∙ page.count;
-      widths = all_set (λ (row : List ℕ). length row == 80) rows (field.row - 1) (row_with field text (get_or rows (field.row - 1) [])) page.widths
+      count = length-set rows (field.row - 1) (screen_row_with field text (get_or rows (field.row - 1) [])) ∙ page.count;
+      widths = all_set (λ (row : List ℕ). length row == 80) rows (field.row - 1) (screen_row_with field text (get_or rows (field.row - 1) [])) page.widths
           (ap (λ n. n == 80) size-now);
     }
 
@@ -304,7 +305,7 @@ page_same fields done piece e =
     sym (found_backwards (λ (field : DeviceField). bytes_eq field.name piece.source.name) fields) ∙ ap is_some e in
     let others = turned_names piece.source.name fields (none_forward (λ (field : DeviceField). bytes_eq field.name piece.source.name) fields none) in
     same_map (row_of fields done) (row_of fields (done ++ piece ∷ [])) (range_with_len 1 24)
-    (λ row. same_map (byte_at fields done row) (byte_at fields (done ++ piece ∷ []) row) (range_with_len 1 80) (λ column. sym (same_among done piece (covers row column) column fields others)))
+    (λ row. same_map (screen_byte_at fields done row) (screen_byte_at fields (done ++ piece ∷ []) row) (range_with_len 1 80) (λ column. sym (same_among done piece (covers row column) column fields others)))
 
 -- a page that shows no pieces is blank
 blank_byte : (column : ℕ) (found : Option DeviceField) → byte_in [] column found ≡ 32
@@ -316,7 +317,7 @@ map_same_value x f [] h = refl
 map_same_value x f (a ∷ xs) h = cc (h a, map_same_value x f xs h)
 
 blank_row : (fields : List DeviceField) (row : ℕ) → replicate 80 32 ≡ row_of fields [] row
-blank_row fields row = map_same_value 32 (byte_at fields [] row) (range_with_len 1 80) (λ column. blank_byte column (find (covers row column) fields))
+blank_row fields row = map_same_value 32 (screen_byte_at fields [] row) (range_with_len 1 80) (λ column. blank_byte column (find (covers row column) fields))
 
 pub blank_page : (fields : List DeviceField) → replicate 24 (replicate 80 32) ≡ page_of fields []
 unfolding page_of

@@ -8,11 +8,11 @@ use Rattle.std.specs.Str.{bytes_eq}
 use Rattle.model_system.specs.declared.device_field.DeviceField.{DeviceField}
 use Rattle.model_system.specs.declared.fields.FieldValue.{FieldValue}
 
-abbrev pub name_cmp : List ℕ → List ℕ → Ordering
-name_cmp a b = slice_cmp nat_cmp a b
+abbrev pub field_name_cmp : List ℕ → List ℕ → Ordering
+field_name_cmp a b = slice_cmp nat_cmp a b
 
-abbrev pub place_in : BTreeMap (List ℕ) ℕ → List ℕ → Option ℕ
-place_in places name = get name_cmp places name
+abbrev pub field_place_in : BTreeMap (List ℕ) ℕ → List ℕ → Option ℕ
+field_place_in places name = get field_name_cmp places name
 
 abbrev pub item_at : {A : Type 0} → List A → Option ℕ → Option A
 item_at items None = None
@@ -20,7 +20,7 @@ item_at items (Some place) = slice_get items place
 
 -- at each name stands the place of the last field, or of the last value, that has it
 abbrev pub IndexesFields : BTreeMap (List ℕ) ℕ → List DeviceField → Type 0
-IndexesFields places fields = (name : List ℕ) → item_at fields (place_in places name) ≡ find (λ field. bytes_eq field.name name) (reverse fields)
+IndexesFields places fields = (name : List ℕ) → item_at fields (field_place_in places name) ≡ find (λ field. bytes_eq field.name name) (reverse fields)
 
 abbrev pub IndexesValues : BTreeMap (List ℕ) ℕ → List FieldValue → Type 0
-IndexesValues places values = (name : List ℕ) → item_at values (place_in places name) ≡ find (λ value. bytes_eq value.name name) (reverse values)
+IndexesValues places values = (name : List ℕ) → item_at values (field_place_in places name) ≡ find (λ value. bytes_eq value.name name) (reverse values)

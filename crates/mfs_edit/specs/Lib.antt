@@ -1,4 +1,4 @@
 pub mod Indexes
-pub mod Answers
+pub mod InputAnswers
 pub mod Texts
 pub mod Pieces

@@ -4,16 +4,16 @@ use Rattle.model_system.specs.declared.device_field.DeviceField.{DeviceField}
 use Rattle.model_system.specs.declared.message_field.MessageField.{MessageField}
 use Rattle.model_system.specs.declared.message_field.MessageField.TheVariants.{Source, Literal}
 use Rattle.model_system.specs.declared.message_field.MessageFieldLine.{MessageFieldLine}
-use Rattle.model_system.specs.Showing.{Piece, with_piece}
+use Rattle.model_system.specs.ScreenPage.{Piece, with_piece}
 
 -- what an MFLD leaves of a text, and what some of them leave
-abbrev pub left_by : MessageField → List ℕ → List ℕ
-left_by (Source source) text = drop source.width text
-left_by (Literal literal) text = text
+abbrev pub left_by_field : MessageField → List ℕ → List ℕ
+left_by_field (Source source) text = drop source.width text
+left_by_field (Literal literal) text = text
 
 abbrev pub rest_of : List MessageFieldLine → List ℕ → List ℕ
 rest_of [] text = text
-rest_of (line ∷ lines) text = rest_of lines (left_by line.content text)
+rest_of (line ∷ lines) text = rest_of lines (left_by_field line.content text)
 
 -- the piece of one MFLD
 abbrev pub piece_of : MessageField → List ℕ → List Piece
@@ -27,5 +27,5 @@ pub record OnPage (field : DeviceField) : Type 0 where
   pub last_column : field.column + field.width ≤ 81
 
 -- a row with a text in the columns of a field
-abbrev pub row_with : DeviceField → List ℕ → List ℕ → List ℕ
-row_with field text row = take (field.column - 1) row ++ (text ++ drop (field.column - 1 + field.width) row)
+abbrev pub screen_row_with : DeviceField → List ℕ → List ℕ → List ℕ
+screen_row_with field text row = take (field.column - 1) row ++ (text ++ drop (field.column - 1 + field.width) row)

@@ -1,12 +1,12 @@
 //! Values that are set into places.
 ghost use Rattle.std.specs.Prelude.{◌≡◌, ◌-◌, ◌++◌, length, take, drop, replicate};
-ghost use Rattle.model_system.specs.Fitting.{fitted};
+ghost use Rattle.model_system.specs.FittedValues.{fitted_value};
 
 use model_system::Justify;
 
 /// Sets a value into a place, as the definition says; the place keeps its length.
 pub(crate) fn set_fitted(place: &mut [u8], justify: Justify, fill: u8, value: &[u8])
-    ensures { place.new ≡ fitted justify fill (length place.old) value.now }
+    ensures { place.new ≡ fitted_value justify fill (length place.old) value.now }
 {
     match justify {
         Justify::Left => set_left(place, fill, value),

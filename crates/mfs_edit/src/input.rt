@@ -3,11 +3,11 @@ ghost use Rattle.std.specs.Prelude.{◌≡◌, ◌++◌, ◌≤◌, [], ℕ, Lis
 ghost use Rattle.std.specs.List.{list_all};
 ghost use Rattle.std.specs.Option.{option_map, option_copied};
 ghost use Rattle.tm_types.specs.Segment.{IsSegmentText, are_printable};
-ghost use Rattle.model_system.specs.Breaks.{KeepsRule, has_field};
-ghost use Rattle.model_system.specs.Entering as spec;
-ghost use Rattle.model_system.specs.Fitting.{fitted};
-ghost use Rattle.model_system.specs.Valid.{IsFormat};
-ghost use Rattle.mfs_edit.specs.Answers.{AnswersInput};
+ghost use Rattle.model_system.specs.FormatRule.{KeepsRule, has_field};
+ghost use Rattle.model_system.specs.ScreenInput as spec;
+ghost use Rattle.model_system.specs.FittedValues.{fitted_value};
+ghost use Rattle.model_system.specs.ValidFormat.{IsFormat};
+ghost use Rattle.mfs_edit.specs.InputAnswers.{AnswersInput};
 ghost use Rattle.mfs_edit.specs.Indexes.{IndexesFields, IndexesValues};
 ghost use Rattle.mfs_edit.specs.Texts.{is_text, values_printable};
 
@@ -36,7 +36,7 @@ pub fn edit_in(alloc: Global, format: &Format, fields: &Fields) -> Result<Segmen
     entered(alloc, format, fields)
 }
 
-#[tactic(auto, unfolding(model_system::specs::Entering::entered))]
+#[tactic(auto, unfolding(model_system::specs::ScreenInput::entered))]
 fn entered(alloc: Global, format: &Format, fields: &Fields) -> Result<Segments, EditRefused>
     requires rule { KeepsRule format.now }
     requires printable { IsTrue (values_printable fields.now) }
@@ -84,8 +84,8 @@ fn segments_of(
     lines: &[SegmentLine],
     values: &[FieldValue],
 ) -> Result<Segments, Memory>
-    requires { IsTrue (list_all (λ line. is_text (spec.texts_of values.now line.fields)) lines.now) }
-    ensures { IfOk result (λ segments. segments ≡ map (λ line. spec.texts_of values.now line.fields) lines.now) }
+    requires { IsTrue (list_all (λ line. is_text (spec.field_texts_of values.now line.fields)) lines.now) }
+    ensures { IfOk result (λ segments. segments ≡ map (λ line. spec.field_texts_of values.now line.fields) lines.now) }
 {
     let places = values_by_name(alloc, values)?;
     let mut segments = Segments::new(alloc);
@@ -104,8 +104,8 @@ fn segment_of(
     values: &[FieldValue],
 ) -> Result<Segment, Memory>
     requires places { IndexesValues places.now values.now }
-    requires text { IsTrue (is_text (spec.texts_of values.now lines.now)) }
-    ensures { IfOk result (λ segment. segment ≡ spec.texts_of values.now lines.now) }
+    requires text { IsTrue (is_text (spec.field_texts_of values.now lines.now)) }
+    ensures { IfOk result (λ segment. segment ≡ spec.field_texts_of values.now lines.now) }
 {
     let mut text = Vec::new(alloc);
     for line in lines {
@@ -131,7 +131,7 @@ fn add_text(
     values: &[FieldValue],
 ) -> Result<(), Memory>
     requires { IndexesValues places.now values.now }
-    ensures { OnOk result (text.new.items ≡ text.old.items ++ spec.text_of values.now content.now) }
+    ensures { OnOk result (text.new.items ≡ text.old.items ++ spec.field_text_of values.now content.now) }
 {
     match content {
         MessageField::Source(source) => {
@@ -145,7 +145,7 @@ fn add_text(
 /// The last value of a field, or an empty one.
 fn value_of<'a>(places: &BTreeMap<Name, usize>, values: &'a [FieldValue], name: &Name) -> &'a [u8]
     requires { IndexesValues places.now values.now }
-    ensures { result.now ≡ spec.value_of values.now name.now }
+    ensures { result.now ≡ spec.field_value_of values.now name.now }
 {
     match value_named(places, values, name) {
         Some(value) => value.text.as_slice(),
@@ -155,7 +155,7 @@ fn value_of<'a>(places: &BTreeMap<Name, usize>, values: &'a [FieldValue], name: 
 
 #[tactic(auto, using(crate::proofs::Setting::resized))]
 fn add_fitted(text: &mut Vec<u8>, source: &Source, value: &[u8]) -> Result<(), Memory>
-    ensures { OnOk result (text.new.items ≡ text.old.items ++ fitted source.now.justify source.now.fill source.now.width value.now) }
+    ensures { OnOk result (text.new.items ≡ text.old.items ++ fitted_value source.now.justify source.now.fill source.now.width value.now) }
 {
     let at = text.len();
     text.resize(at + source.width as usize, source.fill)?;

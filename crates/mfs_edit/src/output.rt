@@ -1,15 +1,15 @@
 //! The segments of a reply become a page.
 ghost use Rattle.std.specs.Prelude.{◌≡◌, ◌+◌, ◌-◌, ◌≤◌, ◌++◌, ◌∷◌, [], List, ℕ, None, IfOk, IsTrue, length, take, drop, slice_set};
 ghost use Rattle.std.specs.List.{list_all, slice_index_or};
-ghost use Rattle.model_system.specs.Breaks.{KeepsRule, clashing_field};
-ghost use Rattle.model_system.specs.Fitting.{fitted};
+ghost use Rattle.model_system.specs.FormatRule.{KeepsRule, clashing_field};
+ghost use Rattle.model_system.specs.FittedValues.{fitted_value};
 ghost use Rattle.model_system.specs.Pages.{IsPage};
-ghost use Rattle.model_system.specs.Showing as spec;
-ghost use Rattle.model_system.specs.Showing.{Piece};
-ghost use Rattle.model_system.specs.Valid.{is_on_page};
+ghost use Rattle.model_system.specs.ScreenPage as spec;
+ghost use Rattle.model_system.specs.ScreenPage.{Piece};
+ghost use Rattle.model_system.specs.ValidFormat.{is_on_page};
 ghost use Rattle.model_system.specs.declared.device_field.DeviceField.{DeviceField};
 ghost use Rattle.mfs_edit.specs.Indexes.{IndexesFields};
-ghost use Rattle.mfs_edit.specs.Pieces.{OnPage, left_by, piece_of, row_with};
+ghost use Rattle.mfs_edit.specs.Pieces.{OnPage, left_by_field, piece_of, screen_row_with};
 
 use crate::fitting::set_fitted;
 use crate::indexes::{field_named, fields_by_name};
@@ -23,10 +23,10 @@ use tm_types::{Memory, Name, Segments};
 /// The i-th segment meets the i-th SEG of the output; each of its MFLDs takes its bytes from the front
 /// of what is left, and they are set into its field by JUST and FILL. Literals and segments past the
 /// last SEG aren't shown; a field that no MFLD reaches is blank.
-#[tactic(auto, unfolding(model_system::specs::Showing::shown))]
+#[tactic(auto, unfolding(model_system::specs::ScreenPage::shown_page))]
 pub fn edit_out(alloc: Global, format: &Format, segments: &Segments) -> Result<Page, Memory>
     requires { KeepsRule format.now }
-    ensures { IfOk result (λ page. page ≡ spec.shown format.now segments.now) }
+    ensures { IfOk result (λ page. page ≡ spec.shown_page format.now segments.now) }
 {
     let places = fields_by_name(alloc, format.fields())?;
     let mut rows = blank_rows(alloc)?;
@@ -86,7 +86,7 @@ fn show_field<'a>(
     requires on_page { IsTrue (list_all is_on_page fields.now) }
     requires places { IndexesFields places.now fields.now }
     requires page { IsPage rows.old.items }
-    ensures rest { result.now ≡ left_by content.now text.now }
+    ensures rest { result.now ≡ left_by_field content.now text.now }
     ensures page { IsPage rows.new.items }
     ensures shown { (done : List Piece) → rows.old.items ≡ spec.page_of fields.now done → rows.new.items ≡ spec.page_of fields.now (done ++ piece_of content.now text.now) }
 {
@@ -133,7 +133,7 @@ fn show_piece(
 fn set_piece(rows: &mut Vec<[u8; 80]>, field: &DeviceField, source: &Source, text: &[u8])
     requires field { OnPage field.now }
     requires page { IsPage rows.old.items }
-    ensures { rows.new.items ≡ slice_set rows.old.items (field.now.row - 1) (row_with field.now (fitted source.now.justify source.now.fill field.now.width text.now) (slice_index_or rows.old.items (field.now.row - 1) [])) }
+    ensures { rows.new.items ≡ slice_set rows.old.items (field.now.row - 1) (screen_row_with field.now (fitted_value source.now.justify source.now.fill field.now.width text.now) (slice_index_or rows.old.items (field.now.row - 1) [])) }
 {
     let row = usize::from(field.row) - 1;
     set_field(&mut rows[row], field, source, text);
@@ -142,7 +142,7 @@ fn set_piece(rows: &mut Vec<[u8; 80]>, field: &DeviceField, source: &Source, tex
 /// Sets a piece into a field's columns of a row.
 fn set_field(row: &mut [u8; 80], field: &DeviceField, source: &Source, text: &[u8])
     requires { OnPage field.now }
-    ensures { row.new ≡ row_with field.now (fitted source.now.justify source.now.fill field.now.width text.now) row.old }
+    ensures { row.new ≡ screen_row_with field.now (fitted_value source.now.justify source.now.fill field.now.width text.now) row.old }
 {
     let at = usize::from(field.column) - 1;
     let end = at + usize::from(field.width);

@@ -6,7 +6,7 @@ use Rattle.std.specs.Option.{option_map}
 use Rattle.std.proofs.lemmas.Option.{same_Some}
 use Rattle.tm_types.specs.Segment.{is_printable}
 use Rattle.text_rows.specs.Lines.{split_at}
-use Rattle.model_system.specs.Valid.{is_literal}
+use Rattle.model_system.specs.ValidFormat.{is_literal}
 
 none_by : (p : ℕ → Bool) (byte n : ℕ) (bytes : List ℕ) (b : Bool) → p byte ≡ b → list_any p (take n bytes) ≡ false → list_any p (take (cond (not b) (1 + n) 0) (byte ∷ bytes)) ≡ false
 none_by p byte n bytes true e rest = refl

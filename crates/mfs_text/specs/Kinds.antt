@@ -13,8 +13,8 @@ other_macros =
     ∷ codes "PROGRAM" ∷ codes "END" ∷ []
 
 -- Rule 1: the name is a macro's. Rule 10: it is that of a macro of a format.
-unfoldable pub kind_of : List ℕ → Result Kind ℕ
-kind_of name =
+unfoldable pub format_kind_of : List ℕ → Result Kind ℕ
+format_kind_of name =
     if bytes_eq name (codes "DFLD") then Ok Field
     else (if bytes_eq name (codes "MSG") then Ok Message
     else (if bytes_eq name (codes "SEG") then Ok Segment
@@ -24,8 +24,8 @@ kind_of name =
     else Err 1)))))
 
 -- An MFLD with LIT is a literal, unless it has SRC too.
-unfoldable pub is_literal : List (List ℕ) → Bool
-is_literal ops = stands (codes "LIT") ops && not (stands (codes "SRC") ops)
+unfoldable pub has_literal : List (List ℕ) → Bool
+has_literal ops = stands (codes "LIT") ops && not (stands (codes "SRC") ops)
 
 abbrev pub field_keys : List (List ℕ)
 field_keys = codes "NAME" ∷ codes "POS" ∷ codes "LTH" ∷ []
@@ -34,14 +34,14 @@ abbrev pub source_keys : List (List ℕ)
 source_keys = codes "SRC" ∷ codes "LTH" ∷ codes "JUST" ∷ codes "FILL" ∷ []
 
 -- the keys that a macro has, an MFLD those of its form
-abbrev pub keys : Kind → Bool → List (List ℕ)
-keys Field literal = field_keys
-keys Message literal = codes "TYPE" ∷ []
-keys Segment literal = []
-keys MessageField true = codes "LIT" ∷ []
-keys MessageField false = source_keys
-keys End literal = []
+abbrev pub format_macro_keys : Kind → Bool → List (List ℕ)
+format_macro_keys Field literal = field_keys
+format_macro_keys Message literal = codes "TYPE" ∷ []
+format_macro_keys Segment literal = []
+format_macro_keys MessageField true = codes "LIT" ∷ []
+format_macro_keys MessageField false = source_keys
+format_macro_keys End literal = []
 
 -- Rule 2: each operand has one of these keys.
-unfoldable pub known : Kind → List (List ℕ) → Result (Unit {0}) ℕ
-known kind operands = known_among (keys kind (is_literal operands)) operands
+unfoldable pub format_keys_known : Kind → List (List ℕ) → Result (Unit {0}) ℕ
+format_keys_known kind operands = known_among (format_macro_keys kind (has_literal operands)) operands

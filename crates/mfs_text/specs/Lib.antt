@@ -2,6 +2,6 @@ pub mod Kinds
 pub mod Values
 pub mod Rows
 pub mod Lines
-pub mod Good
+pub mod GoodLine
 pub mod Formats
-pub mod Built
+pub mod BuiltFormat

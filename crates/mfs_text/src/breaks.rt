@@ -2,7 +2,7 @@
 ghost use Rattle.std.specs.Prelude.{◌≡◌, ◌+◌, [], nat_lt, IfNone};
 ghost use Rattle.std.specs.List.{list_any};
 ghost use Rattle.std.specs.Option.{option_or};
-ghost use Rattle.model_system.specs.Breaks as spec;
+ghost use Rattle.model_system.specs.FormatRule as spec;
 
 use model_system::{DeviceField, Format, MessageField, MessageFieldLine, SegmentLine};
 use tm_types::{Name, SEGMENT_LIMIT};
@@ -15,15 +15,15 @@ use tm_types::{Name, SEGMENT_LIMIT};
 /// in the line of its FMT.
 #[tactic(auto, using(crate::proofs::Kept::kept_by_all))]
 pub fn broken_line(format: &Format, line: u32) -> Option<u32>
-    ensures value { result ≡ spec.broken_line line format.now }
+    ensures value { result ≡ spec.broken_format_line line format.now }
     ensures kept { IfNone result (spec.KeepsRule format.now) }
 {
     first_broken(format, line)
 }
 
-#[tactic(auto, unfolding(model_system::specs::Breaks::broken_line))]
+#[tactic(auto, unfolding(model_system::specs::FormatRule::broken_format_line))]
 fn first_broken(format: &Format, line: u32) -> Option<u32>
-    ensures { result ≡ spec.broken_line line format.now }
+    ensures { result ≡ spec.broken_format_line line format.now }
 {
     first_of(
         no_input(line, format.input()),
@@ -105,7 +105,7 @@ fn has_field(name: &Name, fields: &[DeviceField]) -> bool
 }
 
 fn is_known(fields: &[DeviceField], content: &MessageField) -> bool
-    ensures { result ≡ spec.is_known fields.now content.now }
+    ensures { result ≡ spec.is_source_known fields.now content.now }
 {
     match content {
         MessageField::Source(source) => has_field(&source.name, fields),
@@ -126,7 +126,7 @@ fn unknown_source(fields: &[DeviceField], lines: &[MessageFieldLine]) -> Option<
 }
 
 fn bytes_of(content: &MessageField) -> usize
-    ensures { result ≡ spec.bytes_of content.now }
+    ensures { result ≡ spec.field_bytes content.now }
 {
     match content {
         MessageField::Source(source) => source.width as usize,
@@ -137,7 +137,7 @@ fn bytes_of(content: &MessageField) -> usize
 /// Whether the MFLDs have more bytes together than a segment may have.
 #[tactic(auto, using(crate::proofs::SegmentRoom::one_more))]
 fn is_too_long(lines: &[MessageFieldLine]) -> bool
-    ensures { result ≡ nat_lt 1996 (spec.bytes_in lines.now) }
+    ensures { result ≡ nat_lt 1996 (spec.segment_bytes_in lines.now) }
 {
     let mut room = SEGMENT_LIMIT;
     for line in lines {

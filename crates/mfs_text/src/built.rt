@@ -1,8 +1,8 @@
 //! A format as far as its lines have been read.
 ghost use Rattle.std.specs.Prelude.{◌≡◌, [], ◌∷◌, OnOk, IsTrue};
-ghost use Rattle.model_system.specs.Valid.{IsFormat};
-ghost use Rattle.mfs_text.specs.Built as spec;
-ghost use Rattle.mfs_text.specs.Good.{is_good};
+ghost use Rattle.model_system.specs.ValidFormat.{IsFormat};
+ghost use Rattle.mfs_text.specs.BuiltFormat as spec;
+ghost use Rattle.mfs_text.specs.GoodLine.{is_good};
 
 use crate::{Direction, FormatLine, Section};
 use model_system::{DeviceField, MessageFieldLine, MessageFields, SegmentLine};
@@ -106,7 +106,7 @@ fn add_field(built: &mut Built, section: Section, line: MessageFieldLine) -> Res
 /// Adds an MFLD to the last segment, if there is one.
 #[tactic(auto, using(crate::proofs::Joining::last_of))]
 fn add_to_last(segments: &mut Vec<SegmentLine>, line: MessageFieldLine) -> Result<(), Memory>
-    ensures { OnOk result (segments.new.items ≡ spec.with_last segments.old.items (line ∷ [])) }
+    ensures { OnOk result (segments.new.items ≡ spec.with_last_fields segments.old.items (line ∷ [])) }
 {
     match segments.pop() {
         None => Ok(()),

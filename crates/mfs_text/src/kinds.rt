@@ -25,9 +25,9 @@ pub enum Kind {
 
 /// The kind that a name stands for: rule 1 where it is no macro's, rule 10 where it is that of a macro
 /// that stands in no format.
-#[tactic(auto, unfolding(crate::specs::Kinds::kind_of))]
+#[tactic(auto, unfolding(crate::specs::Kinds::format_kind_of))]
 pub(crate) fn kind_of(name: &[u8]) -> Result<Kind, u8>
-    ensures { result ≡ spec.kind_of name.now }
+    ensures { result ≡ spec.format_kind_of name.now }
 {
     if is_word(name, b"DFLD") {
         Ok(Kind::Field)
@@ -63,17 +63,17 @@ fn is_other_macro(name: &[u8]) -> bool
 }
 
 /// Whether an MFLD with these operands is a literal.
-#[tactic(auto, unfolding(crate::specs::Kinds::is_literal))]
+#[tactic(auto, unfolding(crate::specs::Kinds::has_literal))]
 pub(crate) fn is_literal(operands: &Operands<'_>) -> bool
-    ensures { result ≡ spec.is_literal operands.now }
+    ensures { result ≡ spec.has_literal operands.now }
 {
     operands.stands(b"LIT") && !operands.stands(b"SRC")
 }
 
 /// Rule 2 where an operand isn't one of the macro's, or of the MFLD's form.
-#[tactic(auto, unfolding(crate::specs::Kinds::known))]
+#[tactic(auto, unfolding(crate::specs::Kinds::format_keys_known))]
 pub(crate) fn known(kind: Kind, operands: &Operands<'_>) -> Result<(), u8>
-    ensures { result ≡ spec.known kind operands.now }
+    ensures { result ≡ spec.format_keys_known kind operands.now }
 {
     match (kind, is_literal(operands)) {
         (Kind::Field, _) => operands.known_among(&[b"NAME", b"POS", b"LTH"]),

@@ -1,7 +1,7 @@
 //! What the lines of a format are, and where each may stand.
 ghost use Rattle.std.specs.Prelude.{◌≡◌, IfOk, OnOk, IsTrue};
 ghost use Rattle.mfs_text.specs.Lines as spec;
-ghost use Rattle.mfs_text.specs.Good.{is_good};
+ghost use Rattle.mfs_text.specs.GoodLine.{is_good};
 
 use crate::Kind;
 use crate::kinds::{kind_of, known};
@@ -50,7 +50,7 @@ pub enum FormatLine {
 }
 
 fn is_allowed(section: Section, line: &FormatLine) -> bool
-    ensures { result ≡ spec.is_allowed section line.now }
+    ensures { result ≡ spec.is_line_allowed section line.now }
 {
     match line {
         FormatLine::Nothing | FormatLine::End => true,
@@ -92,7 +92,7 @@ fn may_begin(section: Section, direction: Direction) -> bool
 
 /// Whether a macro of this kind may stand there, whatever its operands are.
 fn may_stand(section: Section, kind: Kind) -> bool
-    ensures { result ≡ spec.may_stand section kind }
+    ensures { result ≡ spec.may_stand_in_format section kind }
 {
     match kind {
         Kind::Field => is_in_fields(section),
@@ -106,12 +106,12 @@ fn may_stand(section: Section, kind: Kind) -> bool
 }
 
 /// Rule 10 where the line may not stand there, unless its operands break a lower one.
-#[tactic(auto, unfolding(crate::specs::Lines::placed))]
+#[tactic(auto, unfolding(crate::specs::Lines::placed_line))]
 fn placed(section: Section, kind: Kind, read: Result<FormatLine, u8>) -> Result<FormatLine, u8>
     requires { IfOk read (λ line. IsTrue (is_good line)) }
-    ensures value { result ≡ spec.placed section kind read }
+    ensures value { result ≡ spec.placed_line section kind read }
     ensures valid { IfOk result (λ line. IsTrue (is_good line)) }
-    ensures allowed { IfOk result (λ line. IsTrue (spec.is_allowed section line)) }
+    ensures allowed { IfOk result (λ line. IsTrue (spec.is_line_allowed section line)) }
 {
     match read {
         Ok(line) if is_allowed(section, &line) => Ok(line),
@@ -133,15 +133,15 @@ pub(crate) fn section_after(section: Section, line: &FormatLine) -> Section
 }
 
 /// The line of this number, or the lowest rule that it breaks.
-#[tactic(auto, unfolding(crate::specs::Lines::format_line))]
+#[tactic(auto, unfolding(crate::specs::Lines::line_of_format))]
 pub(crate) fn format_line(
     alloc: Global,
     section: Section,
     number: u32,
     line: &[u8],
 ) -> Result<Result<FormatLine, u8>, Memory>
-    ensures value { IfOk result (λ read. read ≡ spec.format_line section number line.now) }
-    ensures allowed { IfOk result (λ read. IfOk read (λ line. IsTrue (spec.is_allowed section line))) }
+    ensures value { IfOk result (λ read. read ≡ spec.line_of_format section number line.now) }
+    ensures allowed { IfOk result (λ read. IfOk read (λ line. IsTrue (spec.is_line_allowed section line))) }
     ensures valid { IfOk result (λ read. IfOk read (λ line. IsTrue (is_good line))) }
 {
     if is_passed_over(line) {

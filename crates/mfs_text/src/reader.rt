@@ -1,10 +1,10 @@
 //! The lines of a format, one after another.
 ghost use Rattle.std.specs.Prelude.{◌≡◌, ◌+◌, ◌<◌, ◌^◌, IfOk, IsTrue, length};
-ghost use Rattle.text_rows.specs.Refusals.{Answers, at_line};
-ghost use Rattle.model_system.specs.Valid.{IsFormat};
-ghost use Rattle.mfs_text.specs.Built.{lines_in};
+ghost use Rattle.text_rows.specs.Refusals.{AnswersLines, at_line};
+ghost use Rattle.model_system.specs.ValidFormat.{IsFormat};
+ghost use Rattle.mfs_text.specs.BuiltFormat.{lines_in};
 ghost use Rattle.mfs_text.specs.Formats as spec;
-ghost use Rattle.mfs_text.specs.Good.{is_good};
+ghost use Rattle.mfs_text.specs.GoodLine.{is_good};
 ghost use Rattle.mfs_text.specs.Lines as lines;
 
 use crate::built::add;
@@ -22,10 +22,10 @@ use tm_edge::Line;
 /// The answer is the format exactly where no line breaks a rule, else the lowest line that breaks
 /// one with the lowest rule that it breaks, or want of memory. A missing FMTEND is named one past
 /// the last line. Lines behind FMTEND are not read.
-#[tactic(auto, unfolding(crate::specs::Formats::format_of))]
+#[tactic(auto, unfolding(crate::specs::Formats::read_format))]
 pub fn read_format(alloc: Global, lines: &[Line], first: u32) -> Result<Format, LineRefused>
     requires { first + length lines.now < 2 ^ 32 }
-    ensures { Answers result (spec.format_of first lines.now) }
+    ensures { AnswersLines result (spec.read_format first lines.now) }
 {
     let mut built = Built::new(alloc);
     let mut section = Section::Fields;
@@ -42,7 +42,7 @@ pub fn read_format(alloc: Global, lines: &[Line], first: u32) -> Result<Format, 
 }
 
 fn is_last(content: &FormatLine) -> bool
-    ensures { result ≡ spec.is_last content.now }
+    ensures { result ≡ spec.is_format_last content.now }
 {
     match content {
         FormatLine::End => true,
@@ -57,8 +57,8 @@ fn read_line(
     number: u32,
     line: &Line,
 ) -> Result<FormatLine, LineRefused>
-    ensures value { Answers result (at_line number (lines.format_line section number line.now)) }
-    ensures allowed { IfOk result (λ content. IsTrue (lines.is_allowed section content)) }
+    ensures value { AnswersLines result (at_line number (lines.line_of_format section number line.now)) }
+    ensures allowed { IfOk result (λ content. IsTrue (lines.is_line_allowed section content)) }
     ensures valid { IfOk result (λ content. IsTrue (is_good content)) }
 {
     match format_line(alloc, section, number, line.bytes())? {

@@ -1,11 +1,11 @@
 //! The table of a format's macros.
 ghost use Rattle.std.specs.Prelude.{◌≡◌, ◌+◌, ◌≤◌, Ok, Err, IfOk, IsTrue, MatchResult, codes};
-ghost use Rattle.text_rows.specs.Lowest.{both};
+ghost use Rattle.text_rows.specs.LowestRule.{both};
 ghost use Rattle.text_rows.specs.Numbers.{number_between};
 ghost use Rattle.text_rows.specs.Operands.{needed, or_as};
 ghost use Rattle.model_system.specs.declared.message_field.Justify.TheVariants.{Left};
-ghost use Rattle.model_system.specs.Valid.{is_fill, is_literal, is_message_field};
-ghost use Rattle.mfs_text.specs.Good.{is_good};
+ghost use Rattle.model_system.specs.ValidFormat.{is_fill, is_literal, is_message_field};
+ghost use Rattle.mfs_text.specs.GoodLine.{is_good};
 ghost use Rattle.mfs_text.specs.Values as values;
 ghost use Rattle.mfs_text.specs.Rows as spec;
 
@@ -20,7 +20,7 @@ use tm_types::{Bytes, Memory, Name};
 
 #[tactic(auto, unfolding(text_rows::specs::Operands::needed))]
 fn place(operands: &Operands<'_>) -> Result<(u8, u8), u8>
-    ensures value { result ≡ needed (codes "POS") values.place_of operands.now }
+    ensures value { result ≡ needed (codes "POS") values.screen_place_of operands.now }
     ensures row { IfOk result (λ place. (1 ≤ place.0) × (place.0 ≤ 24)) }
     ensures column { IfOk result (λ place. (1 ≤ place.1) × (place.1 ≤ 80)) }
 {
@@ -189,25 +189,23 @@ fn message_field_row(
 
 fn numbered(number: u32, field: Result<MessageField, u8>) -> Result<FormatLine, u8>
     requires { IfOk field (λ content. IsTrue (is_message_field content)) }
-    ensures value { result ≡ spec.numbered number field }
+    ensures value { result ≡ spec.numbered_field number field }
     ensures valid { IfOk result (λ line. IsTrue (is_good line)) }
 {
-    match field {
-        Ok(content) => Ok(FormatLine::MessageField(MessageFieldLine { number, content })),
-        Err(rule) => Err(rule),
-    }
+    let content = field?;
+    Ok(FormatLine::MessageField(MessageFieldLine { number, content }))
 }
 
 /// The line of a kind that has these operands and this number, or the lowest rule that their values
 /// break.
-#[tactic(auto, unfolding(crate::specs::Rows::row))]
+#[tactic(auto, unfolding(crate::specs::Rows::format_macro_row))]
 pub(crate) fn row(
     alloc: Global,
     kind: Kind,
     number: u32,
     operands: &Operands<'_>,
 ) -> Result<Result<FormatLine, u8>, Memory>
-    ensures value { IfOk result (λ read. read ≡ spec.row kind number operands.now) }
+    ensures value { IfOk result (λ read. read ≡ spec.format_macro_row kind number operands.now) }
     ensures valid { IfOk result (λ read. IfOk read (λ line. IsTrue (is_good line))) }
 {
     match kind {

@@ -1,7 +1,7 @@
 //! The values of operands.
 ghost use Rattle.std.specs.Prelude.{◌≡◌, ◌≤◌, Ok, Err, IfOk, IsTrue, MatchResult};
 ghost use Rattle.text_rows.specs.Lines.{split_at};
-ghost use Rattle.model_system.specs.Valid.{is_fill, is_literal};
+ghost use Rattle.model_system.specs.ValidFormat.{is_fill, is_literal};
 ghost use Rattle.mfs_text.specs.Values as spec;
 
 use crate::Direction;
@@ -11,9 +11,9 @@ use text_rows::{both, byte_between, is_word, split_at, two_of};
 use tm_types::{are_printable, is_printable};
 
 /// POS: a row of 1 to 24 and a column of 1 to 80.
-#[tactic(auto, unfolding(crate::specs::Values::place_of))]
+#[tactic(auto, unfolding(crate::specs::Values::screen_place_of))]
 pub(crate) fn place_of(text: &[u8]) -> Result<(u8, u8), u8>
-    ensures value { result ≡ spec.place_of text.now }
+    ensures value { result ≡ spec.screen_place_of text.now }
     ensures row { IfOk result (λ place. (1 ≤ place.0) × (place.0 ≤ 24)) }
     ensures column { IfOk result (λ place. (1 ≤ place.1) × (place.1 ≤ 80)) }
 {
@@ -83,7 +83,7 @@ pub(crate) fn literal_of(text: &[u8]) -> Result<&[u8], u8>
 }
 
 fn closed(text: &[u8]) -> Result<&[u8], u8>
-    ensures value { MatchResult result (λ inside. spec.closed (split_at 39 text.now) ≡ Ok inside.now) (λ rule. spec.closed (split_at 39 text.now) ≡ Err rule) }
+    ensures value { MatchResult result (λ inside. spec.literal_closed (split_at 39 text.now) ≡ Ok inside.now) (λ rule. spec.literal_closed (split_at 39 text.now) ≡ Err rule) }
     ensures valid { IfOk result (λ inside. IsTrue (is_literal inside.now)) }
 {
     match split_at(b'\'', text) {

@@ -10,3 +10,4 @@ pub mod Records
 pub mod Whole
 pub mod Entries
 pub mod Roots
+pub mod Holders

@@ -16,7 +16,7 @@ use Rattle.model_data.specs.declared.row.Row.{Row}
 use Rattle.model_data.specs.Path.{root_of, end_type, end_key, parent_path, path_cmp, IsChild, IsPathBelow, IsPath}
 use Rattle.model_data.specs.Row.{HasPath, IsRow, row_cmp}
 use Rattle.model_data.specs.Record.{IsUnder, row_spelling}
-use Rattle.model_data.specs.Reading.{down_to, last_path, may_follow, row_at, next_row}
+use Rattle.model_data.specs.RowsOfBytes.{down_to, last_path, may_follow, row_at, next_row}
 use Rattle.std.proofs.lemmas.Map.Keys.{sorted_head}
 use Rattle.model_data.proofs.Order.{path_total, between, prefix_less, not_less_itself, not_before_prefix, less_greater, equal_greater}
 use Rattle.model_data.proofs.Lists.{all_front, all_back, all_append, all_then, sorted_front, sorted_back, sorted_across, sorted_push, sorted_single}

@@ -7,7 +7,7 @@ use Rattle.std.specs.Option.{IsSomeAnd}
 use Rattle.tm_types.specs.declared.dbd.SegType.{SegType}
 use Rattle.tm_types.specs.SegTypes.{IsTypeAt, IsHierarchy, type_at}
 use Rattle.model_data.specs.Path.{root_of, end_type, end_key, parent_path, IsChild, IsPathBelow, IsPath}
-use Rattle.model_data.specs.Reading.{down_to}
+use Rattle.model_data.specs.RowsOfBytes.{down_to}
 
 -- what holds of the value in a `Some`
 pub some_and : {A : Type 0} (P : A → Type 0) (o : Option A) → IsSomeAnd o P → (x : A) × (o ≡ Some x) × P x

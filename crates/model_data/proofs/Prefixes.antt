@@ -13,8 +13,8 @@ use Rattle.model_data.specs.declared.row.Row.{Row}
 use Rattle.std.specs.Option.{option_map}
 use Rattle.std.specs.List.{slice_get}
 use Rattle.model_data.specs.Path.{root_of, end_type, IsPath}
-use Rattle.model_data.specs.Record.{IsUnder, IsLongRecord, Spells, SpellsRecord, IsLongestRecord, row_spelling, spelling, record_limit, record_root}
-use Rattle.model_data.specs.Reading.{last_path, next_row, down_to}
+use Rattle.model_data.specs.Record.{IsUnder, IsLongRecord, Spells, SpellsRecord, IsLongestRecord, row_spelling, rows_spelling, record_limit, record_root}
+use Rattle.model_data.specs.RowsOfBytes.{last_path, next_row, down_to}
 use Rattle.model_data.proofs.Paths.{end_type_push}
 use Rattle.model_data.proofs.Reading.{reads_next}
 use Rattle.model_data.proofs.NextRow.{row_read, row_known}
@@ -27,17 +27,17 @@ append_cancel (x ∷ a) b c e = append_cancel a b c (ap (drop 1) e)
 pub length_row : (row : Row) → length (row_spelling row) ≡ 1 + length row.bytes
 length_row row = omega arith
 
-pub length_spelling : (row : Row) (rows : List Row) → length (spelling (row ∷ rows)) ≡ length (row_spelling row) + length (spelling rows)
-length_spelling row rows = length-append (row_spelling row) (spelling rows)
+pub length_spelling : (row : Row) (rows : List Row) → length (rows_spelling (row ∷ rows)) ≡ length (row_spelling row) + length (rows_spelling rows)
+length_spelling row rows = length-append (row_spelling row) (rows_spelling rows)
 
-pub spelling_append : (xs ys : List Row) → spelling (xs ++ ys) ≡ spelling xs ++ spelling ys
+pub spelling_append : (xs ys : List Row) → rows_spelling (xs ++ ys) ≡ rows_spelling xs ++ rows_spelling ys
 spelling_append xs ys = flat_map-append row_spelling xs ys
 
-pub length_spelling_append : (xs ys : List Row) → length (spelling (xs ++ ys)) ≡ length (spelling xs) + length (spelling ys)
-length_spelling_append xs ys = ap length (spelling_append xs ys) ∙ length-append (spelling xs) (spelling ys)
+pub length_spelling_append : (xs ys : List Row) → length (rows_spelling (xs ++ ys)) ≡ length (rows_spelling xs) + length (rows_spelling ys)
+length_spelling_append xs ys = ap length (spelling_append xs ys) ∙ length-append (rows_spelling xs) (rows_spelling ys)
 
 -- only no rows are spelled by no bytes
-pub no_spelling : (rows : List Row) → length (spelling rows) ≡ 0 → rows ≡ []
+pub no_spelling : (rows : List Row) → length (rows_spelling rows) ≡ 0 → rows ≡ []
 no_spelling [] e = refl
 no_spelling (row ∷ rows) e = absurd (omega (arith, length_spelling row rows, length_row row))
 
@@ -69,19 +69,19 @@ module _ (types : List SegType) (all : IsHierarchy types) where
 
   -- of two lists of rows that go on from the same rows, and whose spellings begin alike, the shorter is a front of the longer
   pub front_of : (front xs ys : List Row) (p q : List ℕ) (u v : List ℕ) → IsUnder types p (front ++ xs) → IsUnder types q (front ++ ys)
-      → spelling xs ++ u ≡ spelling ys ++ v → length (spelling xs) ≤ length (spelling ys) → (more : List Row) × (ys ≡ xs ++ more)
+      → rows_spelling xs ++ u ≡ rows_spelling ys ++ v → length (rows_spelling xs) ≤ length (rows_spelling ys) → (more : List Row) × (ys ≡ xs ++ more)
   front_of front [] ys p q u v hx hy e l = (ys, refl)
   front_of front (x ∷ xs) [] p q u v hx hy e l = absurd (omega (arith, length_spelling x xs, length_row x))
   front_of front (x ∷ xs) (y ∷ ys) p q u v hx hy e l =
-      let ex : (row_spelling x ++ spelling xs) ++ u ≡ row_spelling x ++ (spelling xs ++ u) = append_assoc (row_spelling x) (spelling xs) u in
-      let ey : (row_spelling y ++ spelling ys) ++ v ≡ row_spelling y ++ (spelling ys ++ v) = append_assoc (row_spelling y) (spelling ys) v in
-      let bytes : row_spelling x ++ (spelling xs ++ u) ≡ row_spelling y ++ (spelling ys ++ v) = sym ex ∙ (e ∙ ey) in
-      let rx = row_known types all front xs x p hx (spelling xs ++ u) in
-      let ry = row_known types all front ys y q hy (spelling ys ++ v) in
+      let ex : (row_spelling x ++ rows_spelling xs) ++ u ≡ row_spelling x ++ (rows_spelling xs ++ u) = append_assoc (row_spelling x) (rows_spelling xs) u in
+      let ey : (row_spelling y ++ rows_spelling ys) ++ v ≡ row_spelling y ++ (rows_spelling ys ++ v) = append_assoc (row_spelling y) (rows_spelling ys) v in
+      let bytes : row_spelling x ++ (rows_spelling xs ++ u) ≡ row_spelling y ++ (rows_spelling ys ++ v) = sym ex ∙ (e ∙ ey) in
+      let rx = row_known types all front xs x p hx (rows_spelling xs ++ u) in
+      let ry = row_known types all front ys y q hy (rows_spelling ys ++ v) in
       let same : x ≡ y = same_Some x y (sym rx ∙ (ap (next_row types (last_path front)) bytes ∙ ry)) in
-      let rest : spelling xs ++ u ≡ spelling ys ++ v =
-      append_cancel (row_spelling x) _ _ (bytes ∙ ap (λ r. row_spelling r ++ (spelling ys ++ v)) (sym same)) in
-      let shorter : length (spelling xs) ≤ length (spelling ys) =
+      let rest : rows_spelling xs ++ u ≡ rows_spelling ys ++ v =
+      append_cancel (row_spelling x) _ _ (bytes ∙ ap (λ r. row_spelling r ++ (rows_spelling ys ++ v)) (sym same)) in
+      let shorter : length (rows_spelling xs) ≤ length (rows_spelling ys) =
       omega (arith, length_spelling x xs, length_spelling y ys, ap (λ r. length (row_spelling r)) same) in
       let hx' : IsUnder types p ((front ++ x ∷ []) ++ xs) = subst (IsUnder types p) (sym (append_assoc front (x ∷ []) xs)) hx in
       let hy' : IsUnder types q ((front ++ x ∷ []) ++ ys) =
@@ -90,32 +90,32 @@ module _ (types : List SegType) (all : IsHierarchy types) where
       (found.0, λ i. sym same i ∷ found.1 i)
 
   -- the rows under a root are determined by their bytes
-  pub same_rows : (xs ys : List Row) (p q : List ℕ) → IsUnder types p xs → IsUnder types q ys → spelling xs ≡ spelling ys → xs ≡ ys
+  pub same_rows : (xs ys : List Row) (p q : List ℕ) → IsUnder types p xs → IsUnder types q ys → rows_spelling xs ≡ rows_spelling ys → xs ≡ ys
   same_rows xs ys p q hx hy e =
       let found = front_of [] xs ys p q [] [] hx hy (ap (λ b. b ++ []) e) (omega (arith, ap length e)) in
       let none : found.0 ≡ [] = no_spelling found.0
-      (omega (arith, ap length e, ap (λ rs. length (spelling rs)) found.1, length_spelling_append xs found.0)) in
+      (omega (arith, ap length e, ap (λ rs. length (rows_spelling rs)) found.1, length_spelling_append xs found.0)) in
       sym (found.1 ∙ (ap (λ more. xs ++ more) none ∙ append-nil xs))
 
 -- reading on is stuck: there is no next row, or it leads past the limit
 abbrev pub IsStuck : Dbd → List Row → List ℕ → Type 0
 IsStuck dbd rows rest =
     (next_row dbd.types (last_path rows) rest ≡ None)
-    ⊎ ((row : Row) × (next_row dbd.types (last_path rows) rest ≡ Some row) × (record_limit dbd < length (spelling rows) + length (row_spelling row)))
+    ⊎ ((row : Row) × (next_row dbd.types (last_path rows) rest ≡ Some row) × (record_limit dbd < length (rows_spelling rows) + length (row_spelling row)))
 
 module _ (dbd : Dbd) (all : IsHierarchy dbd.types) where
   -- where reading on is stuck, no longer prefix spells a record
-  pub stuck_longest : (rows : List Row) (root rest : List ℕ) → IsUnder dbd.types root rows → length (spelling rows) ≤ record_limit dbd
-      → IsStuck dbd rows rest → IsLongestRecord dbd (spelling rows ++ rest) (length (spelling rows))
+  pub stuck_longest : (rows : List Row) (root rest : List ℕ) → IsUnder dbd.types root rows → length (rows_spelling rows) ≤ record_limit dbd
+      → IsStuck dbd rows rest → IsLongestRecord dbd (rows_spelling rows ++ rest) (length (rows_spelling rows))
   stuck_longest rows root rest under fits stuck =
       record {
-        within = omega (arith, length-append (spelling rows) rest);
+        within = omega (arith, length-append (rows_spelling rows) rest);
         spells = spells rows under fits;
         longest = longest;
       }
     where
-      spells : (rs : List Row) → IsUnder dbd.types root rs → length (spelling rs) ≤ record_limit dbd
-          → (length (spelling rs) ≡ 0) ⊎ SpellsRecord dbd (take (length (spelling rs)) (spelling rs ++ rest))
+      spells : (rs : List Row) → IsUnder dbd.types root rs → length (rows_spelling rs) ≤ record_limit dbd
+          → (length (rows_spelling rs) ≡ 0) ⊎ SpellsRecord dbd (take (length (rows_spelling rs)) (rows_spelling rs ++ rest))
       spells [] u f = inl refl
       spells (r ∷ rs) u f =
           inr (record {
@@ -123,40 +123,40 @@ module _ (dbd : Dbd) (all : IsHierarchy dbd.types) where
             spells = record {
               root = root;
               valid = record { whole = record { some = λ e. let empty : r ∷ rs ≡ [] = e in absurd (cc); under = u }; within = f };
-              spelled = sym (take-append_seam (spelling (r ∷ rs)) rest);
+              spelled = sym (take-append_seam (rows_spelling (r ∷ rs)) rest);
             };
           })
 
       behind : (r : Row) (more : List Row) (others : List Row) (q after : List ℕ) → others ≡ rows ++ r ∷ more → IsUnder dbd.types q others
-          → spelling others ++ after ≡ spelling rows ++ rest → next_row dbd.types (last_path rows) rest ≡ Some r
+          → rows_spelling others ++ after ≡ rows_spelling rows ++ rest → next_row dbd.types (last_path rows) rest ≡ Some r
       behind r more others q after e u whole =
           let u' : IsUnder dbd.types q (rows ++ r ∷ more) = subst (IsUnder dbd.types q) e u in
-          let split : spelling others ++ after ≡ spelling rows ++ (row_spelling r ++ (spelling more ++ after)) =
-          ap (λ b. b ++ after) (ap spelling e ∙ spelling_append rows (r ∷ more))
-          ∙ (append_assoc (spelling rows) (row_spelling r ++ spelling more) after
-          ∙ ap (λ b. spelling rows ++ b) (append_assoc (row_spelling r) (spelling more) after)) in
-          let same : row_spelling r ++ (spelling more ++ after) ≡ rest = append_cancel (spelling rows) _ _ (sym split ∙ whole) in
-          ap (next_row dbd.types (last_path rows)) (sym same) ∙ row_known dbd.types all rows more r q u' (spelling more ++ after)
+          let split : rows_spelling others ++ after ≡ rows_spelling rows ++ (row_spelling r ++ (rows_spelling more ++ after)) =
+          ap (λ b. b ++ after) (ap rows_spelling e ∙ spelling_append rows (r ∷ more))
+          ∙ (append_assoc (rows_spelling rows) (row_spelling r ++ rows_spelling more) after
+          ∙ ap (λ b. rows_spelling rows ++ b) (append_assoc (row_spelling r) (rows_spelling more) after)) in
+          let same : row_spelling r ++ (rows_spelling more ++ after) ≡ rest = append_cancel (rows_spelling rows) _ _ (sym split ∙ whole) in
+          ap (next_row dbd.types (last_path rows)) (sym same) ∙ row_known dbd.types all rows more r q u' (rows_spelling more ++ after)
 
       cut : (n : ℕ) (others : List Row) (q after : List ℕ) (more : List Row) → others ≡ rows ++ more → IsUnder dbd.types q others
-          → length (spelling others) ≡ n → length (spelling others) ≤ record_limit dbd → spelling others ++ after ≡ spelling rows ++ rest
-          → length (spelling rows) < n → ⊥
+          → length (rows_spelling others) ≡ n → length (rows_spelling others) ≤ record_limit dbd → rows_spelling others ++ after ≡ rows_spelling rows ++ rest
+          → length (rows_spelling rows) < n → ⊥
       cut n others q after [] e u long fit whole up =
-          absurd (omega (arith, ap (λ rs. length (spelling rs)) (e ∙ append-nil rows)))
+          absurd (omega (arith, ap (λ rs. length (rows_spelling rs)) (e ∙ append-nil rows)))
       cut n others q after (r ∷ more) e u long fit whole up =
           let next : next_row dbd.types (last_path rows) rest ≡ Some r = behind r more others q after e u whole in
           ⊎_elim
           (λ gone. none-some r (sym gone ∙ next))
           (λ past.
           let same : past.0 ≡ r = same_Some past.0 r (sym past.1 ∙ next) in
-          absurd (omega (arith, past.2, ap (λ row. length (row_spelling row)) same, ap (λ rs. length (spelling rs)) e, length_spelling_append rows (r ∷ more), length_spelling r more)))
+          absurd (omega (arith, past.2, ap (λ row. length (row_spelling row)) same, ap (λ rs. length (rows_spelling rs)) e, length_spelling_append rows (r ∷ more), length_spelling r more)))
           stuck
 
-      longest : (n : ℕ) → length (spelling rows) < n → n ≤ length (spelling rows ++ rest) → SpellsRecord dbd (take n (spelling rows ++ rest)) → ⊥
+      longest : (n : ℕ) → length (rows_spelling rows) < n → n ≤ length (rows_spelling rows ++ rest) → SpellsRecord dbd (take n (rows_spelling rows ++ rest)) → ⊥
       longest n more within sp =
-          let bytes = spelling rows ++ rest in
-          let whole : spelling sp.rows ++ drop n bytes ≡ bytes = ap (λ b. b ++ drop n bytes) sp.spells.spelled ∙ take-append-drop n bytes in
-          let long : length (spelling sp.rows) ≡ n = ap length sp.spells.spelled ∙ length-take-le n bytes within in
+          let bytes = rows_spelling rows ++ rest in
+          let whole : rows_spelling sp.rows ++ drop n bytes ≡ bytes = ap (λ b. b ++ drop n bytes) sp.spells.spelled ∙ take-append-drop n bytes in
+          let long : length (rows_spelling sp.rows) ≡ n = ap length sp.spells.spelled ∙ length-take-le n bytes within in
           let found = front_of dbd.types all [] rows sp.rows root sp.spells.root rest (drop n bytes) under sp.spells.valid.whole.under (sym whole) (omega arith) in
           cut n sp.rows sp.spells.root (drop n bytes) found.0 found.1 sp.spells.valid.whole.under long sp.spells.valid.within whole more
 
@@ -164,38 +164,38 @@ module _ (dbd : Dbd) (all : IsHierarchy dbd.types) where
   pub read_step : (rows : List Row) (root rest : List ℕ) → IsUnder dbd.types root rows
       → IsStuck dbd rows rest
       ⊎ ((row : Row) × (more : List ℕ) × (rest ≡ row_spelling row ++ more) × IsUnder dbd.types (root_of row.path) (rows ++ row ∷ [])
-      × (length (spelling (rows ++ row ∷ [])) ≤ record_limit dbd))
+      × (length (rows_spelling (rows ++ row ∷ [])) ≤ record_limit dbd))
   read_step rows root rest under = by (next_row dbd.types (last_path rows) rest) refl
     where
       by : (o : Option Row) → next_row dbd.types (last_path rows) rest ≡ o
           → IsStuck dbd rows rest
           ⊎ ((row : Row) × (more : List ℕ) × (rest ≡ row_spelling row ++ more) × IsUnder dbd.types (root_of row.path) (rows ++ row ∷ [])
-          × (length (spelling (rows ++ row ∷ [])) ≤ record_limit dbd))
+          × (length (rows_spelling (rows ++ row ∷ [])) ≤ record_limit dbd))
       by None e = inl (inl e)
       by (Some row) e =
           ⊎_elim
           (λ past. inl (inr (row, e, past)))
           (λ fits.
           let found = row_spelled dbd.types (last_path rows) rest row e in
-          let last : length (spelling (row ∷ [])) ≡ length (row_spelling row) = ap length (append-nil (row_spelling row)) in
+          let last : length (rows_spelling (row ∷ [])) ≡ length (row_spelling row) = ap length (append-nil (row_spelling row)) in
           inr (row, found.0, found.1, next_under dbd.types all rows root under rest row e, omega (arith, fits, last, length_spelling_append rows (row ∷ []))))
-          (cases_lt (record_limit dbd) (length (spelling rows) + length (row_spelling row)))
+          (cases_lt (record_limit dbd) (length (rows_spelling rows) + length (row_spelling row)))
 
-  read_on : (n : ℕ) (rows : List Row) (root rest : List ℕ) → length rest ≤ n → IsUnder dbd.types root rows → length (spelling rows) ≤ record_limit dbd
-      → (place : ℕ) × IsLongestRecord dbd (spelling rows ++ rest) place
+  read_on : (n : ℕ) (rows : List Row) (root rest : List ℕ) → length rest ≤ n → IsUnder dbd.types root rows → length (rows_spelling rows) ≤ record_limit dbd
+      → (place : ℕ) × IsLongestRecord dbd (rows_spelling rows ++ rest) place
   read_on zero rows root rest short under fits =
       ⊎_elim
-      (λ stuck. (length (spelling rows), stuck_longest rows root rest under fits stuck))
+      (λ stuck. (length (rows_spelling rows), stuck_longest rows root rest under fits stuck))
       (λ h. absurd (omega (arith, short, ap length h.2, length-append (row_spelling h.0) h.1, length_row h.0)))
       (read_step rows root rest under)
   read_on (suc n) rows root rest short under fits =
       ⊎_elim
-      (λ stuck. (length (spelling rows), stuck_longest rows root rest under fits stuck))
+      (λ stuck. (length (rows_spelling rows), stuck_longest rows root rest under fits stuck))
       (λ h.
       let found = read_on n (rows ++ h.0 ∷ []) (root_of h.0.path) h.1 (omega (arith, short, ap length h.2, length-append (row_spelling h.0) h.1, length_row h.0)) h.3 h.4 in
-      let whole : spelling (rows ++ h.0 ∷ []) ++ h.1 ≡ spelling rows ++ rest =
-      ap (λ b. b ++ h.1) (spelling_append rows (h.0 ∷ []) ∙ ap (λ b. spelling rows ++ b) (append-nil (row_spelling h.0)))
-      ∙ (append_assoc (spelling rows) (row_spelling h.0) h.1 ∙ ap (λ b. spelling rows ++ b) (sym h.2)) in
+      let whole : rows_spelling (rows ++ h.0 ∷ []) ++ h.1 ≡ rows_spelling rows ++ rest =
+      ap (λ b. b ++ h.1) (spelling_append rows (h.0 ∷ []) ∙ ap (λ b. rows_spelling rows ++ b) (append-nil (row_spelling h.0)))
+      ∙ (append_assoc (rows_spelling rows) (row_spelling h.0) h.1 ∙ ap (λ b. rows_spelling rows ++ b) (sym h.2)) in
       (found.0, subst (λ b. IsLongestRecord dbd b found.0) whole found.1))
       (read_step rows root rest under)
 

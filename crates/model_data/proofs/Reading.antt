@@ -11,7 +11,7 @@ use Rattle.tm_types.specs.SegTypes.{type_at}
 use Rattle.tm_types.specs.Segment.{is_printable}
 use Rattle.model_data.specs.declared.row.Row.{Row}
 use Rattle.model_data.specs.Path.{end_type, path_cmp}
-use Rattle.model_data.specs.Reading.{down_to, may_follow, row_at, row_of_type, next_row}
+use Rattle.model_data.specs.RowsOfBytes.{down_to, may_follow, row_at, row_of_type, next_row}
 
 -- what the tests of a row that is read say
 pub record Reads (s : SegType) (last : List (ℕ × List ℕ)) (t : ℕ) (bytes : List ℕ) (row : Row) : Type 0 where

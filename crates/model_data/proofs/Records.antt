@@ -15,6 +15,7 @@ use Rattle.model_data.specs.Rows.{record_of, rows_before, rows_after, with_recor
 use Rattle.model_data.proofs.Order.{key_total}
 use Rattle.model_data.proofs.Lists.{all_then}
 use Rattle.model_data.proofs.Filters.{filter_all, filter_none, filter_within, filter_apart, filter_passes}
+use Rattle.model_data.proofs.Reading.{is_lt-true}
 
 pub is_eq-true : (o : Ordering) → is_eq o ≡ true → o ≡ Equal
 is_eq-true Less e = absurd (false≢true e)
@@ -25,11 +26,6 @@ pub is_gt-true : (o : Ordering) → is_gt o ≡ true → o ≡ Greater
 is_gt-true Less e = absurd (false≢true e)
 is_gt-true Equal e = absurd (false≢true e)
 is_gt-true Greater e = refl
-
-pub is_lt-true : (o : Ordering) → is_lt o ≡ true → o ≡ Less
-is_lt-true Less e = refl
-is_lt-true Equal e = absurd (false≢true e)
-is_lt-true Greater e = absurd (false≢true e)
 
 -- rows that all have one root
 abbrev pub HaveRoot : List ℕ → List Row → Type 0

@@ -16,8 +16,8 @@ use Rattle.tm_types.specs.SegTypes.{IsHierarchy}
 use Rattle.model_data.specs.declared.row.Row.{Row}
 use Rattle.model_data.specs.Path.{key_cmp, path_cmp, root_of, end_type, end_key, parent_path, IsPath}
 use Rattle.model_data.specs.Row.{IsRow, row_cmp}
-use Rattle.model_data.specs.Record.{IsUnder, IsLongRecord, IsRecord, spelling, record_limit}
-use Rattle.model_data.specs.Rows.{roots, rows_of, AreRows}
+use Rattle.model_data.specs.Record.{IsUnder, IsLongRecord, IsRecord, rows_spelling, record_limit}
+use Rattle.model_data.specs.Rows.{roots, rows_of_records, AreRows}
 use Rattle.model_data.proofs.Order.{path_total, not_less_itself}
 use Rattle.model_data.proofs.Lists.{all_append, all_then, all_both, sorted_append}
 use Rattle.model_data.proofs.Filters.{filter_none}
@@ -81,51 +81,51 @@ pub records_rooted : (dbd : Dbd) (es : List (List ℕ × List Row)) → AreRecor
 records_rooted dbd es h = all_then (λ e. IsRecord dbd e.0 e.1) (λ e. HaveRoot e.0 e.1) es (λ e r. r.whole.under.one_root) h
 
 module _ (dbd : Dbd) (all : IsHierarchy dbd.types) where
-  pub entries_roots : (es : List (List ℕ × List Row)) → AreRecords dbd es → roots (rows_of es) ≡ keys_of es
+  pub entries_roots : (es : List (List ℕ × List Row)) → AreRecords dbd es → roots (rows_of_records es) ≡ keys_of es
   entries_roots [] h = refl
   entries_roots (e ∷ es) h =
-      roots_append e.1 (rows_of es) ∙ (λ i. record_roots dbd.types all e.0 e.1 h.0.whole i ++ entries_roots es h.1 i)
+      roots_append e.1 (rows_of_records es) ∙ (λ i. record_roots dbd.types all e.0 e.1 h.0.whole i ++ entries_roots es h.1 i)
 
-  paths_of : (es : List (List ℕ × List Row)) → AreRecords dbd es → AllByRecursion (λ row. IsPath dbd.types row.path) (rows_of es)
+  paths_of : (es : List (List ℕ × List Row)) → AreRecords dbd es → AllByRecursion (λ row. IsPath dbd.types row.path) (rows_of_records es)
   paths_of [] h = tt
   paths_of (e ∷ es) h =
-      all_append (λ row. IsPath dbd.types row.path) e.1 (rows_of es)
+      all_append (λ row. IsPath dbd.types row.path) e.1 (rows_of_records es)
       (all_then (IsRow dbd.types e.1) (λ row. IsPath dbd.types row.path) e.1 (λ row r. r.path) h.0.whole.under.each) (paths_of es h.1)
 
-  entries_ascending : (es : List (List ℕ × List Row)) → IsStrictlySortedBy key_cmp (keys_of es) → AreRecords dbd es → IsStrictlySortedBy row_cmp (rows_of es)
+  entries_ascending : (es : List (List ℕ × List Row)) → IsStrictlySortedBy key_cmp (keys_of es) → AreRecords dbd es → IsStrictlySortedBy row_cmp (rows_of_records es)
   entries_ascending [] s h = (none_under dbd.types []).ascending
   entries_ascending (e ∷ es) s h =
-      let later : AreAfter e.0 (rows_of es) = rows_after_key e.0 es (records_rooted dbd es h.1) (first_key e es s) in
-      sorted_append row_cmp e.1 (rows_of es) h.0.whole.under.ascending (entries_ascending es (other_keys e es s) h.1)
-      (all_then (λ x. IsPath dbd.types x.path × (root_of x.path ≡ e.0)) (λ x. AllByRecursion (λ y. row_cmp x y ≡ Less) (rows_of es)) e.1
-      (λ x g. all_both (λ y. IsPath dbd.types y.path) (λ y. key_cmp e.0 (root_of y.path) ≡ Less) (λ y. row_cmp x y ≡ Less) (rows_of es)
+      let later : AreAfter e.0 (rows_of_records es) = rows_after_key e.0 es (records_rooted dbd es h.1) (first_key e es s) in
+      sorted_append row_cmp e.1 (rows_of_records es) h.0.whole.under.ascending (entries_ascending es (other_keys e es s) h.1)
+      (all_then (λ x. IsPath dbd.types x.path × (root_of x.path ≡ e.0)) (λ x. AllByRecursion (λ y. row_cmp x y ≡ Less) (rows_of_records es)) e.1
+      (λ x g. all_both (λ y. IsPath dbd.types y.path) (λ y. key_cmp e.0 (root_of y.path) ≡ Less) (λ y. row_cmp x y ≡ Less) (rows_of_records es)
       (λ y valid less. root_less dbd.types all x.path y.path g.0 valid (ap (λ k. key_cmp k (root_of y.path)) g.1 ∙ less)) (paths_of es h.1) later)
       (all_both (IsRow dbd.types e.1) (λ x. root_of x.path ≡ e.0) (λ x. IsPath dbd.types x.path × (root_of x.path ≡ e.0)) e.1 (λ x r f. (r.path, f)) h.0.whole.under.each h.0.whole.under.one_root))
 
-  entries_each : (es : List (List ℕ × List Row)) → AreRecords dbd es → AllByRecursion (IsRow dbd.types (rows_of es)) (rows_of es)
+  entries_each : (es : List (List ℕ × List Row)) → AreRecords dbd es → AllByRecursion (IsRow dbd.types (rows_of_records es)) (rows_of_records es)
   entries_each [] h = tt
   entries_each (e ∷ es) h =
-      all_append (IsRow dbd.types (rows_of (e ∷ es))) e.1 (rows_of es)
-      (all_then (IsRow dbd.types e.1) (IsRow dbd.types (rows_of (e ∷ es))) e.1 (λ row r. row_among dbd.types e.1 (rows_of (e ∷ es)) row (λ path g. has_front e.1 (rows_of es) path g) r) h.0.whole.under.each)
-      (all_then (IsRow dbd.types (rows_of es)) (IsRow dbd.types (rows_of (e ∷ es))) (rows_of es) (λ row r. row_among dbd.types (rows_of es) (rows_of (e ∷ es)) row (λ path g. has_back e.1 (rows_of es) path g) r) (entries_each es h.1))
+      all_append (IsRow dbd.types (rows_of_records (e ∷ es))) e.1 (rows_of_records es)
+      (all_then (IsRow dbd.types e.1) (IsRow dbd.types (rows_of_records (e ∷ es))) e.1 (λ row r. row_among dbd.types e.1 (rows_of_records (e ∷ es)) row (λ path g. has_front e.1 (rows_of_records es) path g) r) h.0.whole.under.each)
+      (all_then (IsRow dbd.types (rows_of_records es)) (IsRow dbd.types (rows_of_records (e ∷ es))) (rows_of_records es) (λ row r. row_among dbd.types (rows_of_records es) (rows_of_records (e ∷ es)) row (λ path g. has_back e.1 (rows_of_records es) path g) r) (entries_each es h.1))
 
-  entries_limit : (key : List ℕ) (es : List (List ℕ × List Row)) → AreRecords dbd es → length (spelling (unwrap_or (lookup (is_at (key_cmp key)) es) [])) ≤ record_limit dbd
+  entries_limit : (key : List ℕ) (es : List (List ℕ × List Row)) → AreRecords dbd es → length (rows_spelling (unwrap_or (lookup (is_at (key_cmp key)) es) [])) ≤ record_limit dbd
   entries_limit key [] h = omega arith
   entries_limit key (e ∷ es) h =
-      elim (is_at (key_cmp key) e.0) as (λ b. length (spelling (unwrap_or (cond b (Some e.1) (lookup (is_at (key_cmp key)) es)) [])) ≤ record_limit dbd) [
+      elim (is_at (key_cmp key) e.0) as (λ b. length (rows_spelling (unwrap_or (cond b (Some e.1) (lookup (is_at (key_cmp key)) es)) [])) ≤ record_limit dbd) [
         | true ↦ h.0.within
         | false ↦ entries_limit key es h.1
       ]
 
   -- the rows of records that are kept by their roots are rows of the database
-  pub entries_rows : (es : List (List ℕ × List Row)) → IsStrictlySortedBy key_cmp (keys_of es) → AreRecords dbd es → length es ≤ dbd.roots → AreRows dbd (rows_of es)
+  pub entries_rows : (es : List (List ℕ × List Row)) → IsStrictlySortedBy key_cmp (keys_of es) → AreRecords dbd es → length es ≤ dbd.roots → AreRows dbd (rows_of_records es)
   entries_rows es s h few =
       record {
         types = all;
         ascending = entries_ascending es s h;
         each = entries_each es h;
         within_roots = omega (arith, ap length (entries_roots es h), length_keys es);
-        within_limit = λ key. subst (λ rows. length (spelling rows) ≤ record_limit dbd) (sym (entries_record key es s (records_rooted dbd es h))) (entries_limit key es h);
+        within_limit = λ key. subst (λ rows. length (rows_spelling rows) ≤ record_limit dbd) (sym (entries_record key es s (records_rooted dbd es h))) (entries_limit key es h);
       }
     where
       length_keys : (xs : List (List ℕ × List Row)) → length (keys_of xs) ≡ length xs

@@ -5,7 +5,7 @@ use Rattle.tm_types.specs.declared.dbd.SegType.{SegType}
 use Rattle.model_data.specs.declared.row.Row.{Row}
 use Rattle.model_data.specs.Path.{parent_path}
 use Rattle.model_data.specs.Row.{HasPath, IsRow}
-use Rattle.model_data.specs.Reading.{last_path}
+use Rattle.model_data.specs.RowsOfBytes.{last_path}
 use Rattle.model_data.proofs.Paths.{parent_push}
 
 pub has_front : (xs ys : List Row) (path : List (ℕ × List ℕ)) → HasPath xs path → HasPath (xs ++ ys) path

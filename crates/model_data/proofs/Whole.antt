@@ -12,14 +12,15 @@ use Rattle.tm_types.specs.SegTypes.{IsHierarchy}
 use Rattle.model_data.specs.declared.row.Row.{Row}
 use Rattle.model_data.specs.Path.{key_cmp, path_cmp, root_of, parent_path, IsPath}
 use Rattle.model_data.specs.Row.{HasPath, IsRow, row_cmp}
-use Rattle.model_data.specs.Record.{IsUnder, IsRecord, spelling, record_limit}
+use Rattle.model_data.specs.Record.{IsUnder, IsRecord, rows_spelling, record_limit}
 use Rattle.model_data.specs.Rows.{record_of, rows_before, rows_after, with_record, roots, AreRows}
 use Rattle.model_data.proofs.Order.{key_total, turned_greater}
 use Rattle.model_data.proofs.Lists.{all_append, all_then, all_both, all_filter, sorted_append, sorted_filter}
 use Rattle.model_data.proofs.Filters.{filter_passes}
 use Rattle.model_data.proofs.Paths.{root_type}
 use Rattle.model_data.proofs.Under.{row_among, has_front, has_back}
-use Rattle.model_data.proofs.Records.{is_gt-true, is_lt-true, record_rooted, with_record_itself, with_record_other}
+use Rattle.model_data.proofs.Records.{is_gt-true, record_rooted, with_record_itself, with_record_other}
+use Rattle.model_data.proofs.Reading.{is_lt-true}
 
 -- a path that a test keeps is there behind the filter
 pub has_filter : (f : List (ℕ × List ℕ) → Bool) (rows : List Row) (path : List (ℕ × List ℕ)) → f path ≡ true → HasPath rows path → HasPath (filter (λ row. f row.path) rows) path
@@ -130,7 +131,7 @@ module _ (types : List SegType) (all : IsHierarchy types) where
 
 -- and within the limits where the image is
 pub with_record_are_rows : (dbd : Dbd) → IsHierarchy dbd.types → (root : List ℕ) (image rows : List Row) → AreRows dbd rows → IsUnder dbd.types root image
-    → length (spelling image) ≤ record_limit dbd → length (roots (with_record root image rows)) ≤ dbd.roots → AreRows dbd (with_record root image rows)
+    → length (rows_spelling image) ≤ record_limit dbd → length (roots (with_record root image rows)) ≤ dbd.roots → AreRows dbd (with_record root image rows)
 with_record_are_rows dbd all root image rows h under fits few =
     let both = with_record_rows dbd.types all root image rows h.each h.ascending under in
     record {
@@ -141,11 +142,11 @@ with_record_are_rows dbd all root image rows h under fits few =
       within_limit = λ key. limit key (key_cmp root key) refl;
     }
   where
-    limit : (key : List ℕ) (o : Ordering) → key_cmp root key ≡ o → length (spelling (record_of key (with_record root image rows))) ≤ record_limit dbd
+    limit : (key : List ℕ) (o : Ordering) → key_cmp root key ≡ o → length (rows_spelling (record_of key (with_record root image rows))) ≤ record_limit dbd
     limit key Less e =
-        subst (λ rs. length (spelling rs) ≤ record_limit dbd) (sym (with_record_other root key image rows under.one_root (λ f. let clash : Less ≡ Equal = sym e ∙ f in absurd (cc)))) (h.within_limit key)
+        subst (λ rs. length (rows_spelling rs) ≤ record_limit dbd) (sym (with_record_other root key image rows under.one_root (λ f. let clash : Less ≡ Equal = sym e ∙ f in absurd (cc)))) (h.within_limit key)
     limit key Greater e =
-        subst (λ rs. length (spelling rs) ≤ record_limit dbd) (sym (with_record_other root key image rows under.one_root (λ f. let clash : Greater ≡ Equal = sym e ∙ f in absurd (cc)))) (h.within_limit key)
+        subst (λ rs. length (rows_spelling rs) ≤ record_limit dbd) (sym (with_record_other root key image rows under.one_root (λ f. let clash : Greater ≡ Equal = sym e ∙ f in absurd (cc)))) (h.within_limit key)
     limit key Equal e =
-        subst (λ rs. length (spelling rs) ≤ record_limit dbd)
+        subst (λ rs. length (rows_spelling rs) ≤ record_limit dbd)
         (sym (ap (λ k. record_of k (with_record root image rows)) (sym (exact_bytes root key e)) ∙ with_record_itself root image rows under.one_root)) fits

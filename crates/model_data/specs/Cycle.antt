@@ -5,11 +5,11 @@ use Rattle.std.specs.Ordering.{nat_cmp, is_gt}
 use Rattle.std.specs.Cmp.Lexicographic.{slice_cmp}
 use Rattle.model_data.specs.declared.victim.Victim.{Victim}
 use Rattle.model_data.specs.Table.{EnqueueTable, waits_for}
-use Rattle.model_data.specs.Ask.{released}
+use Rattle.model_data.specs.EnqueueRequests.{released}
 
 -- a region of the table: they are numbered from 1
-abbrev pub IsRegion : EnqueueTable → ℕ → Type 0
-IsRegion table region = (1 ≤ region) × (region ≤ table.regions)
+abbrev pub IsTableRegion : EnqueueTable → ℕ → Type 0
+IsTableRegion table region = (1 ≤ region) × (region ≤ table.regions)
 
 -- each region waits for the next, and the last one for the end
 abbrev pub WaitsAlong : EnqueueTable → ℕ → List ℕ → ℕ → Type 0
@@ -18,7 +18,7 @@ WaitsAlong table region (next ∷ regions) end = IsTrue (waits_for region next t
 
 -- a ring: distinct regions, each waiting for the next and the last one for the first
 pub record IsRing (table : EnqueueTable) (first : ℕ) (others : List ℕ) : Type 0 where
-  pub regions : All (IsRegion table) others
+  pub regions : All (IsTableRegion table) others
   pub distinct : IsDistinct nat_eq (first ∷ others)
   pub waits : WaitsAlong table first others first
 
@@ -37,13 +37,13 @@ abbrev pub HasNoCycle : EnqueueTable → ℕ → Type 0
 HasNoCycle table region = (cycle : List ℕ) → IsCycle table region cycle → ⊥
 
 -- how many records a region's unit has changed; the first weight is that of region 1
-abbrev pub changes_of : List ℕ → ℕ → ℕ
-changes_of weights region = slice_index weights (region - 1)
+abbrev pub changed_count_of : List ℕ → ℕ → ℕ
+changed_count_of weights region = slice_index weights (region - 1)
 
 -- the one of two regions that gives way: that with fewer changes, on a tie the higher
 abbrev pub gives_way : List ℕ → ℕ → ℕ → ℕ
 gives_way weights a b =
-    if nat_lt (changes_of weights a) (changes_of weights b) || ((changes_of weights a == changes_of weights b) && nat_lt b a) then a
+    if nat_lt (changed_count_of weights a) (changed_count_of weights b) || ((changed_count_of weights a == changed_count_of weights b) && nat_lt b a) then a
     else b
 
 -- the one of all these regions that gives way

@@ -18,9 +18,9 @@ use Rattle.model_data.specs.declared.call.DbCall.{DbCall}
 use Rattle.model_data.specs.declared.call.Position.{Position}
 use Rattle.model_data.specs.declared.need.Need.{Need}
 use Rattle.model_data.specs.Search.{first_after}
-use Rattle.model_data.specs.Get.{asked_root}
-use Rattle.model_data.specs.Change.{insert_path, keeps_key}
-use Rattle.model_data.specs.Dli.{is_allowed}
+use Rattle.model_data.specs.GetCalls.{asked_root}
+use Rattle.model_data.specs.ChangeCalls.{insert_path, keeps_key}
+use Rattle.model_data.specs.DatabaseCalls.{is_call_allowed}
 
 abbrev pub record_need : Mode → List ℕ → Need
 record_need mode root = record { root = Some root; mode = mode }
@@ -34,8 +34,8 @@ up_to None keys = keys
 up_to (Some row) keys = filter (λ key. not (is_lt (key_cmp (root_of row.path) key))) keys
 
 -- these roots behind one
-abbrev pub behind : List ℕ → List (List ℕ) → List (List ℕ)
-behind root keys = filter (λ key. is_lt (key_cmp root key)) keys
+abbrev pub roots_behind : List ℕ → List (List ℕ) → List (List ℕ)
+roots_behind root keys = filter (λ key. is_lt (key_cmp root key)) keys
 
 -- whether the row that a get reaches is in the record of this root
 abbrev pub has_reached : List ℕ → Option Row → Bool
@@ -52,7 +52,7 @@ abbrev pub onward : Mode → Option (List (ℕ × List ℕ)) → Option Row → 
 onward mode None reached keys = along mode reached keys
 onward mode (Some place) reached keys =
     record_need mode (root_of place)
-    ∷ (if has_reached (root_of place) reached then [] else along mode reached (behind (root_of place) keys))
+    ∷ (if has_reached (root_of place) reached then [] else along mode reached (roots_behind (root_of place) keys))
 
 -- GU and GN, the first row after a place that fits: where the first argument asks for one root by its
 -- key, that record alone
@@ -101,7 +101,7 @@ allowed_needs ROLL dbd call at rows = []
 -- what a call needs, in the order in which it asks; a call that isn't allowed needs nothing
 abbrev pub footprint : Dbd → DbCall → Position → List Row → List Need
 footprint dbd call at rows =
-    if is_allowed call.function call.options then allowed_needs call.function dbd call at rows else []
+    if is_call_allowed call.function call.options then allowed_needs call.function dbd call at rows else []
 
 -- two lists of rows have the same record of this root; without one, the same roots
 abbrev pub AgreeAt : Option (List ℕ) → List Row → List Row → Type 0

@@ -21,11 +21,11 @@ excludes Exclusive Shared = true
 excludes Exclusive Exclusive = true
 
 -- who holds in the first mode needs not ask for the second: it is the same or a weaker one
-abbrev pub serves : Mode → Mode → Bool
-serves Shared Shared = true
-serves Shared Exclusive = false
-serves Exclusive Shared = true
-serves Exclusive Exclusive = true
+abbrev pub mode_serves : Mode → Mode → Bool
+mode_serves Shared Shared = true
+mode_serves Shared Exclusive = false
+mode_serves Exclusive Shared = true
+mode_serves Exclusive Exclusive = true
 
 -- the stronger of two modes
 abbrev pub stronger : Mode → Mode → Mode

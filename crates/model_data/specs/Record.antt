@@ -18,8 +18,8 @@ abbrev pub row_spelling : Row → List ℕ
 row_spelling row = end_type row.path ∷ row.bytes
 
 -- a record is spelled as its rows, one after the other
-abbrev pub spelling : List Row → List ℕ
-spelling rows = flat_map row_spelling rows
+abbrev pub rows_spelling : List Row → List ℕ
+rows_spelling rows = flat_map row_spelling rows
 
 -- the key of the root of which the first row speaks
 abbrev pub record_root : List Row → Option (List ℕ)
@@ -41,13 +41,13 @@ pub record IsLongRecord (types : List SegType) (root : List ℕ) (rows : List Ro
 -- a record of the database
 pub record IsRecord (dbd : Dbd) (root : List ℕ) (rows : List Row) : Type 0 where
   pub whole : IsLongRecord dbd.types root rows
-  pub within : length (spelling rows) ≤ record_limit dbd
+  pub within : length (rows_spelling rows) ≤ record_limit dbd
 
 -- the bytes spell these rows, which are a record of the database
 pub record Spells (dbd : Dbd) (bytes : List ℕ) (rows : List Row) : Type 0 where
   pub root : List ℕ
   pub valid : IsRecord dbd root rows
-  pub spelled : spelling rows ≡ bytes
+  pub spelled : rows_spelling rows ≡ bytes
 
 -- the bytes spell a record of the database
 pub record SpellsRecord (dbd : Dbd) (bytes : List ℕ) : Type 0 where

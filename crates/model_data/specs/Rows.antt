@@ -8,7 +8,7 @@ use Rattle.tm_types.specs.SegTypes.{IsHierarchy}
 use Rattle.model_data.specs.declared.row.Row.{Row}
 use Rattle.model_data.specs.Path.{key_cmp, root_of}
 use Rattle.model_data.specs.Row.{IsRow, row_cmp}
-use Rattle.model_data.specs.Record.{IsLongRecord, record_limit, spelling}
+use Rattle.model_data.specs.Record.{IsLongRecord, record_limit, rows_spelling}
 
 -- the rows under this root
 abbrev pub record_of : List ℕ → List Row → List Row
@@ -45,7 +45,7 @@ passes_roots dbd root image rows =
 
 -- whether the image has more bytes than a record may have
 abbrev pub passes_length : Dbd → List Row → Bool
-passes_length dbd image = nat_lt (record_limit dbd) (length (spelling image))
+passes_length dbd image = nat_lt (record_limit dbd) (length (rows_spelling image))
 
 -- the rows of a database, whose types are a hierarchy: in hierarchic order, each a row among these, with
 -- at most as many roots and bytes a record as the database allows
@@ -54,11 +54,11 @@ pub record AreRows (dbd : Dbd) (rows : List Row) : Type 0 where
   pub ascending : IsStrictlySortedBy row_cmp rows
   pub each : AllByRecursion (IsRow dbd.types rows) rows
   pub within_roots : length (roots rows) ≤ dbd.roots
-  pub within_limit : (root : List ℕ) → length (spelling (record_of root rows)) ≤ record_limit dbd
+  pub within_limit : (root : List ℕ) → length (rows_spelling (record_of root rows)) ≤ record_limit dbd
 
 -- the rows of records that are kept by their roots
-abbrev pub rows_of : List (List ℕ × List Row) → List Row
-rows_of records = flat_map (λ entry. entry.1) records
+abbrev pub rows_of_records : List (List ℕ × List Row) → List Row
+rows_of_records records = flat_map (λ entry. entry.1) records
 
 -- a database with its rows
 pub record Database : Type 0 where

@@ -13,8 +13,8 @@ use Rattle.model_data.specs.declared.row.Row.{Row}
 use Rattle.model_data.specs.Path.{key_cmp, path_cmp, end_type}
 
 -- bytes that a program gives, padded with blanks on the right or cut
-abbrev pub fitted : ℕ → List ℕ → List ℕ
-fitted n bytes = take n (bytes ++ replicate n 32)
+abbrev pub fitted_key : ℕ → List ℕ → List ℕ
+fitted_key n bytes = take n (bytes ++ replicate n 32)
 
 -- the place of the type with this name
 abbrev pub place_named : List SegType → List ℕ → Option ℕ
@@ -35,8 +35,8 @@ data_length types number = option_map_or (λ s. s.bytes) (type_at types number) 
 -- whether a key of n bytes meets what is asked of it
 abbrev pub meets : KeyTest → ℕ → List ℕ → Bool
 meets Any n key = true
-meets (Equal x) n key = is_eq (key_cmp key (fitted n x))
-meets (AtLeast x) n key = is_ge (key_cmp key (fitted n x))
+meets (Equal x) n key = is_eq (key_cmp key (fitted_key n x))
+meets (AtLeast x) n key = is_ge (key_cmp key (fitted_key n x))
 
 -- whether the segment of this path, or the one of this type above it, meets what is asked
 abbrev pub meets_at : KeyTest → ℕ → SegType → List (ℕ × List ℕ) → Bool
@@ -74,16 +74,16 @@ abbrev pub is_within : List (ℕ × List ℕ) → List (ℕ × List ℕ) → Boo
 is_within above path = starts_with pair_eq path above
 
 -- whether a path goes on from this one
-abbrev pub is_below : List (ℕ × List ℕ) → List (ℕ × List ℕ) → Bool
-is_below above path = is_within above path && nat_lt (length above) (length path)
+abbrev pub is_path_below : List (ℕ × List ℕ) → List (ℕ × List ℕ) → Bool
+is_path_below above path = is_within above path && nat_lt (length above) (length path)
 
 -- the row with this path
 abbrev pub row_at : List (ℕ × List ℕ) → List Row → Option Row
 row_at path rows = find (λ row. is_eq (path_cmp path row.path)) rows
 
 -- whether there is a row with this path
-abbrev pub is_there : List (ℕ × List ℕ) → List Row → Bool
-is_there path rows = is_some (row_at path rows)
+abbrev pub is_row_there : List (ℕ × List ℕ) → List Row → Bool
+is_row_there path rows = is_some (row_at path rows)
 
 -- the first row after the place that fits
 abbrev pub first_after : List SegType → List Ssa → Option (List (ℕ × List ℕ)) → List Row → Option Row
@@ -92,4 +92,4 @@ first_after types ssas place rows = find (λ row. is_after place row.path && fit
 -- the first row after the place, and after this parent, that is below the parent and fits
 abbrev pub first_below : List SegType → List Ssa → Option (List (ℕ × List ℕ)) → List (ℕ × List ℕ) → List Row → Option Row
 first_below types ssas place parent rows =
-    find (λ row. is_after place row.path && is_after (Some parent) row.path && is_below parent row.path && fits types ssas row.path) rows
+    find (λ row. is_after place row.path && is_after (Some parent) row.path && is_path_below parent row.path && fits types ssas row.path) rows

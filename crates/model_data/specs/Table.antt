@@ -7,7 +7,7 @@ use Rattle.tm_types.specs.declared.resource.Resource.{Resource}
 use Rattle.tm_types.specs.declared.resource.Mode.{Mode}
 use Rattle.model_data.specs.declared.request.Holder.{Holder}
 use Rattle.model_data.specs.declared.request.Request.{Request}
-use Rattle.model_data.specs.Modes.{same_resource, excludes, serves}
+use Rattle.model_data.specs.Modes.{same_resource, excludes, mode_serves}
 
 -- The holders with their modes stand in their order. Of those who wait, the upgrades, who hold the
 -- resource already in a weaker mode, stand before all others. Each queue is in the order of time.
@@ -33,8 +33,8 @@ abbrev pub mode_held : Request → List (Holder × Mode) → Option Mode
 mode_held request holds = lookup (is_asker request) holds
 
 -- it holds the resource in the same or a stronger mode
-abbrev pub is_served : Request → List (Holder × Mode) → Bool
-is_served request holds = option_map_or (λ mode. serves mode request.mode) (mode_held request holds) false
+abbrev pub is_request_served : Request → List (Holder × Mode) → Bool
+is_request_served request holds = option_map_or (λ mode. mode_serves mode request.mode) (mode_held request holds) false
 
 -- it holds the resource, so that what it waits for is a stronger mode
 abbrev pub is_upgrade : Request → List (Holder × Mode) → Bool
@@ -71,7 +71,7 @@ waiters_ahead request table =
 -- is blocked by none.
 abbrev pub blockers : Request → EnqueueTable → List ℕ
 blockers request table =
-    if is_served request table.holds then []
+    if is_request_served request table.holds then []
     else holders_against request table.holds ++ waiters_ahead request table
 
 -- by whom it is blocked: the lowest such holder, or else the earliest waiter

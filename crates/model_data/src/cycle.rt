@@ -13,7 +13,7 @@ pub struct Cycle {
 
 impl Model for Cycle {
     ghost use Rattle.std.specs.Prelude.{◌≡◌, ◌≤◌, ◌++◌, ℕ, List, length, take, drop};
-    ghost use Rattle.model_data.specs.Padded.{no_regions, padded};
+    ghost use Rattle.model_data.specs.PaddedLists.{no_regions, padded_list};
 
     ghost Value = { List ℕ };
 
@@ -23,7 +23,7 @@ impl Model for Cycle {
 
     ghost inverse = { λ regions. record { len = length regions; regions = regions ++ drop (length regions) no_regions } };
 
-    ghost inverse_ok = { λ c h i. let fields = padded no_regions c.len c.regions h.0 h.1 h.2 in record { len = fields.0 i; regions = fields.1 i } };
+    ghost inverse_ok = { λ c h i. let fields = padded_list no_regions c.len c.regions h.0 h.1 h.2 in record { len = fields.0 i; regions = fields.1 i } };
 }
 
 impl Cycle {

@@ -14,7 +14,7 @@ pub struct Victims {
 impl Model for Victims {
     ghost use Rattle.std.specs.Prelude.{◌≡◌, ◌≤◌, ◌++◌, ℕ, List, length, take, drop};
     ghost use Rattle.model_data.specs.declared.victim.Victim.{Victim};
-    ghost use Rattle.model_data.specs.Padded.{padded};
+    ghost use Rattle.model_data.specs.PaddedLists.{padded_list};
     ghost use Rattle.model_data.specs.Nobody.{no_victims};
 
     ghost Value = { List Victim };
@@ -25,7 +25,7 @@ impl Model for Victims {
 
     ghost inverse = { λ victims. record { len = length victims; victims = victims ++ drop (length victims) no_victims } };
 
-    ghost inverse_ok = { λ v h i. let fields = padded no_victims v.len v.victims h.0 h.1 h.2 in record { len = fields.0 i; victims = fields.1 i } };
+    ghost inverse_ok = { λ v h i. let fields = padded_list no_victims v.len v.victims h.0 h.1 h.2 in record { len = fields.0 i; victims = fields.1 i } };
 }
 
 impl Victims {

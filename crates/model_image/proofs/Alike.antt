@@ -6,18 +6,18 @@ use Rattle.tm_disk.specs.Disk.{Image, sector_at}
 use Rattle.model_system.specs.System.{System}
 use Rattle.model_machine.specs.Machine.{LastingState}
 use Rattle.log_records.specs.declared.record.Record.{Record}
-use Rattle.log_records.specs.Reading.{◌>>=◌}
-use Rattle.log_sectors.specs.Sealed.{opened}
-use Rattle.log_sectors.specs.Chain.{before, chain, joined}
+use Rattle.log_records.specs.RecordReader.{◌>>=◌}
+use Rattle.log_sectors.specs.SealedSector.{opened_payload}
+use Rattle.log_sectors.specs.Chain.{before, chain, joined_payloads}
 use Rattle.restart_data.specs.declared.restart.RestartSector.{RestartSector}
 use Rattle.restart_data.specs.Restart.{restart_of, restart_in}
 use Rattle.restart_data.proofs.ImageLaws.{parts_same}
 use Rattle.model_image.specs.Areas.{snapshot_area, snapshot_first, log_first, data_first}
-use Rattle.model_image.specs.Cut.{Cut, cut_of, records_of, IsCutOff}
+use Rattle.model_image.specs.CutRecords.{Cut, cut_of, records_cut, IsRecordCutOff}
 use Rattle.model_image.specs.Faults.{Fault, in_sector, unless_any, or_fault, unless_fault}
 use Rattle.model_image.specs.Snapshot.{snapshot_rules}
-use Rattle.model_image.specs.Slots.{Slot, source_of, slots_by, slot_in, named_by, all_slots, slot_fault, rows_of, rows_from}
-use Rattle.model_image.specs.Recovered.{snapshot_from, log_in, log_from, state_from, is_later, first_later, later_sector, state_with, state_by, recovered, rest_by, log_rest, Recovers}
+use Rattle.model_image.specs.Slots.{SlotOnImage, source_of, slots_by, image_slot_in, named_by, all_slots, slot_fault, rows_of_databases, image_rows_from}
+use Rattle.model_image.specs.RecoveredState.{snapshot_from, log_in, log_from, state_from, is_later, first_later, later_sector, state_with, state_by_restart, recovered, rest_by, log_rest, Recovers}
 
 -- a slot of the database at a place
 pub record IsSlotOf (system : System) (place number : ℕ) : Type 0 where
@@ -44,8 +44,8 @@ pub record ImagesAlike (system : System) (old new : Image) : Type 0 where
 chain_same : (count : ℕ) (old new : Image) (at sequence epoch : ℕ) → ((k : ℕ) → at ≤ k → k < at + count → sector_at new k ≡ sector_at old k) → chain count new at sequence epoch ≡ chain count old at sequence epoch
 chain_same zero old new at sequence epoch same = refl
 chain_same (suc n) old new at sequence epoch same =
-    ap (λ (s : List ℕ). before (opened epoch sequence s) (chain n new (at + 1) (sequence + 1) epoch)) (same at (omega arith) (omega arith))
-    ∙ ap (λ (rest : List (List ℕ)). before (opened epoch sequence (sector_at old at)) rest)
+    ap (λ (s : List ℕ). before (opened_payload epoch sequence s) (chain n new (at + 1) (sequence + 1) epoch)) (same at (omega arith) (omega arith))
+    ∙ ap (λ (rest : List (List ℕ)). before (opened_payload epoch sequence (sector_at old at)) rest)
     (chain_same n old new (at + 1) (sequence + 1) epoch (λ k low high. same k (omega (arith, low)) (omega (arith, high))))
 
 later_same : (count : ℕ) (old new : Image) (at epoch : ℕ) → ((k : ℕ) → at ≤ k → k < at + count → is_later epoch (sector_at new k) ≡ is_later epoch (sector_at old k)) → first_later count new at epoch ≡ first_later count old at epoch
@@ -55,18 +55,18 @@ later_same (suc n) old new at epoch same =
     ∙ ap (λ (rest : Option ℕ). if is_later epoch (sector_at old at) then Some at else rest)
     (later_same n old new (at + 1) epoch (λ k low high. same k (omega (arith, low)) (omega (arith, high))))
 
-slots_same : (n number : ℕ) (f g : ℕ → Slot) → ((k : ℕ) → k < number + n → f k ≡ g k) → slots_by f n number ≡ slots_by g n number
+slots_same : (n number : ℕ) (f g : ℕ → SlotOnImage) → ((k : ℕ) → k < number + n → f k ≡ g k) → slots_by f n number ≡ slots_by g n number
 slots_same zero number f g same = refl
 slots_same (suc n) number f g same =
-    ap (λ (s : Slot). s ∷ slots_by f n (number + 1)) (same number (omega arith))
-    ∙ ap (λ (rest : List Slot). g number ∷ rest) (slots_same n (number + 1) f g (λ k below. same k (omega (arith, below))))
+    ap (λ (s : SlotOnImage). s ∷ slots_by f n (number + 1)) (same number (omega arith))
+    ∙ ap (λ (rest : List SlotOnImage). g number ∷ rest) (slots_same n (number + 1) f g (λ k below. same k (omega (arith, below))))
 
 source_same : (named : Option (List ℕ)) (old new : List ℕ) → IsSome named ⊎ (new ≡ old) → source_of named new ≡ source_of named old
 source_same (Some bytes) old new agree = refl
 source_same None old new agree = ⊎_elim (λ some. absurd cc) (λ same. ap (source_of None) same) agree
 
 module _ (system : System) (old new : Image) (snapshot log : List Record) (agree : (place number : ℕ) → IsSlotOf system place number → IsSome (named_by snapshot log (place + 1) number) ⊎ (sector_at new (data_first system place + number) ≡ sector_at old (data_first system place + number))) where
-  slot_same : (dbd : Dbd) (place number : ℕ) → IsSlotOf system place number → slot_in new snapshot log dbd (data_first system place) (place + 1) number ≡ slot_in old snapshot log dbd (data_first system place) (place + 1) number
+  slot_same : (dbd : Dbd) (place number : ℕ) → IsSlotOf system place number → image_slot_in new snapshot log dbd (data_first system place) (place + 1) number ≡ image_slot_in old snapshot log dbd (data_first system place) (place + 1) number
   slot_same dbd place number is =
       ap (λ source. record { dbd = dbd; place = data_first system place + number; source = source })
       (source_same (named_by snapshot log (place + 1) number) (sector_at old (data_first system place + number)) (sector_at new (data_first system place + number)) (agree place number is))
@@ -77,13 +77,13 @@ module _ (system : System) (old new : Image) (snapshot log : List Record) (agree
   all_slots_same place [] are = refl
   all_slots_same place (dbd ∷ dbds) are =
       let first : slice_get system.databases place ≡ Some dbd = subst (λ k. slice_get system.databases k ≡ Some dbd) (omega arith) (are 0 dbd refl) in
-      ap (λ (s : List Slot). s ∷ all_slots system new snapshot log (place + 1) dbds)
-      (slots_same dbd.roots 0 (slot_in new snapshot log dbd (data_first system place) (place + 1)) (slot_in old snapshot log dbd (data_first system place) (place + 1)) (λ k below. slot_same dbd place k (record { dbd = dbd; found = first; below = omega (arith, below) })))
-      ∙ ap (λ (rest : List (List Slot)). slots_by (slot_in old snapshot log dbd (data_first system place) (place + 1)) dbd.roots 0 ∷ rest)
+      ap (λ (s : List SlotOnImage). s ∷ all_slots system new snapshot log (place + 1) dbds)
+      (slots_same dbd.roots 0 (image_slot_in new snapshot log dbd (data_first system place) (place + 1)) (image_slot_in old snapshot log dbd (data_first system place) (place + 1)) (λ k below. slot_same dbd place k (record { dbd = dbd; found = first; below = omega (arith, below) })))
+      ∙ ap (λ (rest : List (List SlotOnImage)). slots_by (image_slot_in old snapshot log dbd (data_first system place) (place + 1)) dbd.roots 0 ∷ rest)
       (all_slots_same (place + 1) dbds (λ i d found. subst (λ k. slice_get system.databases k ≡ Some d) (omega arith) (are (suc i) d found)))
 
-  rows_same : rows_from system new snapshot log ≡ rows_from system old snapshot log
-  rows_same = ap (λ (databases : List (List Slot)). unless_fault (slot_fault databases) (rows_of databases)) (all_slots_same 0 system.databases (λ i d found. subst (λ k. slice_get system.databases k ≡ Some d) (omega arith) found))
+  rows_same : image_rows_from system new snapshot log ≡ image_rows_from system old snapshot log
+  rows_same = ap (λ (databases : List (List SlotOnImage)). unless_fault (slot_fault databases) (rows_of_databases databases)) (all_slots_same 0 system.databases (λ i d found. subst (λ k. slice_get system.databases k ≡ Some d) (omega arith) found))
 
 -- ---- the whole
 
@@ -98,7 +98,7 @@ log_records system image r false log is = cc
 -- the records of a snapshot are read of its sectors alone
 pub snapshot_same : (system : System) (r : RestartSector) (old new : Image) → ((k : ℕ) → snapshot_first system r.snapshot ≤ k → k < snapshot_first system r.snapshot + r.sectors → sector_at new k ≡ sector_at old k) → snapshot_from system new r ≡ snapshot_from system old r
 snapshot_same system r old new same =
-    ap (λ (read : Result (List ℕ) Fault). read >>= λ bytes. or_fault (10, snapshot_first system r.snapshot) (records_of bytes) >>= λ records. unless_any (snapshot_first system r.snapshot) (snapshot_rules system records) records)
+    ap (λ (read : Result (List ℕ) Fault). read >>= λ bytes. or_fault (10, snapshot_first system r.snapshot) (records_cut bytes) >>= λ records. unless_any (snapshot_first system r.snapshot) (snapshot_rules system records) records)
     (parts_same r.sectors old new (snapshot_first system r.snapshot) r.checkpoint 0 same)
 
 module _ (system : System) (r : RestartSector) (old new : Image) (alike : AreasAlike system r old new) where
@@ -107,7 +107,7 @@ module _ (system : System) (r : RestartSector) (old new : Image) (alike : AreasA
 
   pub log_alike : log_in system new r ≡ log_in system old r
   log_alike =
-      ap (λ (payloads : List (List ℕ)). cut_of (joined payloads)) (chain_same system.logs old new (log_first system r.log) r.sequence r.epoch alike.log)
+      ap (λ (payloads : List (List ℕ)). cut_of (joined_payloads payloads)) (chain_same system.logs old new (log_first system r.log) r.sequence r.epoch alike.log)
 
   later_alike : later_sector system new r ≡ later_sector system old r
   later_alike = ap (λ (found : Option ℕ). option_map (λ sector. (24, sector)) found) (later_same (2 * system.logs) old new (log_first system 0) r.epoch alike.later)
@@ -121,7 +121,7 @@ module _ (system : System) (r : RestartSector) (old new : Image) (alike : AreasA
       bind_same (snapshot_from system new r) (snapshot_from system old r) _ _ snapshot_alike (λ snapshot is_snapshot.
       bind_same (log_from system new r cut_off) (log_from system old r cut_off) _ _ (log_from_alike cut_off) (λ log is_log.
       bind_same (state_from system r snapshot log) (state_from system r snapshot log) _ _ refl (λ lasting _.
-      bind_same (rows_from system new snapshot log) (rows_from system old snapshot log) _ _
+      bind_same (image_rows_from system new snapshot log) (image_rows_from system old snapshot log) _ _
       (rows_same system old new snapshot log (λ place number is.
       subst (λ (l : List Record). IsSome (named_by snapshot l (place + 1) number) ⊎ (sector_at new (data_first system place + number) ≡ sector_at old (data_first system place + number))) (log_records system old r cut_off log is_log) (alike.slots snapshot is_snapshot place number is)))
       (λ rows _. ap (λ (fault : Option Fault). unless_fault fault (record lasting { rows = rows })) later_alike))))
@@ -134,7 +134,7 @@ module _ (system : System) (old new : Image) (alike : ImagesAlike system old new
   restart_alike : restart_in (snapshot_area system) new ≡ restart_in (snapshot_area system) old
   restart_alike = ap (restart_of (snapshot_area system)) alike.restart
 
-  by_restart : (cut_off : Bool) (restart : Option RestartSector) → restart_in (snapshot_area system) old ≡ Ok restart → state_by system new cut_off restart ≡ state_by system old cut_off restart
+  by_restart : (cut_off : Bool) (restart : Option RestartSector) → restart_in (snapshot_area system) old ≡ Ok restart → state_by_restart system new cut_off restart ≡ state_by_restart system old cut_off restart
   by_restart cut_off None is = refl
   by_restart cut_off (Some r) is = state_alike system r old new (alike.areas r is) cut_off
 
@@ -156,6 +156,6 @@ module _ (system : System) (old new : Image) (alike : ImagesAlike system old new
   pub recovers_alike : (answer : Result LastingState Fault) → Recovers system old answer → Recovers system new answer
   recovers_alike answer recovers = record {
     is_cut_off = recovers.is_cut_off;
-    decides = subst (λ (rest : List ℕ). Decides recovers.is_cut_off (IsCutOff rest)) (sym rest_alike) recovers.decides;
+    decides = subst (λ (rest : List ℕ). Decides recovers.is_cut_off (IsRecordCutOff rest)) (sym rest_alike) recovers.decides;
     is = recovered_alike recovers.is_cut_off ∙ recovers.is;
   }

@@ -5,13 +5,13 @@ use Rattle.std.proofs.lemmas.Bool.{cases_lt}
 use Rattle.tm_disk.specs.Disk.{Image, sector_at}
 use Rattle.model_system.specs.System.{System}
 use Rattle.model_machine.specs.Machine.{LastingState}
-use Rattle.log_records.specs.Reading.{◌>>=◌}
+use Rattle.log_records.specs.RecordReader.{◌>>=◌}
 use Rattle.restart_data.specs.declared.restart.RestartSector.{RestartSector}
 use Rattle.restart_data.specs.Restart.{restart_in}
 use Rattle.model_image.specs.Areas.{snapshot_area, log_first}
 use Rattle.model_image.specs.Faults.{Fault, in_sector, unless_fault}
-use Rattle.model_image.specs.Slots.{rows_from}
-use Rattle.model_image.specs.Recovered.{snapshot_from, log_from, state_from, is_later, first_later, later_sector, state_with, state_by, Recovers}
+use Rattle.model_image.specs.Slots.{image_rows_from}
+use Rattle.model_image.specs.RecoveredState.{snapshot_from, log_from, state_from, is_later, first_later, later_sector, state_with, state_by_restart, Recovers}
 
 -- ---- sector by sector
 
@@ -61,12 +61,12 @@ state_not_later system image r cut_off state is =
     let one = bound (snapshot_from system image r) _ state is in
     let two = bound (log_from system image r cut_off) _ state one.gives in
     let three = bound (state_from system r one.value two.value) _ state two.gives in
-    let four = bound (rows_from system image one.value two.value) _ state three.gives in
+    let four = bound (image_rows_from system image one.value two.value) _ state three.gives in
     no_fault (later_sector system image r) (record three.value { rows = four.value }) state four.gives
 
 -- No sector of its logs has a later epoch than its restart sector.
 pub not_later : (system : System) (image : Image) (r : RestartSector) (state : LastingState) → restart_in (snapshot_area system) image ≡ Ok (Some r) → Recovers system image (Ok state) → first_later (2 * system.logs) image (log_first system 0) r.epoch ≡ None
 not_later system image r state is recovers =
     let whole : state_with system image recovers.is_cut_off r ≡ Ok state =
-    sym (ap (λ (read : Result (Option RestartSector) ℕ). in_sector 0 read >>= λ restart. state_by system image recovers.is_cut_off restart) is) ∙ recovers.is in
+    sym (ap (λ (read : Result (Option RestartSector) ℕ). in_sector 0 read >>= λ restart. state_by_restart system image recovers.is_cut_off restart) is) ∙ recovers.is in
     no_sector (first_later (2 * system.logs) image (log_first system 0) r.epoch) (state_not_later system image r recovers.is_cut_off state whole)

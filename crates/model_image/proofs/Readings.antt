@@ -4,13 +4,13 @@ use Rattle.std.specs.Prelude.{Option, Result, if◌then◌else◌, ◌==◌, nat
 use Rattle.std.specs.Str.{bytes_eq}
 use Rattle.std.proofs.lemmas.Bool.{ltb-false, le-ltb}
 use Rattle.std.proofs.lemmas.Nat.{from_be_bytes-to_be_bytes_8}
-use Rattle.log_sectors.specs.Sealed.{header, sealed, opened, payload_of, Holds}
+use Rattle.log_sectors.specs.SealedSector.{header, sealed, opened_payload, log_payload_of, HoldsPayload}
 use Rattle.log_sectors.proofs.Sealing.{opened_cases}
 use Rattle.restart_data.specs.declared.restart.RestartSector.{RestartSector}
 use Rattle.restart_data.specs.Fields.{bytes_at, number8_at, are_zeros}
-use Rattle.restart_data.specs.Rules.{first_broken, unless_broken}
-use Rattle.restart_data.specs.Restart.{fields_of, other_letters, other_version, other_area, wrong_size, wrong_counters, stray_bytes, long_text, restart_rules, restart_of}
-use Rattle.model_image.specs.Recovered.{is_later}
+use Rattle.restart_data.specs.Rules.{first_broken, unless_rule_broken}
+use Rattle.restart_data.specs.Restart.{fields_of, other_letters, other_version, has_other_area, wrong_size, wrong_counters, stray_bytes, long_text, restart_rules, restart_of}
+use Rattle.model_image.specs.RecoveredState.{is_later}
 
 -- ---- a restart sector
 
@@ -31,13 +31,13 @@ neither_is : (a b : Bool) → a || b ≡ false → (a ≡ false) × (b ≡ false
 neither_is true b e = cc
 neither_is false b e = (refl, e)
 
-kept_fields : (most : ℕ) (r : RestartSector) → other_area r ≡ false → wrong_size most r ≡ false → IsKept most r
+kept_fields : (most : ℕ) (r : RestartSector) → has_other_area r ≡ false → wrong_size most r ≡ false → IsKept most r
 kept_fields most r area size =
     let areas = neither_is (nat_lt 1 r.snapshot) (nat_lt 1 r.log) area in
     let sizes = neither_is (r.sectors == 0) (nat_lt most r.sectors) size in
     record { snapshot = ltb-false 1 r.snapshot areas.0; log = ltb-false 1 r.log areas.1; sectors = ltb-false most r.sectors sizes.1 }
 
-by_rules : (most : ℕ) (r f : RestartSector) (first : Option ℕ) → unless_broken first (Some f) ≡ Ok (Some r) → (first ≡ None → IsKept most f) → IsKept most r
+by_rules : (most : ℕ) (r f : RestartSector) (first : Option ℕ) → unless_rule_broken first (Some f) ≡ Ok (Some r) → (first ≡ None → IsKept most f) → IsKept most r
 by_rules most r f None is kept = let same : f ≡ r = cc in subst (IsKept most) same (kept refl)
 by_rules most r f (Some rule) is kept = cc
 
@@ -49,10 +49,10 @@ pub restart_kept : (most : ℕ) (sector : List ℕ) (r : RestartSector) → rest
 unfolding restart_of
 restart_kept most sector r is =
     let f = fields_of sector in
-    by_zeros most r (are_zeros sector) (unless_broken (first_broken (restart_rules most sector)) (Some f)) is
+    by_zeros most r (are_zeros sector) (unless_rule_broken (first_broken (restart_rules most sector)) (Some f)) is
     (λ read. by_rules most r f (first_broken (restart_rules most sector)) read
     (λ none.
-    let two = third_and_fourth (other_letters sector) (other_version sector) (other_area f) (wrong_size most f) (wrong_counters f) (stray_bytes sector || long_text f) none in
+    let two = third_and_fourth (other_letters sector) (other_version sector) (has_other_area f) (wrong_size most f) (wrong_counters f) (stray_bytes sector || long_text f) none in
     kept_fields most f two.0 two.1))
 
 -- ---- a log sector
@@ -61,7 +61,7 @@ epoch_at : (epoch sequence : ℕ) (payload : List ℕ) → epoch < 2 ^ 64 → nu
 unfolding sealed header number8_at
 epoch_at epoch sequence payload small = from_be_bytes-to_be_bytes_8 epoch small
 
-not_both : (o : Option (List ℕ)) → o ≡ None → IsSome o → ⊥
+pub not_both : (o : Option (List ℕ)) → o ≡ None → IsSome o → ⊥
 not_both None e some = cc
 not_both (Some x) e some = cc
 
@@ -70,13 +70,13 @@ and_false true b is = is
 and_false false b is = refl
 
 -- it is of its epoch, and so of no later one
-pub opened_not_later : (epoch sequence : ℕ) (sector : List ℕ) → epoch < 2 ^ 64 → IsSome (opened epoch sequence sector) → is_later epoch sector ≡ false
+pub opened_not_later : (epoch sequence : ℕ) (sector : List ℕ) → epoch < 2 ^ 64 → IsSome (opened_payload epoch sequence sector) → is_later epoch sector ≡ false
 opened_not_later epoch sequence sector small some =
     ⊎_elim
-    (λ (none : opened epoch sequence sector ≡ None). absurd (not_both (opened epoch sequence sector) none some))
-    (λ (holds : Holds epoch sequence (payload_of sector) sector).
+    (λ (none : opened_payload epoch sequence sector ≡ None). absurd (not_both (opened_payload epoch sequence sector) none some))
+    (λ (holds : HoldsPayload epoch sequence (log_payload_of sector) sector).
     and_false (bytes_eq (bytes_at 0 4 sector) (codes "IMSL")) (nat_lt epoch (number8_at 8 sector))
     (ap (λ (s : List ℕ). nat_lt epoch (number8_at 8 s)) holds.spelled
-    ∙ ap (nat_lt epoch) (epoch_at epoch sequence (payload_of sector) small)
+    ∙ ap (nat_lt epoch) (epoch_at epoch sequence (log_payload_of sector) small)
     ∙ le-ltb epoch epoch (omega arith)))
     (opened_cases epoch sequence sector)

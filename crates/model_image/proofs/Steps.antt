@@ -6,7 +6,7 @@ use Rattle.std.proofs.lemmas.Bool.{eq-eqb, eqb-true, ne_eqb}
 use Rattle.tm_types.specs.declared.abend.AbendCode.{AbendCode}
 use Rattle.tm_types.specs.declared.command.LastingCommand.{LastingCommand}
 use Rattle.tm_types.specs.declared.message.Message.{Message}
-use Rattle.tm_types.specs.Commands.{name_in, spelling}
+use Rattle.tm_types.specs.Commands.{name_in, command_spelling}
 use Rattle.tm_types.specs.Name.{IsName}
 use Rattle.tm_types.proofs.Commands.{spelled_read}
 use Rattle.tm_types.specs.declared.message.Reply.{Reply as KeptReply}
@@ -14,8 +14,8 @@ use Rattle.model_messages.specs.Outputs.{next_of, reply_at}
 use Rattle.model_messages.specs.declared.ended_message.EndedMessage.{EndedMessage}
 use Rattle.model_machine.specs.declared.lasting.TerminalState.{TerminalState}
 use Rattle.model_machine.specs.Machine.{LastingState, terminal_at, message_at, output_at}
-use Rattle.model_machine.specs.Lasting.{KeptInput, applied, code_word, kept_alone, kept_first, kept_by, kept_by_code, kept_input, without_word, padded, sent, all_sent, switched, replied, without_message, finished_by, with_pad_by}
-use Rattle.model_machine.specs.Lasting.LastingStep.{Accepts, Acknowledges, Completes, Discards, Commands}
+use Rattle.model_machine.specs.LastingSteps.{KeptInput, applied, code_word, kept_alone, kept_first, kept_by, kept_by_code, kept_input, without_word, with_pad_changed, output_sent, all_sent, switched, replied, without_message, finished_by, with_pad_by}
+use Rattle.model_machine.specs.LastingSteps.LastingStep.{Accepts, Acknowledges, Completes, Discards, Commands}
 use Rattle.log_records.specs.declared.record.Record.{Record}
 use Rattle.log_records.specs.declared.record.Record.TheVariants.{Input, Reply, Completed}
 use Rattle.model_messages.specs.declared.conversation.Conversation.{Conversation}
@@ -25,8 +25,9 @@ use Rattle.model_messages.specs.Terminals.{conversation_at}
 use Rattle.model_system.specs.declared.code.Code.{Code}
 use Rattle.model_system.specs.Codes.{code_at}
 use Rattle.model_system.specs.System.{System}
-use Rattle.model_image.specs.Replay.{done, all_done, pad_size, kept_in_record, accepts, acknowledges, discards, commands, syncs, with_step, completed_id, completed_message}
-use Rattle.model_image.specs.Records.{output_record, output_records, completion_records}
+use Rattle.model_image.specs.Replay.{done, all_done, pad_size, kept_in_record, replay_accepts, replay_acknowledges, discards, commands, syncs, with_step, completed_id, completed_message}
+use Rattle.model_image.specs.StepRecords.{output_record, output_records, completion_records}
+use Rattle.tm_types.proofs.Truths.{both}
 
 same : (n : ℕ) → (n == n) ≡ true
 same n = eq-eqb n n refl
@@ -34,11 +35,6 @@ same n = eq-eqb n n refl
 where_true : {A : Type 0} (b : Bool) (x : A) → b ≡ true → (if b then Some x else None) ≡ Some x
 where_true true x e = refl
 where_true false x e = cc
-
-both : (a b : Bool) → a ≡ true → b ≡ true → a && b ≡ true
-both true true x y = refl
-both true false x y = y
-both false b x y = x
 
 -- ---- steps that one record tells of
 
@@ -65,7 +61,7 @@ module _ (system : System) (lasting : LastingState) where
   -- an input, as it is kept
   pub accepts_again : (terminal : List ℕ) (number : ℕ) (segments : List (List ℕ)) (t : TerminalState) → terminal_at lasting.terminals terminal ≡ Some t → t.last + 1 ≡ number →
       let kept = kept_input system lasting terminal segments in
-      accepts system lasting.next_id terminal kept.code number kept.conversation kept.segments lasting ≡ Some (applied (Accepts terminal number kept) lasting)
+      replay_accepts system lasting.next_id terminal kept.code number kept.conversation kept.segments lasting ≡ Some (applied (Accepts terminal number kept) lasting)
   accepts_again terminal number segments t found next =
       let kept = kept_input system lasting terminal segments in
       where_true (option_map_or (λ terminal. terminal.last + 1 == number) (terminal_at lasting.terminals terminal) false && (lasting.next_id == lasting.next_id))
@@ -78,7 +74,7 @@ module _ (system : System) (lasting : LastingState) where
 module _ (lasting : LastingState) where
   -- a reply that is acknowledged
   pub acknowledges_again : (terminal : List ℕ) (reply : KeptReply) → reply_at terminal 0 lasting.outputs ≡ Some reply →
-      acknowledges terminal reply.number lasting ≡ Some (applied (Acknowledges terminal) lasting)
+      replay_acknowledges terminal reply.number lasting ≡ Some (applied (Acknowledges terminal) lasting)
   acknowledges_again terminal reply found =
       where_true (option_map_or (λ kept. kept.number == reply.number) (reply_at terminal 0 lasting.outputs) false) (applied (Acknowledges terminal) lasting)
       (ap (λ (o : Option KeptReply). option_map_or (λ kept. kept.number == reply.number) o false) found ∙ same reply.number)
@@ -93,7 +89,7 @@ module _ (lasting : LastingState) where
 -- ---- a completion
 
 -- an output is sent
-sent_again : (unit : ℕ) (origin : List ℕ) (output : EndedMessage) (lasting : LastingState) (b : Bool) → is_some (output_at lasting.outputs output.to) ≡ b → done (output_record unit origin output lasting) lasting ≡ Some (sent origin output lasting)
+sent_again : (unit : ℕ) (origin : List ℕ) (output : EndedMessage) (lasting : LastingState) (b : Bool) → is_some (output_at lasting.outputs output.to) ≡ b → done (output_record unit origin output lasting) lasting ≡ Some (output_sent origin output lasting)
 sent_again unit origin output lasting true is =
     rw is (where_true (next_of output.to lasting.outputs == next_of output.to lasting.outputs) (replied output lasting) (same (next_of output.to lasting.outputs)))
 sent_again unit origin output lasting false is =
@@ -102,11 +98,11 @@ sent_again unit origin output lasting false is =
 all_sent_again : (unit : ℕ) (origin : List ℕ) (outputs : List EndedMessage) (lasting : LastingState) (more : List Record) → all_done (output_records unit origin outputs lasting ++ more) lasting ≡ all_done more (all_sent origin outputs lasting)
 all_sent_again unit origin [] lasting more = refl
 all_sent_again unit origin (output ∷ outputs) lasting more =
-    ap (option_and_then (all_done (output_records unit origin outputs (sent origin output lasting) ++ more))) (sent_again unit origin output lasting (is_some (output_at lasting.outputs output.to)) refl)
-    ∙ all_sent_again unit origin outputs (sent origin output lasting) more
+    ap (option_and_then (all_done (output_records unit origin outputs (output_sent origin output lasting) ++ more))) (sent_again unit origin output lasting (is_some (output_at lasting.outputs output.to)) refl)
+    ∙ all_sent_again unit origin outputs (output_sent origin output lasting) more
 
 -- the state without a message
-abbrev gone : ℕ → LastingState → LastingState
+abbrev pub gone : ℕ → LastingState → LastingState
 gone id lasting = record lasting { messages = without_message lasting.messages id }
 
 without_later : (id : ℕ) (message : Message) (messages : List Message) → (message.id ≡ id → ⊥) → without_message (messages ++ message ∷ []) id ≡ without_message messages id ++ message ∷ []
@@ -116,13 +112,13 @@ without_later id message (first ∷ messages) other = kept (first.id == id) (wit
   kept true later = later
   kept false later = ap (λ (l : List Message). first ∷ l) later
 
-sent_without : (id : ℕ) (origin : List ℕ) (output : EndedMessage) (lasting : LastingState) (b : Bool) → is_some (output_at lasting.outputs output.to) ≡ b → id < lasting.next_id → gone id (sent origin output lasting) ≡ sent origin output (gone id lasting)
+sent_without : (id : ℕ) (origin : List ℕ) (output : EndedMessage) (lasting : LastingState) (b : Bool) → is_some (output_at lasting.outputs output.to) ≡ b → id < lasting.next_id → gone id (output_sent origin output lasting) ≡ output_sent origin output (gone id lasting)
 sent_without id origin output lasting true is below = rw is refl
 sent_without id origin output lasting false is below =
     let message : Message = record { id = lasting.next_id; origin = origin; code = output.to; conversation = false; segments = output.segments } in
     rw is (ap (λ (messages : List Message). record lasting { messages = messages; next_id = lasting.next_id + 1 }) (without_later id message lasting.messages (λ e. omega (arith, below, e))))
 
-next_id_rises : (origin : List ℕ) (output : EndedMessage) (lasting : LastingState) (b : Bool) → is_some (output_at lasting.outputs output.to) ≡ b → lasting.next_id ≤ (sent origin output lasting).next_id
+next_id_rises : (origin : List ℕ) (output : EndedMessage) (lasting : LastingState) (b : Bool) → is_some (output_at lasting.outputs output.to) ≡ b → lasting.next_id ≤ (output_sent origin output lasting).next_id
 next_id_rises origin output lasting true is = rw is (omega arith)
 next_id_rises origin output lasting false is = rw is (omega arith)
 
@@ -130,7 +126,7 @@ all_sent_without : (id : ℕ) (origin : List ℕ) (outputs : List EndedMessage) 
 all_sent_without id origin [] lasting below = refl
 all_sent_without id origin (output ∷ outputs) lasting below =
     let there = is_some (output_at lasting.outputs output.to) in
-    all_sent_without id origin outputs (sent origin output lasting) (omega (arith, below, next_id_rises origin output lasting there refl))
+    all_sent_without id origin outputs (output_sent origin output lasting) (omega (arith, below, next_id_rises origin output lasting there refl))
     ∙ ap (all_sent origin outputs) (sent_without id origin output lasting there refl below)
 
 -- a message stays found where others are added behind it
@@ -141,27 +137,27 @@ found_before id (first ∷ messages) more message found = by_first (first.id == 
   by_first true later is = is
   by_first false later is = later is
 
-found_sent : (id : ℕ) (origin : List ℕ) (output : EndedMessage) (lasting : LastingState) (message : Message) (b : Bool) → is_some (output_at lasting.outputs output.to) ≡ b → message_at lasting.messages id ≡ Some message → message_at (sent origin output lasting).messages id ≡ Some message
+found_sent : (id : ℕ) (origin : List ℕ) (output : EndedMessage) (lasting : LastingState) (message : Message) (b : Bool) → is_some (output_at lasting.outputs output.to) ≡ b → message_at lasting.messages id ≡ Some message → message_at (output_sent origin output lasting).messages id ≡ Some message
 found_sent id origin output lasting message true is found = rw is found
 found_sent id origin output lasting message false is found = rw is (found_before id lasting.messages _ message found)
 
 found_all_sent : (id : ℕ) (origin : List ℕ) (outputs : List EndedMessage) (lasting : LastingState) (message : Message) → message_at lasting.messages id ≡ Some message → message_at (all_sent origin outputs lasting).messages id ≡ Some message
 found_all_sent id origin [] lasting message found = found
 found_all_sent id origin (output ∷ outputs) lasting message found =
-    found_all_sent id origin outputs (sent origin output lasting) message (found_sent id origin output lasting message (is_some (output_at lasting.outputs output.to)) refl found)
+    found_all_sent id origin outputs (output_sent origin output lasting) message (found_sent id origin output lasting message (is_some (output_at lasting.outputs output.to)) refl found)
 
 -- sending counts no step
-sent_steps : (origin : List ℕ) (output : EndedMessage) (lasting : LastingState) (b : Bool) → is_some (output_at lasting.outputs output.to) ≡ b → (sent origin output lasting).steps ≡ lasting.steps
+sent_steps : (origin : List ℕ) (output : EndedMessage) (lasting : LastingState) (b : Bool) → is_some (output_at lasting.outputs output.to) ≡ b → (output_sent origin output lasting).steps ≡ lasting.steps
 sent_steps origin output lasting true is = rw is refl
 sent_steps origin output lasting false is = rw is refl
 
 all_sent_steps : (origin : List ℕ) (outputs : List EndedMessage) (lasting : LastingState) → (all_sent origin outputs lasting).steps ≡ lasting.steps
 all_sent_steps origin [] lasting = refl
 all_sent_steps origin (output ∷ outputs) lasting =
-    all_sent_steps origin outputs (sent origin output lasting) ∙ sent_steps origin output lasting (is_some (output_at lasting.outputs output.to)) refl
+    all_sent_steps origin outputs (output_sent origin output lasting) ∙ sent_steps origin output lasting (is_some (output_at lasting.outputs output.to)) refl
 
 -- the message of an id has that id
-has_its_id : (id : ℕ) (messages : List Message) (message : Message) → message_at messages id ≡ Some message → message.id ≡ id
+pub has_its_id : (id : ℕ) (messages : List Message) (message : Message) → message_at messages id ≡ Some message → message.id ≡ id
 has_its_id id [] message found = cc
 has_its_id id (first ∷ messages) message found = by_first (first.id == id) refl (has_its_id id messages message) found where
   by_first : (b : Bool) → first.id == id ≡ b → (message_at messages id ≡ Some message → message.id ≡ id) → (if b then Some first else message_at messages id) ≡ Some message → message.id ≡ id
@@ -170,16 +166,16 @@ has_its_id id (first ∷ messages) message found = by_first (first.id == id) ref
 
 -- what becomes of a pad, which no sending changes
 abbrev pads : PadChange → List ℕ → LastingState → LastingState
-pads pad origin lasting = record lasting { conversations = padded pad origin lasting.conversations }
+pads pad origin lasting = record lasting { conversations = with_pad_changed pad origin lasting.conversations }
 
-sent_pads : (pad : PadChange) (at origin : List ℕ) (output : EndedMessage) (lasting : LastingState) (b : Bool) → is_some (output_at lasting.outputs output.to) ≡ b → pads pad at (sent origin output lasting) ≡ sent origin output (pads pad at lasting)
+sent_pads : (pad : PadChange) (at origin : List ℕ) (output : EndedMessage) (lasting : LastingState) (b : Bool) → is_some (output_at lasting.outputs output.to) ≡ b → pads pad at (output_sent origin output lasting) ≡ output_sent origin output (pads pad at lasting)
 sent_pads pad at origin output lasting true is = rw is refl
 sent_pads pad at origin output lasting false is = rw is refl
 
 all_sent_pads : (pad : PadChange) (at origin : List ℕ) (outputs : List EndedMessage) (lasting : LastingState) → pads pad at (all_sent origin outputs lasting) ≡ all_sent origin outputs (pads pad at lasting)
 all_sent_pads pad at origin [] lasting = refl
 all_sent_pads pad at origin (output ∷ outputs) lasting =
-    all_sent_pads pad at origin outputs (sent origin output lasting)
+    all_sent_pads pad at origin outputs (output_sent origin output lasting)
     ∙ ap (all_sent origin outputs) (sent_pads pad at origin output lasting (is_some (output_at lasting.outputs output.to)) refl)
 
 finishes : (id : ℕ) (message : Message) (outputs : List EndedMessage) (pad : PadChange) (lasting : LastingState) → message_at lasting.messages id ≡ Some message → with_step (all_sent message.origin outputs (gone id (pads pad message.origin lasting))) ≡ applied (Completes id lasting.rows outputs pad) lasting
@@ -193,9 +189,9 @@ finishes id message outputs pad lasting found =
 completes_id : (unit : ℕ) (origin : List ℕ) (id : ℕ) (outputs : List EndedMessage) (lasting : LastingState) → completed_id (completion_records unit origin id outputs lasting) ≡ Some id
 completes_id unit origin id [] lasting = refl
 completes_id unit origin id (output ∷ outputs) lasting =
-    by_output (is_some (output_at lasting.outputs output.to)) (completes_id unit origin id outputs (sent origin output lasting)) where
-      by_output : (b : Bool) → completed_id (completion_records unit origin id outputs (sent origin output lasting)) ≡ Some id →
-          completed_id ((if b then Reply unit output.to (next_of output.to lasting.outputs) output.segments else Input unit lasting.next_id origin output.to 0 false output.segments) ∷ completion_records unit origin id outputs (sent origin output lasting)) ≡ Some id
+    by_output (is_some (output_at lasting.outputs output.to)) (completes_id unit origin id outputs (output_sent origin output lasting)) where
+      by_output : (b : Bool) → completed_id (completion_records unit origin id outputs (output_sent origin output lasting)) ≡ Some id →
+          completed_id ((if b then Reply unit output.to (next_of output.to lasting.outputs) output.segments else Input unit lasting.next_id origin output.to 0 false output.segments) ∷ completion_records unit origin id outputs (output_sent origin output lasting)) ≡ Some id
       by_output true later = later
       by_output false later = later
 
@@ -222,6 +218,6 @@ completes_again unit id message outputs pad lasting found below =
 -- ---- a command
 
 -- its spelling is done again as the command
-pub commands_again : (lasting : LastingState) (command : LastingCommand) → IsName (name_in command) → commands (spelling command) lasting ≡ Some (applied (Commands command) lasting)
+pub commands_again : (lasting : LastingState) (command : LastingCommand) → IsName (name_in command) → commands (command_spelling command) lasting ≡ Some (applied (Commands command) lasting)
 commands_again lasting command named =
-    ap (option_map (λ c. applied (Commands c) lasting)) (spelled_read (spelling command) command (record { spelled = refl; named = named }))
+    ap (option_map (λ c. applied (Commands c) lasting)) (spelled_read (command_spelling command) command (record { spelled = refl; named = named }))

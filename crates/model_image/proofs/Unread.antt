@@ -7,7 +7,7 @@ use Rattle.restart_data.specs.declared.restart.RestartSector.{RestartSector}
 use Rattle.restart_data.specs.Restart.{restart_in}
 use Rattle.model_image.specs.Areas.{snapshot_area, snapshot_first, log_first, data_first}
 use Rattle.model_image.specs.Slots.{named_by}
-use Rattle.model_image.specs.Recovered.{snapshot_from, log_in, is_later}
+use Rattle.model_image.specs.RecoveredState.{snapshot_from, log_in, is_later}
 use Rattle.model_image.proofs.Alike.{IsSlotOf, AreasAlike, ImagesAlike}
 use Rattle.model_image.proofs.Places.{snapshot_above, snapshot_below, snapshots_apart, log_above, log_below, logs_apart, both_logs, slot_above, one_slot}
 use Rattle.model_image.proofs.Readings.{IsKept, restart_kept}

@@ -9,19 +9,19 @@ use Rattle.restart_data.specs.declared.restart.RestartSector.{RestartSector}
 use Rattle.model_image.specs.Areas.{log_first}
 
 -- the unit of a record; 0 is none
-abbrev pub unit_of : Record → ℕ
-unit_of (Input unit id origin code number conversation segments) = unit
-unit_of (Reply unit terminal number segments) = unit
-unit_of (Discarded unit id abend number) = unit
-unit_of (Completed unit id) = unit
-unit_of (SyncPoint unit pad) = unit
-unit_of (Change unit database slot before after) = unit
-unit_of _ = 0
+abbrev pub unit_of_record : Record → ℕ
+unit_of_record (Input unit id origin code number conversation segments) = unit
+unit_of_record (Reply unit terminal number segments) = unit
+unit_of_record (Discarded unit id abend number) = unit
+unit_of_record (Completed unit id) = unit
+unit_of_record (SyncPoint unit pad) = unit
+unit_of_record (Change unit database slot before after) = unit
+unit_of_record _ = 0
 
 -- the greatest unit of these records
 abbrev pub greatest_unit : List Record → ℕ
 greatest_unit [] = 0
-greatest_unit (r ∷ records) = max (unit_of r) (greatest_unit records)
+greatest_unit (r ∷ records) = max (unit_of_record r) (greatest_unit records)
 
 -- the next unit as a snapshot counts it
 abbrev pub told_unit : List Record → ℕ

@@ -1,6 +1,6 @@
 -- Broken rules, and where.
 use Rattle.std.specs.Prelude.{ℕ, Bool, List, Option, Some, None, Result, Ok, Err}
-use Rattle.restart_data.specs.Rules.{first_broken, unless_broken}
+use Rattle.restart_data.specs.Rules.{first_broken, unless_rule_broken}
 
 -- a rule and its sector
 abbrev pub Fault : Type 0
@@ -13,7 +13,7 @@ in_sector sector (Err rule) = Err (rule, sector)
 
 -- a value, unless one of these rules is broken; the first of them stands with the sector
 abbrev pub unless_any : {A : Type 0} → ℕ → List (ℕ × Bool) → A → Result A Fault
-unless_any sector rules value = in_sector sector (unless_broken (first_broken rules) value)
+unless_any sector rules value = in_sector sector (unless_rule_broken (first_broken rules) value)
 
 -- a value that is there, or else a broken rule
 abbrev pub or_fault : {A : Type 0} → Fault → Option A → Result A Fault

@@ -13,13 +13,13 @@ use Rattle.model_system.specs.Codes.{code_at}
 use Rattle.model_system.specs.System.{System}
 use Rattle.model_messages.specs.Outputs.{with_terminal, with_reply, next_of, reply_at}
 use Rattle.model_machine.specs.Machine.{LastingState, terminal_at, message_at}
-use Rattle.model_machine.specs.Lasting.{KeptInput, applied, with_pad_by}
-use Rattle.model_machine.specs.Lasting.LastingStep.{Accepts, Acknowledges, Discards, Commands}
+use Rattle.model_machine.specs.LastingSteps.{KeptInput, applied, with_pad_by}
+use Rattle.model_machine.specs.LastingSteps.LastingStep.{Accepts, Acknowledges, Discards, Commands}
 use Rattle.log_records.specs.declared.record.Record.{Record}
 use Rattle.log_records.specs.declared.record.Record.TheVariants.{Input, Command, Reply, Discarded, Completed, Acknowledged, SyncPoint, Checkpoint, Terminal, Code, Change}
 use Rattle.model_messages.specs.declared.conversation.PadChange.{PadChange}
-use Rattle.model_image.specs.States.{is_terminal, is_code, breaks_a_rule}
-use Rattle.model_image.specs.Snapshot.{message_of}
+use Rattle.model_image.specs.States.{is_system_terminal, is_system_code, breaks_a_rule}
+use Rattle.model_image.specs.Snapshot.{snapshot_message}
 use Rattle.model_image.specs.Slots.{is_image_of}
 
 -- ---- what a unit's records do, at its sync point
@@ -32,7 +32,7 @@ done (Reply unit terminal number segments) lasting =
     then Some (record lasting { outputs = with_terminal terminal (with_reply segments) lasting.outputs }) else None
 done (Input unit id origin code number conversation segments) lasting =
     if (lasting.next_id == id) && (number == 0)
-    then Some (record lasting { messages = lasting.messages ++ message_of id origin code conversation segments ∷ []; next_id = id + 1 }) else None
+    then Some (record lasting { messages = lasting.messages ++ snapshot_message id origin code conversation segments ∷ []; next_id = id + 1 }) else None
 done (Completed unit id) lasting =
     option_map (λ _. record lasting { messages = filter (λ message. not (message.id == id)) lasting.messages }) (message_at lasting.messages id)
 done _ lasting = Some lasting
@@ -61,15 +61,15 @@ kept_in_record system lasting origin code conversation segments = record {
 }
 
 -- An input is accepted, if its number and its id are the next ones.
-abbrev pub accepts : System → ℕ → List ℕ → List ℕ → ℕ → Bool → List (List ℕ) → LastingState → Option LastingState
-accepts system id origin code number conversation segments lasting =
+abbrev pub replay_accepts : System → ℕ → List ℕ → List ℕ → ℕ → Bool → List (List ℕ) → LastingState → Option LastingState
+replay_accepts system id origin code number conversation segments lasting =
     if option_map_or (λ terminal. terminal.last + 1 == number) (terminal_at lasting.terminals origin) false && (lasting.next_id == id)
     then Some (applied (Accepts origin number (kept_in_record system lasting origin code conversation segments)) lasting)
     else None
 
 -- A reply is acknowledged, if it is the first that is kept.
-abbrev pub acknowledges : List ℕ → ℕ → LastingState → Option LastingState
-acknowledges terminal number lasting =
+abbrev pub replay_acknowledges : List ℕ → ℕ → LastingState → Option LastingState
+replay_acknowledges terminal number lasting =
     if option_map_or (λ reply. reply.number == number) (reply_at terminal 0 lasting.outputs) false
     then Some (applied (Acknowledges terminal) lasting) else None
 
@@ -126,12 +126,12 @@ without_unit unit replay = record replay { waiting = filter (λ r. not (is_of_un
 -- is none of a log. A change says something of a slot alone.
 abbrev pub replayed : System → Record → Replay → Option Replay
 replayed system (Input zero id origin code number conversation segments) replay =
-    with_lasting replay (accepts system id origin code number conversation segments replay.lasting)
+    with_lasting replay (replay_accepts system id origin code number conversation segments replay.lasting)
 replayed system (Input (suc u) id origin code number conversation segments) replay =
     Some (with_waiting (Input (suc u) id origin code number conversation segments) replay)
 replayed system (Reply unit terminal number segments) replay = Some (with_waiting (Reply unit terminal number segments) replay)
 replayed system (Completed unit id) replay = Some (with_waiting (Completed unit id) replay)
-replayed system (Acknowledged terminal number) replay = with_lasting replay (acknowledges terminal number replay.lasting)
+replayed system (Acknowledged terminal number) replay = with_lasting replay (replay_acknowledges terminal number replay.lasting)
 replayed system (Discarded unit id abend number) replay = with_lasting replay (discards id abend number replay.lasting)
 replayed system (SyncPoint unit pad) replay =
     with_lasting (without_unit unit replay) (syncs pad (filter (is_of_unit unit) replay.waiting) replay.lasting)
@@ -143,28 +143,28 @@ replayed system (Code name stopped class priority) replay = None
 
 -- a command names a code of the system, or a terminal
 abbrev pub names_known : System → LastingCommand → Bool
-names_known system (StartTransaction code) = is_code system code
-names_known system (StopTransaction code) = is_code system code
-names_known system (StartTerminal terminal) = is_terminal system terminal
-names_known system (StopTerminal terminal) = is_terminal system terminal
-names_known system (DequeueFirst terminal) = is_terminal system terminal
-names_known system (DequeueAll terminal) = is_terminal system terminal
-names_known system (Exit terminal) = is_terminal system terminal
+names_known system (StartTransaction code) = is_system_code system code
+names_known system (StopTransaction code) = is_system_code system code
+names_known system (StartTerminal terminal) = is_system_terminal system terminal
+names_known system (StopTerminal terminal) = is_system_terminal system terminal
+names_known system (DequeueFirst terminal) = is_system_terminal system terminal
+names_known system (DequeueAll terminal) = is_system_terminal system terminal
+names_known system (Exit terminal) = is_system_terminal system terminal
 
 -- the names of a record are known where it stands, and the images of a change are of a slot
-abbrev pub is_known : System → Record → Bool
-is_known system (Input unit id origin code number conversation segments) = is_terminal system origin && is_code system code
-is_known system (Reply unit terminal number segments) = is_terminal system terminal
-is_known system (Acknowledged terminal number) = is_terminal system terminal
-is_known system (Command text) = option_map_or (names_known system) (command_in text) false
-is_known system r = is_image_of system r
+abbrev pub is_record_known : System → Record → Bool
+is_record_known system (Input unit id origin code number conversation segments) = is_system_terminal system origin && is_system_code system code
+is_record_known system (Reply unit terminal number segments) = is_system_terminal system terminal
+is_record_known system (Acknowledged terminal number) = is_system_terminal system terminal
+is_record_known system (Command text) = option_map_or (names_known system) (command_in text) false
+is_record_known system r = is_image_of system r
 
 -- 19: each record is one of the log, names what is there, and leaves a state that breaks no rule
 abbrev pub unless_it_breaks : System → Replay → Option Replay
 unless_it_breaks system replay = if breaks_a_rule system replay.lasting then None else Some replay
 
 abbrev pub replay_one : System → Record → Replay → Option Replay
-replay_one system r replay = if is_known system r then option_and_then (unless_it_breaks system) (replayed system r replay) else None
+replay_one system r replay = if is_record_known system r then option_and_then (unless_it_breaks system) (replayed system r replay) else None
 
 abbrev pub replay_all : System → List Record → Replay → Option Replay
 replay_all system [] replay = Some replay

@@ -7,12 +7,12 @@ use Rattle.tm_types.specs.declared.dbd.SegType.{SegType}
 use Rattle.tm_disk.specs.Disk.{Image, sector_at}
 use Rattle.model_system.specs.System.{System}
 use Rattle.model_data.specs.declared.row.Row.{Row}
-use Rattle.model_data.specs.Reading.{next_row}
+use Rattle.model_data.specs.RowsOfBytes.{next_row}
 use Rattle.model_data.specs.Record.{record_limit}
 use Rattle.log_records.specs.declared.record.Record.{Record}
 use Rattle.log_records.specs.declared.record.Record.TheVariants.{SyncPoint, Change}
 use Rattle.restart_data.specs.Fields.{number2_at, are_zeros}
-use Rattle.seg_store.specs.Slots.{is_free, image_root, has_root, rows_of_slots}
+use Rattle.seg_store.specs.Slots.{is_slot_free, image_root, has_root, rows_of_slots}
 use Rattle.model_image.specs.Areas.{data_first}
 use Rattle.model_image.specs.Faults.{Fault, unless_fault}
 
@@ -89,8 +89,8 @@ named_by snapshot log database slot =
 abbrev pub used_in : List ℕ → ℕ
 used_in sector = number2_at 0 sector
 
-abbrev pub bytes_in : List ℕ → List ℕ
-bytes_in sector = take (used_in sector) (drop 2 sector)
+abbrev pub slot_bytes_in : List ℕ → List ℕ
+slot_bytes_in sector = take (used_in sector) (drop 2 sector)
 
 -- ---- slots
 
@@ -104,7 +104,7 @@ source_of (Some bytes) sector = Named bytes
 source_of None sector = Spelled sector
 
 -- a slot of a database as an image has it, with the place of its sector
-pub record Slot : Type 0 where
+pub record SlotOnImage : Type 0 where
   pub dbd : Dbd
   pub place : ℕ
   pub source : Source
@@ -116,69 +116,69 @@ is_wrong_length (Spelled sector) = nat_lt 4000 (used_in sector) || not (are_zero
 
 abbrev pub is_no_record : Dbd → Source → Bool
 is_no_record dbd (Named bytes) = false
-is_no_record dbd (Spelled sector) = not (is_image dbd (bytes_in sector))
+is_no_record dbd (Spelled sector) = not (is_image dbd (slot_bytes_in sector))
 
-abbrev pub has_wrong_length : Slot → Bool
+abbrev pub has_wrong_length : SlotOnImage → Bool
 has_wrong_length slot = is_wrong_length slot.source
 
-abbrev pub has_no_record : Slot → Bool
+abbrev pub has_no_record : SlotOnImage → Bool
 has_no_record slot = is_no_record slot.dbd slot.source
 
 -- the rows of a slot
 abbrev pub bytes_from : Source → List ℕ
 bytes_from (Named bytes) = bytes
-bytes_from (Spelled sector) = bytes_in sector
+bytes_from (Spelled sector) = slot_bytes_in sector
 
-abbrev pub rows_in : Slot → List Row
-rows_in slot = unwrap_or (rows_of_bytes slot.dbd (bytes_from slot.source)) []
+abbrev pub slot_rows : SlotOnImage → List Row
+slot_rows slot = unwrap_or (rows_of_bytes slot.dbd (bytes_from slot.source)) []
 
 -- 22: a later slot has the same root
-abbrev pub have_one_root : Slot → Slot → Bool
-have_one_root slot other = not (is_free (rows_in slot)) && has_root (image_root (rows_in slot)) (rows_in other)
+abbrev pub have_one_root : SlotOnImage → SlotOnImage → Bool
+have_one_root slot other = not (is_slot_free (slot_rows slot)) && has_root (image_root (slot_rows slot)) (slot_rows other)
 
-abbrev pub first_shared : List Slot → Option Slot
+abbrev pub first_shared : List SlotOnImage → Option SlotOnImage
 first_shared [] = None
 first_shared (slot ∷ slots) = if list_any (have_one_root slot) slots then Some slot else first_shared slots
 
 -- the slots of a database from one on, so many
-abbrev pub slots_by : (ℕ → Slot) → ℕ → ℕ → List Slot
+abbrev pub slots_by : (ℕ → SlotOnImage) → ℕ → ℕ → List SlotOnImage
 slots_by slot zero number = []
 slots_by slot (suc n) number = slot number ∷ slots_by slot n (number + 1)
 
-abbrev pub slot_in : Image → List Record → List Record → Dbd → ℕ → ℕ → ℕ → Slot
-slot_in image snapshot log dbd first database number = record {
+abbrev pub image_slot_in : Image → List Record → List Record → Dbd → ℕ → ℕ → ℕ → SlotOnImage
+image_slot_in image snapshot log dbd first database number = record {
   dbd = dbd;
   place = first + number;
   source = source_of (named_by snapshot log database number) (sector_at image (first + number));
 }
 
 -- the slots of the databases from one on, which has this place
-unfoldable pub all_slots : System → Image → List Record → List Record → ℕ → List Dbd → List (List Slot)
+unfoldable pub all_slots : System → Image → List Record → List Record → ℕ → List Dbd → List (List SlotOnImage)
 all_slots system image snapshot log place [] = []
 all_slots system image snapshot log place (dbd ∷ dbds) =
-    slots_by (slot_in image snapshot log dbd (data_first system place) (place + 1)) dbd.roots 0 ∷ all_slots system image snapshot log (place + 1) dbds
+    slots_by (image_slot_in image snapshot log dbd (data_first system place) (place + 1)) dbd.roots 0 ∷ all_slots system image snapshot log (place + 1) dbds
 
 -- the first slot that breaks a rule
-abbrev pub fault_of : ℕ → Option Slot → Option Fault
+abbrev pub fault_of : ℕ → Option SlotOnImage → Option Fault
 fault_of rule slot = option_map (λ s. (rule, s.place)) slot
 
-abbrev pub first_in : (List Slot → Option Slot) → List (List Slot) → Option Slot
+abbrev pub first_in : (List SlotOnImage → Option SlotOnImage) → List (List SlotOnImage) → Option SlotOnImage
 first_in test [] = None
 first_in test (slots ∷ databases) = option_or (test slots) (first_in test databases)
 
 -- the lowest rule that a slot breaks, and the first slot that does
-abbrev pub slot_fault : List (List Slot) → Option Fault
+abbrev pub slot_fault : List (List SlotOnImage) → Option Fault
 slot_fault databases =
     option_or (fault_of 20 (first_in (find has_wrong_length) databases))
     (option_or (fault_of 21 (first_in (find has_no_record) databases))
     (fault_of 22 (first_in first_shared databases)))
 
 -- the rows of each database
-abbrev pub rows_of : List (List Slot) → List (List Row)
-rows_of databases = map (λ slots. rows_of_slots (map rows_in slots)) databases
+abbrev pub rows_of_databases : List (List SlotOnImage) → List (List Row)
+rows_of_databases databases = map (λ slots. rows_of_slots (map slot_rows slots)) databases
 
 -- the rows of the databases of an image, unless a slot breaks a rule
-abbrev pub rows_from : System → Image → List Record → List Record → Result (List (List Row)) Fault
-rows_from system image snapshot log =
+abbrev pub image_rows_from : System → Image → List Record → List Record → Result (List (List Row)) Fault
+image_rows_from system image snapshot log =
     let databases = all_slots system image snapshot log 0 system.databases in
-    unless_fault (slot_fault databases) (rows_of databases)
+    unless_fault (slot_fault databases) (rows_of_databases databases)

@@ -7,47 +7,47 @@ use Rattle.model_system.specs.System.{System}
 use Rattle.model_system.specs.Lists.{change_at}
 use Rattle.model_messages.specs.declared.replies.TerminalReplies.{TerminalReplies}
 use Rattle.model_messages.specs.Outputs.{with_terminal}
-use Rattle.model_machine.specs.Lasting.{conversing}
+use Rattle.model_machine.specs.LastingSteps.{with_conversing}
 use Rattle.model_machine.specs.Machine.{LastingState, terminal_place, empty_state}
 use Rattle.log_records.specs.declared.record.Record.{Record}
 use Rattle.log_records.specs.declared.record.Record.TheVariants.{Input, Reply, Checkpoint, Terminal, Code, Change}
-use Rattle.model_image.specs.States.{is_terminal, is_small, is_next, wrong_values, wrong_ids, unknown_messages, wrong_replies, over_full}
+use Rattle.model_image.specs.States.{is_system_terminal, is_small, is_next, wrong_values, wrong_ids, unknown_messages, wrong_replies, over_full}
 use Rattle.model_image.specs.Slots.{is_image_of}
 
 -- ---- what a snapshot says
 
-abbrev pub message_of : ℕ → List ℕ → List ℕ → Bool → List (List ℕ) → Message
-message_of id origin code conversation segments = record { id = id; origin = origin; code = code; conversation = conversation; segments = segments }
+abbrev pub snapshot_message : ℕ → List ℕ → List ℕ → Bool → List (List ℕ) → Message
+snapshot_message id origin code conversation segments = record { id = id; origin = origin; code = code; conversation = conversation; segments = segments }
 
 abbrev pub with_kept : ℕ → List (List ℕ) → TerminalReplies → TerminalReplies
 with_kept number segments t = record t { replies = t.replies ++ record { number = number; segments = segments } ∷ [] }
 
 -- What a record of a snapshot says of the state: its counts; a terminal; a code; one message more; one reply more.
-abbrev pub told : Record → LastingState → LastingState
-told (Checkpoint checkpoint next_id next_unit steps) lasting = record lasting { next_id = next_id; steps = steps }
-told (Terminal name last next stopped conversation) lasting = record lasting {
+abbrev pub with_record_told : Record → LastingState → LastingState
+with_record_told (Checkpoint checkpoint next_id next_unit steps) lasting = record lasting { next_id = next_id; steps = steps }
+with_record_told (Terminal name last next stopped conversation) lasting = record lasting {
   terminals = change_at lasting.terminals (terminal_place lasting.terminals name) (λ t. record t { last = last; stopped = stopped });
   outputs = with_terminal name (λ t. record t { next = next }) lasting.outputs;
-  conversations = conversing name conversation lasting.conversations;
+  conversations = with_conversing name conversation lasting.conversations;
 }
-told (Code name stopped class priority) lasting = record lasting {
+with_record_told (Code name stopped class priority) lasting = record lasting {
   codes = change_at lasting.codes (position (λ code. bytes_eq code.code name) lasting.codes) (λ c. record c { stopped = stopped; class = class; priority = priority });
 }
-told (Input unit id origin code number conversation segments) lasting = record lasting {
-  messages = lasting.messages ++ message_of id origin code conversation segments ∷ [];
+with_record_told (Input unit id origin code number conversation segments) lasting = record lasting {
+  messages = lasting.messages ++ snapshot_message id origin code conversation segments ∷ [];
 }
-told (Reply unit terminal number segments) lasting = record lasting {
+with_record_told (Reply unit terminal number segments) lasting = record lasting {
   outputs = with_terminal terminal (with_kept number segments) lasting.outputs;
 }
-told _ lasting = lasting
+with_record_told _ lasting = lasting
 
-abbrev pub told_by : List Record → LastingState → LastingState
-told_by [] lasting = lasting
-told_by (r ∷ records) lasting = told_by records (told r lasting)
+abbrev pub with_records_told : List Record → LastingState → LastingState
+with_records_told [] lasting = lasting
+with_records_told (r ∷ records) lasting = with_records_told records (with_record_told r lasting)
 
 -- the state of a snapshot, but for its rows
 abbrev pub snapshot_state : System → List Record → LastingState
-snapshot_state system records = told_by records (empty_state system)
+snapshot_state system records = with_records_told records (empty_state system)
 
 -- ---- 11: which records there are, and their order
 
@@ -106,26 +106,26 @@ abbrev pub ascend_places : ℕ → List ℕ → Bool
 ascend_places least [] = true
 ascend_places least (place ∷ places) = nat_le least place && ascend_places place places
 
-abbrev pub follow : List (List ℕ) → List (List ℕ) → Bool
-follow defined names = ascend_places 0 (filter_map (λ name. position (λ other. bytes_eq other name) defined) names)
+abbrev pub names_follow : List (List ℕ) → List (List ℕ) → Bool
+names_follow defined names = ascend_places 0 (filter_map (λ name. position (λ other. bytes_eq other name) defined) names)
 
 -- changes stand by unit, database and slot, each once
-abbrev pub is_before : Record → Record → Bool
-is_before (Change unit database slot before after) (Change unit2 database2 slot2 before2 after2) =
+abbrev pub is_record_before : Record → Record → Bool
+is_record_before (Change unit database slot before after) (Change unit2 database2 slot2 before2 after2) =
     nat_lt unit unit2 || ((unit == unit2) && (nat_lt database database2 || ((database == database2) && nat_lt slot slot2)))
-is_before _ _ = true
+is_record_before _ _ = true
 
 abbrev pub ascend : List Record → Bool
 ascend [] = true
 ascend (r ∷ []) = true
-ascend (r ∷ next ∷ records) = is_before r next && ascend (next ∷ records)
+ascend (r ∷ next ∷ records) = is_record_before r next && ascend (next ∷ records)
 
 abbrev pub code_names : System → List (List ℕ)
 code_names system = map (λ code. code.transaction.code) system.codes
 
 abbrev pub out_of_order : System → List Record → Bool
 out_of_order system records =
-    not (begins_with_counts records && list_all is_of_no_unit records && follow system.terminals (filter_map reply_terminal records) && ascend records)
+    not (begins_with_counts records && list_all is_of_no_unit records && names_follow system.terminals (filter_map reply_terminal records) && ascend records)
     || are_others_in_order (filter_map terminal_name records) system.terminals
     || are_others_in_order (filter_map code_name records) (code_names system)
 
@@ -141,7 +141,7 @@ missing_or_twice system records =
 
 -- ---- 15: a reply belongs to a terminal
 abbrev pub reply_of_none : System → List Record → Bool
-reply_of_none system records = not (list_all (is_terminal system) (filter_map reply_terminal records))
+reply_of_none system records = not (list_all (is_system_terminal system) (filter_map reply_terminal records))
 
 -- ---- 17: changes are of slots, and their images are records
 

@@ -9,7 +9,7 @@ use Rattle.model_messages.specs.declared.conversation.Conversation.{Conversation
 use Rattle.model_messages.specs.declared.conversation.TerminalConversation.{TerminalConversation}
 use Rattle.model_messages.specs.Pads.{code_field}
 use Rattle.model_messages.specs.Terminals.{conversation_at}
-use Rattle.model_messages.specs.Input.{is_conversing}
+use Rattle.model_messages.specs.ConversationInput.{is_conversing}
 use Rattle.model_system.specs.System.{System}
 use Rattle.model_system.specs.Codes.{code_at}
 use Rattle.model_messages.specs.Room.{messages_bytes}
@@ -18,11 +18,11 @@ use Rattle.model_machine.specs.declared.lasting.CodeSetting.{CodeSetting}
 use Rattle.model_machine.specs.Machine.{LastingState}
 
 -- a terminal of the system, and a code
-abbrev pub is_terminal : System → List ℕ → Bool
-is_terminal system name = list_any (λ terminal. bytes_eq terminal name) system.terminals
+abbrev pub is_system_terminal : System → List ℕ → Bool
+is_system_terminal system name = list_any (λ terminal. bytes_eq terminal name) system.terminals
 
-abbrev pub is_code : System → List ℕ → Bool
-is_code system name = is_some (code_at system.codes name)
+abbrev pub is_system_code : System → List ℕ → Bool
+is_system_code system name = is_some (code_at system.codes name)
 
 -- a number that may be counted on
 abbrev pub is_small : ℕ → Bool
@@ -38,12 +38,12 @@ is_setting code = nat_le 1 code.class && nat_le code.class 255 && nat_le code.pr
 
 -- A conversation is of a code that has them. Its pad begins with the code, padded with blanks to 8 bytes, and has a
 -- work area of printable bytes behind, of the length of the code's pad, less 14.
-abbrev pub is_printable : ℕ → Bool
-is_printable byte = nat_le 32 byte && nat_le byte 126
+abbrev pub is_printable_byte : ℕ → Bool
+is_printable_byte byte = nat_le 32 byte && nat_le byte 126
 
 abbrev pub is_pad_of : ℕ → Conversation → Bool
 is_pad_of size c =
-    not (size == 0) && (length c.pad + 6 == size) && bytes_eq (take 8 c.pad) (code_field c.code) && list_all is_printable (drop 8 c.pad)
+    not (size == 0) && (length c.pad + 6 == size) && bytes_eq (take 8 c.pad) (code_field c.code) && list_all is_printable_byte (drop 8 c.pad)
 
 abbrev pub is_conversation : System → Conversation → Bool
 is_conversation system c = option_map_or (λ code. is_pad_of code.transaction.scratch_pad c) (code_at system.codes c.code) false
@@ -73,9 +73,9 @@ is_of_conversation lasting message =
 abbrev pub has_no_pad : System → Message → Bool
 has_no_pad system message = option_map_or (λ code. code.transaction.scratch_pad == 0) (code_at system.codes message.code) true
 
-abbrev pub is_known : System → LastingState → Message → Bool
-is_known system lasting message =
-    is_terminal system message.origin && is_code system message.code
+abbrev pub is_message_known : System → LastingState → Message → Bool
+is_message_known system lasting message =
+    is_system_terminal system message.origin && is_system_code system message.code
     && (if message.conversation then is_of_conversation lasting message else has_no_pad system message)
 
 abbrev pub are_alone : List Message → Bool
@@ -84,7 +84,7 @@ are_alone (message ∷ messages) =
     not (message.conversation && list_any (is_conversing message.origin) messages) && are_alone messages
 
 abbrev pub unknown_messages : System → LastingState → Bool
-unknown_messages system lasting = not (list_all (is_known system lasting) lasting.messages && are_alone lasting.messages)
+unknown_messages system lasting = not (list_all (is_message_known system lasting) lasting.messages && are_alone lasting.messages)
 
 -- 15: a terminal's replies have numbers from 1 on that follow one another up to its next one
 abbrev pub run_up_to : ℕ → List Reply → Bool

@@ -1,3 +1,4 @@
 pub mod Histories
 pub mod Picks
 pub mod Flags
+pub mod Rising

@@ -12,9 +12,9 @@ use Rattle.model_system.specs.System.{System}
 use Rattle.model_machine.specs.Machine.{LastingState, Moment, start_of, slot_at, IsRegion}
 use Rattle.model_machine.specs.declared.entry.Turned.TheVariants.{Backed}
 use Rattle.model_data.specs.declared.victim.Victim.{Victim}
-use Rattle.model_machine.specs.Requests.{BreaksAt}
-use Rattle.model_machine.specs.ModelMachineCommands.{IsServed, command_answer, checkpoint_answer}
-use Rattle.model_machine.specs.Steps.{input_answer, show_answer, ack_answer, turn_answer, After}
+use Rattle.model_machine.specs.Requests.{BreaksRingsAt}
+use Rattle.model_machine.specs.CommandAnswers.{IsCommandServed, command_answer, checkpoint_answer}
+use Rattle.model_machine.specs.MachineCalls.{input_answer, show_answer, ack_answer, turn_answer, After}
 
 -- the call that an entry answers
 abbrev pub call_of : Entry → ControlCall
@@ -31,9 +31,9 @@ victims_in (TurnEntry region (Ok (Backed victims))) = victims
 victims_in _ = []
 
 -- the number of the checkpoint that an entry tells of
-abbrev pub number_in : Entry → ℕ
-number_in (Checked freeze (Ok number)) = number
-number_in _ = 0
+abbrev pub checkpoint_number_in : Entry → ℕ
+checkpoint_number_in (Checked freeze (Ok number)) = number
+checkpoint_number_in _ = 0
 
 -- The entry that a call adds at a moment, and no other: the call with the machine's answer. These are the
 -- victims, where the call is a turn whose request is blocked, and this is the number of a checkpoint.
@@ -47,7 +47,7 @@ entry_now system moment victims checkpoint (Checkpoint freeze) = Checked freeze 
 
 -- the victims of a call are the right ones
 abbrev pub AreVictims : System → Moment → List Victim → ControlCall → Type 0
-AreVictims system moment victims (Turn region) = BreaksAt system moment region victims (slot_at moment region)
+AreVictims system moment victims (Turn region) = BreaksRingsAt system moment region victims (slot_at moment region)
 AreVictims system moment victims _ = victims ≡ []
 
 -- an input has a segment, a turn is one of a region that is there, and a command is one that is served
@@ -56,14 +56,14 @@ IsCall system (Input terminal number segments) = 0 < length segments
 IsCall system (Receive terminal) = ⊤
 IsCall system (Acknowledge terminal number) = ⊤
 IsCall system (Turn region) = IsRegion system region
-IsCall system (Command command) = IsServed command
+IsCall system (Command command) = IsCommandServed command
 IsCall system (Checkpoint freeze) = ⊤
 
 -- the entry has the right answer at the moment
 pub record May (system : System) (moment : Moment) (entry : Entry) : Type 0 where
   pub call : IsCall system (call_of entry)
   pub victims : AreVictims system moment (victims_in entry) (call_of entry)
-  pub answer : entry ≡ entry_now system moment (victims_in entry) (number_in entry) (call_of entry)
+  pub answer : entry ≡ entry_now system moment (victims_in entry) (checkpoint_number_in entry) (call_of entry)
 
 -- what the call of an entry leaves
 abbrev pub after_entry : System → Moment → Entry → Moment
@@ -99,16 +99,16 @@ abbrev pub IsEnd : System → Option Entry → Type 0
 IsEnd system None = Unit {0}
 IsEnd system (Some entry) = (is_fault entry ≡ true) × IsCall system (call_of entry)
 
-abbrev pub ended_by : List Entry → Option Entry → List Entry
-ended_by entries None = entries
-ended_by entries (Some entry) = entries ++ entry ∷ []
+abbrev pub history_ended_by : List Entry → Option Entry → List Entry
+history_ended_by entries None = entries
+history_ended_by entries (Some entry) = entries ++ entry ∷ []
 
 -- The history of a life is legal: each entry is a step of the machine, but that the last one may have a
 -- fault in place of its answer.
 pub record IsLegal (system : System) (moment : Moment) (history : List Entry) : Type 0 where
   pub steps : List Entry
   pub last : Option Entry
-  pub all : history ≡ ended_by steps last
+  pub all : history ≡ history_ended_by steps last
   pub legal : AreSteps system moment steps
   pub end : IsEnd system last
 
@@ -121,15 +121,15 @@ pub record ControlState : Type 0 where
   pub room : ℕ
 
 -- the moment that a control region has come to
-abbrev pub now_of : ControlState → Moment
-now_of control = moment_after control.system (start_of control.system control.opening) control.history
+abbrev pub control_moment : ControlState → Moment
+control_moment control = moment_after control.system (start_of control.system control.opening) control.history
 
 -- a call added this entry, which is the machine's answer at its place, and nothing else
 pub record AddsEntry (old new : ControlState) (entry : Entry) : Type 0 where
   pub system : new.system ≡ old.system
   pub opening : new.opening ≡ old.opening
   pub history : new.history ≡ old.history ++ entry ∷ []
-  pub may : May old.system (now_of old) entry
+  pub may : May old.system (control_moment old) entry
 
 -- a call added nothing; it may have made room
 pub record AddsNothing (old new : ControlState) : Type 0 where

@@ -92,8 +92,8 @@ abbrev pub content : LastingState → ℕ
 content lasting = messages_bytes lasting.messages + outputs_bytes lasting.outputs
 
 -- the state of a code, and what of it lasts
-abbrev pub state_by : CodeSetting → Bool → CodeState
-state_by c raised = record { code = c.code; stopped = c.stopped; class = c.class; priority = c.priority; raised = raised }
+abbrev pub code_state_by : CodeSetting → Bool → CodeState
+code_state_by c raised = record { code = c.code; stopped = c.stopped; class = c.class; priority = c.priority; raised = raised }
 
 abbrev pub setting_of : CodeState → CodeSetting
 setting_of s = record { code = s.code; stopped = s.stopped; class = s.class; priority = s.priority }
@@ -102,7 +102,7 @@ setting_of s = record { code = s.code; stopped = s.stopped; class = s.class; pri
 abbrev pub states_by : List CodeSetting → List Bool → List CodeState
 states_by [] flags = []
 states_by (c ∷ settings) [] = []
-states_by (c ∷ settings) (raised ∷ flags) = state_by c raised ∷ states_by settings flags
+states_by (c ∷ settings) (raised ∷ flags) = code_state_by c raised ∷ states_by settings flags
 
 abbrev pub states_of : Moment → List CodeState
 states_of moment = states_by moment.lasting.codes moment.raised

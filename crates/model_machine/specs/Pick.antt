@@ -17,8 +17,8 @@ abbrev pub current_priority : Code → CodeState → ℕ
 current_priority code state = if state.raised then code.transaction.limit_priority else state.priority
 
 -- a code is served where it has the class, isn't stopped and has a priority above 0
-abbrev pub is_served : ℕ → Code → CodeState → Bool
-is_served class code state = (state.class == class) && not state.stopped && nat_lt 0 (current_priority code state)
+abbrev pub is_code_served : ℕ → Code → CodeState → Bool
+is_code_served class code state = (state.class == class) && not state.stopped && nat_lt 0 (current_priority code state)
 
 abbrev pub candidate_by : Code → CodeState → Option ℕ → Option Candidate
 candidate_by code state first = option_map (λ id. record { code = code.transaction.code; priority = current_priority code state; id = id }) first
@@ -27,7 +27,7 @@ candidate_by code state first = option_map (λ id. record { code = code.transact
 -- the first of them, by the name of a code.
 abbrev pub candidate_of : (List ℕ → Option ℕ) → ℕ → Code → CodeState → Option Candidate
 candidate_of waits class code state =
-    if is_served class code state then candidate_by code state (waits code.transaction.code) else None
+    if is_code_served class code state then candidate_by code state (waits code.transaction.code) else None
 
 -- the higher priority goes first, and on a tie the lower id
 abbrev pub goes_first : Candidate → Candidate → Bool

@@ -13,14 +13,14 @@ use Rattle.model_data.specs.Footprint.{footprint}
 use Rattle.model_data.specs.declared.request.Request.{Request}
 use Rattle.model_data.specs.declared.victim.Victim.{Victim}
 use Rattle.model_data.specs.Table.{EnqueueTable}
-use Rattle.model_data.specs.Ask.{after_asks, first_blocked, released}
+use Rattle.model_data.specs.EnqueueRequests.{after_asks, first_blocked, released}
 use Rattle.model_data.specs.Cycle.{Breaks, after_victims}
 use Rattle.model_machine.specs.declared.entry.Turned.{Turned}
 use Rattle.model_machine.specs.declared.entry.Turned.TheVariants.{Scheduled, Called, Next, QC, Done, Abended, Idle, Held, Waits, Backed}
-use Rattle.model_machine.specs.Trial.{DbPcb, Given, Reached, Trial, reached, db_call, trial_need, trial_of}
+use Rattle.model_machine.specs.Trial.{DbPcb, Given, Reached, Trial, pcb_reached, db_call, trial_need, trial_of}
 use Rattle.model_machine.specs.Trial.Reached.{Messages, Rows, Nothing}
 use Rattle.model_machine.specs.Machine.{LastingState, Moment, Slot, slot_at}
-use Rattle.model_machine.specs.Work.{slot_trial}
+use Rattle.model_machine.specs.WorkSoFar.{slot_trial}
 
 -- a region asks for a record of a database, or for its sequence resource
 abbrev pub request_for : ℕ → ℕ → RootNeed → Request
@@ -38,7 +38,7 @@ requests_at region (Rows target) d call = database_requests region target d call
 requests_at region Nothing d call = []
 
 abbrev pub requests_by : ℕ → Job → Trial → Need → List Request
-requests_by region job trial (Call call) = requests_at region (reached job.system.databases job.pcbs call.pcb) trial.databases call
+requests_by region job trial (Call call) = requests_at region (pcb_reached job.system.databases job.pcbs call.pcb) trial.databases call
 requests_by region job trial Ended = []
 requests_by region job trial (Abend code) = []
 
@@ -89,10 +89,10 @@ abbrev pub BreaksWhere : List ℕ → ℕ → EnqueueTable → List Victim → O
 BreaksWhere changes region table victims (Some blocked) = Breaks changes region table victims
 BreaksWhere changes region table victims None = victims ≡ []
 
-abbrev pub BreaksAt : System → Moment → ℕ → List Victim → Option Slot → Type 0
-BreaksAt system moment region victims (Some slot) =
+abbrev pub BreaksRingsAt : System → Moment → ℕ → List Victim → Option Slot → Type 0
+BreaksRingsAt system moment region victims (Some slot) =
     BreaksWhere (changes_now system moment) region (asked_table system moment region) victims (blocked_now system moment region slot)
-BreaksAt system moment region victims None = victims ≡ []
+BreaksRingsAt system moment region victims None = victims ≡ []
 
 -- What a turn's answer leaves of the table in which the region has asked: victims hold and wait for nothing
 -- any more, nor does a region whose work on its message has ended.

@@ -21,11 +21,11 @@ use Rattle.model_system.specs.Pcbs.{pcb_at}
 use Rattle.model_system.specs.System.{System}
 use Rattle.model_data.specs.declared.row.Row.{Row}
 use Rattle.model_data.specs.declared.call.DbCall.{DbCall}
-use Rattle.model_data.specs.Dli.{DliResult}
+use Rattle.model_data.specs.DatabaseCalls.{DliResult}
 use Rattle.model_data.specs.Data.{Data, data_start, data_call, data_abend, data_after}
 use Rattle.model_messages.specs.declared.ended_message.EndedMessage.{EndedMessage}
-use Rattle.model_messages.specs.Work.{MessageWork, message_start}
-use Rattle.model_messages.specs.Calls.{status_alone, message_answer, message_work, message_abend, pad_change, finish_work}
+use Rattle.model_messages.specs.MessageWork.{MessageWork, message_start}
+use Rattle.model_messages.specs.MessageCalls.{status_alone, message_answer, message_work, message_abend, pad_change, finish_work}
 
 -- the database that a PCB reaches: its number, its definition, and the PCB's options
 pub record DbPcb : Type 0 where
@@ -48,8 +48,8 @@ reached_by databases None = Nothing
 
 -- PCB 0 and the output PCBs reach messages. A PCB that isn't there, which no program of a system names,
 -- reaches nothing.
-abbrev pub reached : List Dbd → List Pcb → ℕ → Reached
-reached databases pcbs pcb = if pcb == 0 then Messages else reached_by databases (pcb_at pcbs pcb)
+abbrev pub pcb_reached : List Dbd → List Pcb → ℕ → Reached
+pcb_reached databases pcbs pcb = if pcb == 0 then Messages else reached_by databases (pcb_at pcbs pcb)
 
 -- What a call of a script comes to: its answer, and the message's work and the databases behind it; or
 -- the abend to which it leads in place of these.
@@ -139,8 +139,8 @@ is_sync work call = work.begun && (call.pcb == 0) && is_get_unique call.function
 
 -- A call was made. ROLB takes back work and databases; the answers stay, and with them the script's
 -- variables.
-abbrev pub gone_on : Trial → CallText → Outcome → Advance
-gone_on trial call outcome =
+abbrev pub trial_goes_on : Trial → CallText → Outcome → Advance
+trial_goes_on trial call outcome =
     Goes (record { answers = trial.answers ++ outcome.answer ∷ []; work = outcome.work; databases = outcome.databases })
     (record { function = call.function; pcb = call.pcb; status = outcome.answer.status })
 
@@ -148,15 +148,15 @@ abbrev pub unless_abend : Option AbendCode → Advance → Advance
 unless_abend None advance = advance
 unless_abend (Some abend) advance = Stops (Abends abend)
 
-abbrev pub called : Trial → CallText → Outcome → Advance
-called trial call outcome = unless_abend outcome.abend (gone_on trial call outcome)
+abbrev pub called_in_trial : Trial → CallText → Outcome → Advance
+called_in_trial trial call outcome = unless_abend outcome.abend (trial_goes_on trial call outcome)
 
 abbrev pub call_outcome : Job → List (List Row) → Trial → CallText → Outcome
 call_outcome job rows trial call =
-    outcome_at job.system rows (reached job.system.databases job.pcbs call.pcb) trial.work trial.databases call
+    outcome_at job.system rows (pcb_reached job.system.databases job.pcbs call.pcb) trial.work trial.databases call
 
 abbrev pub advance_by : Job → List (List Row) → Trial → Need → Advance
-advance_by job rows trial (Call call) = if is_sync trial.work call then Stops Syncs else called trial call (call_outcome job rows trial call)
+advance_by job rows trial (Call call) = if is_sync trial.work call then Stops Syncs else called_in_trial trial call (call_outcome job rows trial call)
 advance_by job rows trial Ended = Stops Ends
 advance_by job rows trial (Abend code) = Stops (Abends code)
 

@@ -23,6 +23,7 @@ mod command;
 mod counts;
 mod entry;
 mod lasting;
+mod word;
 
 pub use active::{ActiveRegion, ActiveRegions, RegionWork};
 pub use answer::Answer;
@@ -33,3 +34,4 @@ pub use entry::{
     InputRefused, ShowAnswer, Taken, Turned,
 };
 pub use lasting::{CodeSetting, DatabaseRows, Lasting, TerminalState};
+pub use word::code_word;

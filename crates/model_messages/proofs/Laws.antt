@@ -6,7 +6,7 @@ use Rattle.std.specs.List.{find, filter}
 use Rattle.std.proofs.lemmas.Bool.{eqb-true, ne_eqb}
 use Rattle.tm_types.specs.declared.message.Message.{Message}
 use Rattle.model_messages.specs.declared.queued.Queued.{Queued}
-use Rattle.model_messages.specs.Queue.{IsNewId, has_id, queued_at, message_at, messages_of, with_message, with_holder, without}
+use Rattle.model_messages.specs.Queue.{IsNewId, has_id, queued_at, queued_message, messages_of, with_message, with_holder, without_id_queued}
 
 -- what is found under an id has that id
 pub found_id : (id : ℕ) (qs : List Queued) (q : Queued) → queued_at id qs ≡ Some q → q.message.id ≡ id
@@ -17,7 +17,7 @@ found_id id (p ∷ qs) q e = by (has_id id p) refl e (found_id id qs q)
     by true same h rest = let here : p ≡ q = cc in subst (λ r. r.message.id ≡ id) here (eqb-true p.message.id id same)
     by false same h rest = rest h
 
-pub found_message : (id : ℕ) (qs : List Queued) (m : Message) → message_at id qs ≡ Some m → m.id ≡ id
+pub found_message : (id : ℕ) (qs : List Queued) (m : Message) → queued_message id qs ≡ Some m → m.id ≡ id
 found_message id qs m e = by (queued_at id qs) refl e
   where
     by : (found : Option Queued) → queued_at id qs ≡ found → option_map (λ q. q.message) found ≡ Some m → m.id ≡ id
@@ -25,11 +25,11 @@ found_message id qs m e = by (queued_at id qs) refl e
     by None is h = cc
 
 -- an id that is above all stays so when a message goes
-pub new_id_without : (next id : ℕ) (qs : List Queued) → IsNewId next qs → IsNewId next (without id qs)
+pub new_id_without : (next id : ℕ) (qs : List Queued) → IsNewId next qs → IsNewId next (without_id_queued id qs)
 new_id_without next id [] h = tt
 new_id_without next id (q ∷ qs) h = by (not (has_id id q)) (new_id_without next id qs h.1)
   where
-    by : (b : Bool) → IsNewId next (without id qs) → IsNewId next (if b then q ∷ without id qs else without id qs)
+    by : (b : Bool) → IsNewId next (without_id_queued id qs) → IsNewId next (if b then q ∷ without_id_queued id qs else without_id_queued id qs)
     by true rest = (h.0, rest)
     by false rest = rest
 
@@ -47,12 +47,12 @@ found_behind id (p ∷ qs) others q e = by (has_id id p) e (found_behind id qs o
 apart : (id other : ℕ) (p : Queued) → id ≢ other → has_id id p ≡ true → has_id other p ≡ false
 apart id other p differ same = ne_eqb p.message.id other (λ e. differ (sym (eqb-true p.message.id id same) ∙ e))
 
-pub found_without : (id other : ℕ) (qs : List Queued) → id ≢ other → queued_at id (without other qs) ≡ queued_at id qs
+pub found_without : (id other : ℕ) (qs : List Queued) → id ≢ other → queued_at id (without_id_queued other qs) ≡ queued_at id qs
 found_without id other [] differ = refl
 found_without id other (p ∷ qs) differ = by (has_id id p) (has_id other p) refl refl (found_without id other qs differ)
   where
-    by : (b c : Bool) → has_id id p ≡ b → has_id other p ≡ c → queued_at id (without other qs) ≡ queued_at id qs
-        → queued_at id (if not c then p ∷ without other qs else without other qs) ≡ (if b then Some p else queued_at id qs)
+    by : (b c : Bool) → has_id id p ≡ b → has_id other p ≡ c → queued_at id (without_id_queued other qs) ≡ queued_at id qs
+        → queued_at id (if not c then p ∷ without_id_queued other qs else without_id_queued other qs) ≡ (if b then Some p else queued_at id qs)
     by true true x y rest = absurd (no-both (sym y ∙ apart id other p differ x))
       where
         no-both : true ≡ false → ⊥
@@ -100,21 +100,21 @@ pub messages_behind : (qs : List Queued) (m : Message) → messages_of (with_mes
 messages_behind [] m = refl
 messages_behind (q ∷ qs) m = ap (λ ms. q.message ∷ ms) (messages_behind qs m)
 
-pub messages_without : (id : ℕ) (qs : List Queued) → messages_of (without id qs) ≡ filter (λ m. not (m.id == id)) (messages_of qs)
+pub messages_without : (id : ℕ) (qs : List Queued) → messages_of (without_id_queued id qs) ≡ filter (λ m. not (m.id == id)) (messages_of qs)
 messages_without id [] = refl
 messages_without id (q ∷ qs) = by (has_id id q) (messages_without id qs)
   where
-    by : (b : Bool) → messages_of (without id qs) ≡ filter (λ m. not (m.id == id)) (messages_of qs)
-        → messages_of (if not b then q ∷ without id qs else without id qs) ≡ (if not b then q.message ∷ filter (λ m. not (m.id == id)) (messages_of qs) else filter (λ m. not (m.id == id)) (messages_of qs))
+    by : (b : Bool) → messages_of (without_id_queued id qs) ≡ filter (λ m. not (m.id == id)) (messages_of qs)
+        → messages_of (if not b then q ∷ without_id_queued id qs else without_id_queued id qs) ≡ (if not b then q.message ∷ filter (λ m. not (m.id == id)) (messages_of qs) else filter (λ m. not (m.id == id)) (messages_of qs))
     by true rest = rest
     by false rest = ap (λ ms. q.message ∷ ms) rest
 
 -- a message is found among the messages as it is in the queues
-pub message_found : (id : ℕ) (qs : List Queued) → find (λ m. m.id == id) (messages_of qs) ≡ message_at id qs
+pub message_found : (id : ℕ) (qs : List Queued) → find (λ m. m.id == id) (messages_of qs) ≡ queued_message id qs
 message_found id [] = refl
 message_found id (q ∷ qs) = by (has_id id q) (message_found id qs)
   where
-    by : (b : Bool) → find (λ m. m.id == id) (messages_of qs) ≡ message_at id qs
+    by : (b : Bool) → find (λ m. m.id == id) (messages_of qs) ≡ queued_message id qs
         → (if b then Some q.message else find (λ m. m.id == id) (messages_of qs)) ≡ option_map (λ p. p.message) (if b then Some q else queued_at id qs)
     by true rest = refl
     by false rest = rest

@@ -2,7 +2,7 @@
 use Rattle.std.proofs.Common.{◌≡◌, ℕ, ◌-◌, ◌≤◌, ◌++◌, ◌∷◌, [], List, length, take, drop, min, zero, suc, refl, sym, ap, ◌∙◌, arith}
 use Rattle.std.specs.Prelude.{replicate}
 use Rattle.std.proofs.lemmas.List.{drop-replicate, length-take}
-use Rattle.model_messages.specs.Pads.{fitted, code_field}
+use Rattle.model_messages.specs.Pads.{fitted_pad, code_field}
 
 take_whole : (n : ℕ) (xs : List ℕ) → length xs ≤ n → take n xs ≡ xs
 take_whole zero [] h = refl
@@ -27,7 +27,7 @@ front_is n bytes = take_short n bytes (min (length bytes) n) refl
 -- the front of a text, and blanks behind it up to a length
 pub fits : (n size had : ℕ) (text front whole : List ℕ) → size ≡ min (length text) n → front ≡ take size text → had ≡ length front
     → whole ≡ take n front ++ replicate (n - had) 32
-    → whole ≡ fitted n text
+    → whole ≡ fitted_pad n text
 fits n size had text front whole e is long grown =
     let cut : front ≡ take n text = is ∙ take_short n text size e in
     let count : n - had ≡ n - length text = omega (arith, e, long, ap length cut, length-take n text) in

@@ -2,7 +2,7 @@
 use Rattle.std.proofs.Common.{◌≡◌, ℕ, ◌+◌, ◌-◌, Bool, true, false, List, [], ◌∷◌, ◌++◌, refl, ap, ◌∙◌, cond, length, take, arith, length-append}
 use Rattle.std.proofs.Math.Seq.{take-append_seam}
 use Rattle.model_messages.specs.declared.replies.TerminalReplies.{TerminalReplies}
-use Rattle.model_messages.specs.Outputs.{is_of, with_terminal, with_reply, without_last}
+use Rattle.model_messages.specs.Outputs.{are_replies_of, with_terminal, with_reply, without_last}
 
 -- a terminal is as before
 pub reply_taken_back : (segments : List (List ℕ)) (t : TerminalReplies) → without_last (with_reply segments t) ≡ t
@@ -25,9 +25,9 @@ reply_taken_back segments t =
 pub taken_back : (name : List ℕ) (segments : List (List ℕ)) (outputs : List TerminalReplies)
     → with_terminal name without_last (with_terminal name (with_reply segments) outputs) ≡ outputs
 taken_back name segments [] = refl
-taken_back name segments (t ∷ ts) = by (is_of name t) refl (taken_back name segments ts)
+taken_back name segments (t ∷ ts) = by (are_replies_of name t) refl (taken_back name segments ts)
   where
-    by : (b : Bool) → is_of name t ≡ b → with_terminal name without_last (with_terminal name (with_reply segments) ts) ≡ ts
+    by : (b : Bool) → are_replies_of name t ≡ b → with_terminal name without_last (with_terminal name (with_reply segments) ts) ≡ ts
         → with_terminal name without_last (cond b (with_reply segments t ∷ ts) (t ∷ with_terminal name (with_reply segments) ts)) ≡ t ∷ ts
     by true q rest =
         ap (λ b. cond b (without_last (with_reply segments t) ∷ ts) (with_reply segments t ∷ with_terminal name without_last ts)) q

@@ -4,6 +4,6 @@ pub mod Queue
 pub mod Outputs
 pub mod Terminals
 pub mod Pads
-pub mod Input
-pub mod Work
-pub mod Calls
+pub mod ConversationInput
+pub mod MessageWork
+pub mod MessageCalls

@@ -10,12 +10,12 @@ use Rattle.model_messages.specs.Room.{replies_bytes}
 abbrev pub fresh_terminal : List ℕ → TerminalReplies
 fresh_terminal name = record { terminal = name; next = 1; replies = [] }
 
-abbrev pub is_of : List ℕ → TerminalReplies → Bool
-is_of name t = bytes_eq t.terminal name
+abbrev pub are_replies_of : List ℕ → TerminalReplies → Bool
+are_replies_of name t = bytes_eq t.terminal name
 
 -- the terminal of this name, the first one if there are more
 abbrev pub replies_at : List ℕ → List TerminalReplies → Option TerminalReplies
-replies_at name outputs = find (is_of name) outputs
+replies_at name outputs = find (are_replies_of name) outputs
 
 -- there is a terminal of this name
 abbrev pub IsTerminal : List ℕ → List TerminalReplies → Type 0
@@ -24,7 +24,7 @@ IsTerminal name outputs = IsSome (replies_at name outputs)
 -- that terminal changed, all others staying
 abbrev pub with_terminal : List ℕ → (TerminalReplies → TerminalReplies) → List TerminalReplies → List TerminalReplies
 with_terminal name change [] = []
-with_terminal name change (t ∷ ts) = if is_of name t then change t ∷ ts else t ∷ with_terminal name change ts
+with_terminal name change (t ∷ ts) = if are_replies_of name t then change t ∷ ts else t ∷ with_terminal name change ts
 
 -- a terminal with one more reply, under its next number
 abbrev pub with_reply : List (List ℕ) → TerminalReplies → TerminalReplies

@@ -35,8 +35,8 @@ abbrev pub queued_at : ℕ → List Queued → Option Queued
 queued_at id queued = find (has_id id) queued
 
 -- the message of an id
-abbrev pub message_at : ℕ → List Queued → Option Message
-message_at id queued = option_map (λ q. q.message) (queued_at id queued)
+abbrev pub queued_message : ℕ → List Queued → Option Message
+queued_message id queued = option_map (λ q. q.message) (queued_at id queued)
 
 -- a message that no region has, behind all others
 abbrev pub with_message : Message → List Queued → List Queued
@@ -47,8 +47,8 @@ abbrev pub with_holder : ℕ → Option ℕ → List Queued → List Queued
 with_holder id holder queued = map (λ q. if has_id id q then record q { holder = holder } else q) queued
 
 -- all but the message of this id
-abbrev pub without : ℕ → List Queued → List Queued
-without id queued = filter (λ q. not (has_id id q)) queued
+abbrev pub without_id_queued : ℕ → List Queued → List Queued
+without_id_queued id queued = filter (λ q. not (has_id id q)) queued
 
 -- a message of the code that no region has
 abbrev pub is_free_of : List ℕ → Queued → Bool

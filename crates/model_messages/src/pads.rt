@@ -1,7 +1,7 @@
 //! What a scratch pad begins with, and which text may be given back as one.
 ghost use Rattle.std.specs.Prelude.{◌≡◌, ◌≤◌, IfOk, length, take};
 ghost use Rattle.std.specs.Str.{bytes_eq};
-ghost use Rattle.model_messages.specs.Pads.{code_field, ends, fitted, is_pad};
+ghost use Rattle.model_messages.specs.Pads.{code_field, ends_conversation, fitted_pad, is_pad};
 
 use std::alloc::Global;
 use tm_types::{Bytes, Memory, Name};
@@ -26,7 +26,7 @@ pub fn is_pad(code: &Name, text: &[u8]) -> bool
 /// Whether the text has blanks in the place of the code, which ends the conversation.
 pub fn ends(text: &[u8]) -> bool
     requires { 8 ≤ length text.now }
-    ensures { result ≡ ends text.now }
+    ensures { result ≡ ends_conversation text.now }
 {
     &text[..CODE_BYTES] == b"        ".as_slice()
 }
@@ -55,7 +55,7 @@ pub fn code_field(code: &Name) -> [u8; CODE_BYTES]
 /// The text with blanks behind up to this length, or cut to it.
 #[tactic(auto, using(crate::proofs::Padded::fits))]
 pub fn fitted(alloc: Global, length: usize, text: &[u8]) -> Result<Bytes, Memory>
-    ensures { IfOk result (λ whole. whole ≡ fitted length text.now) }
+    ensures { IfOk result (λ whole. whole ≡ fitted_pad length text.now) }
 {
     let size = text.len().min(length);
     let mut whole = Vec::with_capacity(alloc, length)?;

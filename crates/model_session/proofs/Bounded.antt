@@ -7,8 +7,8 @@ use Rattle.std.specs.Str.{bytes_eq}
 use Rattle.std.proofs.lemmas.List.{append-nil, length_push, length-map, length-drop, take-map}
 use Rattle.std.proofs.lemmas.Bool.Decides.{nat_tests}
 use Rattle.std.proofs.lemmas.Slice.Eq.{bytes_eq-Decides}
-use Rattle.text_rows.specs.Lowest.{also, both}
-use Rattle.model_machine.specs.Commands.{command_of}
+use Rattle.text_rows.specs.LowestRule.{also, both}
+use Rattle.model_machine.specs.CommandText.{command_of}
 use Rattle.model_session.specs.Numbers.{name_operand}
 use Rattle.tm_types.specs.Segment.{are_printable}
 use Rattle.tm_types.specs.Words.{first_word, operands}
@@ -17,9 +17,9 @@ use Rattle.model_session.specs.declared.others.Others.{Others}
 use Rattle.model_session.specs.declared.asked.Asked.{Asked}
 use Rattle.model_session.specs.declared.asked.Form.{Form}
 use Rattle.model_session.specs.declared.asked.Form.TheVariants.{Input as InputForm}
-use Rattle.model_session.specs.Blocks.{Block, alone, and_field, and_line, and_other, and_text, has_operand, is_screen, long_of, no_others}
-use Rattle.model_session.specs.Lines.{asked_by, asked_of, block_form, command_asked, first_long, form_of, further_forms, input_form, input_long, input_text, input_texts, is_command, kept_texts, message_number, numbered, operand_count, printable_block, text_forms, unless_long}
-use Rattle.model_session.specs.Bounded.{AsksAlike, KeepsEnough, first_texts, whole, whole_input, whole_screen, with_lines}
+use Rattle.model_session.specs.Blocks.{Block, block_alone, and_field, and_line, and_other, and_text, has_operand, is_screen, long_of, no_others}
+use Rattle.model_session.specs.Lines.{asked_by, asked_of, block_form, command_asked, first_long, line_form, further_forms, input_form, input_long, input_text, input_texts, is_command, kept_texts, message_number, numbered_form, operand_count, printable_block, text_forms, unless_long}
+use Rattle.model_session.specs.BoundedBlocks.{AsksAlike, KeepsEnough, first_texts, whole, whole_input, whole_screen, with_lines}
 use Rattle.model_session.proofs.Screens.{screen_enough}
 
 -- ---- the block that the lines make
@@ -211,8 +211,8 @@ input_same system line lines terminal number =
     (sym (texts_same line lines)) (asked_same system terminal number (input_texts (whole_input line lines)) (input_long (whole_input line lines))))
 
 formed_same : (system : System) (line : List ℕ) (lines : List (List ℕ)) (read : Result (List ℕ × ℕ) ℕ) (rest : Result (Unit {0}) ℕ)
-    → AsksAlike (asked_by system (kept_of line lines) (also (numbered (λ t n. InputForm t n) read) rest))
-    (asked_by system (whole_input line lines) (also (numbered (λ t n. InputForm t n) read) rest))
+    → AsksAlike (asked_by system (kept_of line lines) (also (numbered_form (λ t n. InputForm t n) read) rest))
+    (asked_by system (whole_input line lines) (also (numbered_form (λ t n. InputForm t n) read) rest))
 unfolding also
 formed_same system line lines (Ok (terminal, number)) (Ok done) = input_same system line lines terminal number
 formed_same system line lines (Ok (terminal, number)) (Err rule) = inl refl
@@ -221,16 +221,16 @@ formed_same system line lines (Err rule) (Err other) = inl refl
 
 -- the form of an input, or a rule
 formed_by : (system : System) (line : List ℕ) (lines : List (List ℕ)) (enough : Bool) (read : Result (List ℕ × ℕ) ℕ) (rest : Result (Unit {0}) ℕ)
-    → AsksAlike (asked_by system (kept_of line lines) (also (if enough then numbered (λ t n. InputForm t n) read else Err 2) rest))
-    (asked_by system (whole_input line lines) (also (if enough then numbered (λ t n. InputForm t n) read else Err 2) rest))
+    → AsksAlike (asked_by system (kept_of line lines) (also (if enough then numbered_form (λ t n. InputForm t n) read else Err 2) rest))
+    (asked_by system (whole_input line lines) (also (if enough then numbered_form (λ t n. InputForm t n) read else Err 2) rest))
 formed_by system line lines true read rest = formed_same system line lines read rest
 formed_by system line lines false read rest = formed_same system line lines (Err 2) rest
 
 no_screen : (line : List ℕ) → bytes_eq (first_word line) (codes "IN") ≡ true → is_screen line ≡ false
 no_screen line input = ap (λ (word : List ℕ). bytes_eq word (codes "SCREEN")) ((bytes_eq-Decides (first_word line) (codes "IN")).0 input)
 
-form_is : (regions : ℕ) (line : List ℕ) → bytes_eq (first_word line) (codes "IN") ≡ true → form_of regions line ≡ input_form line
-unfolding form_of
+form_is : (regions : ℕ) (line : List ℕ) → bytes_eq (first_word line) (codes "IN") ≡ true → line_form regions line ≡ input_form line
+unfolding line_form
 form_is regions line input = rw input refl
 
 -- the lines of an input and the block that is kept of them
@@ -264,7 +264,7 @@ whole_is line lines b is = ap (λ (c : Bool). if c then whole_screen line lines 
 
 pub keeps_enough : KeepsEnough
 keeps_enough system line lines screens takes = by (is_screen line) refl where
-  by : (b : Bool) → is_screen line ≡ b → AsksAlike (asked_of system (with_lines (alone line) lines)) (asked_of system (whole line lines))
+  by : (b : Bool) → is_screen line ≡ b → AsksAlike (asked_of system (with_lines (block_alone line) lines)) (asked_of system (whole line lines))
   by true screen = inl (screen_enough system line lines screens screen ∙ ap (λ (b : Block). asked_of system b) (sym (whole_is line lines true screen)))
   by false input =
       subst (λ (b : Block). AsksAlike (asked_of system b) (asked_of system (whole line lines))) (sym (input_lines 16 line [] lines input refl))

@@ -4,16 +4,14 @@ use Rattle.std.specs.Prelude.{Some}
 use Rattle.model_machine.specs.declared.entry.Entry.{Entry}
 use Rattle.model_system.specs.System.{System}
 use Rattle.model_machine.specs.Machine.{Moment}
-use Rattle.model_machine.specs.History.{AreSteps, IsEnd, IsLegal, after_entry, ended_by, is_fault}
+use Rattle.model_machine.specs.History.{AreSteps, IsEnd, IsLegal, after_entry, history_ended_by, is_fault}
 use Rattle.model_session.specs.Lives.{is_disk_fault}
 use Rattle.model_session.proofs.Unfaulted.{unfaulted}
+use Rattle.tm_types.proofs.Truths.{apart}
 
 last_fine : (system : System) (steps : List Entry) (entry : Entry) (moment : Moment) → AreSteps system moment (steps ++ entry ∷ []) → is_fault entry ≡ false
 last_fine system [] entry moment legal = unfaulted system moment entry legal.0
 last_fine system (step ∷ steps) entry moment legal = last_fine system steps entry (after_entry system moment step) legal.1
-
-apart : true ≡ false → ⊥
-apart e = cc
 
 none_left : (entry first : Entry) (entries : List Entry) → [] ≡ entries ++ entry ∷ [] → ⊥
 none_left entry first [] e = cc
@@ -33,7 +31,7 @@ last_is (first ∷ xs) (second ∷ ys) x y e = last_is xs ys x y (tail_is first 
 
 module _ (system : System) (moment : Moment) (history : List Entry) (legal : IsLegal system moment history) (entry : Entry) (last : legal.last ≡ Some entry) where
   all : history ≡ legal.steps ++ entry ∷ []
-  all = subst (λ l. history ≡ ended_by legal.steps l) last legal.all
+  all = subst (λ l. history ≡ history_ended_by legal.steps l) last legal.all
 
   faulted : is_fault entry ≡ true
   faulted = (subst (λ l. IsEnd system l) last legal.end).0

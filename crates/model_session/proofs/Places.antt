@@ -13,13 +13,13 @@ use Rattle.std.proofs.lemmas.List.Elements.{All-head, All-tail}
 use Rattle.std.proofs.lemmas.Map.Keys.{IsDistinct-push}
 use Rattle.std.proofs.lemmas.Map.Steps.{length-le_from_distinct_below}
 use Rattle.model_system.specs.declared.device_field.DeviceField.{DeviceField}
-use Rattle.model_system.specs.Breaks.{KeepsRule, broken_input, broken_line, broken_output, clash, clashing_field, line_if, no_input, overlap}
-use Rattle.model_system.specs.Formats.{FormatLines}
-use Rattle.model_system.specs.Valid.{IsFormat, is_on_page}
+use Rattle.model_system.specs.FormatRule.{KeepsRule, broken_input, broken_format_line, broken_output, clash, clashing_field, line_if, no_input, overlap}
+use Rattle.model_system.specs.FormatLines.{FormatLines}
+use Rattle.model_system.specs.ValidFormat.{IsFormat, is_on_page}
 use Rattle.model_system.specs.declared.screen.SystemFormat.{SystemFormat}
-use Rattle.model_system.specs.ModelSystemFormats.{format_name, format_named}
+use Rattle.model_system.specs.SystemFormats.{format_name, format_named}
 use Rattle.model_system.specs.System.{System}
-use Rattle.model_session.specs.Bounded.{HasScreens}
+use Rattle.model_session.specs.BoundedBlocks.{HasScreens}
 
 -- ---- the place of a field's first byte
 
@@ -166,7 +166,7 @@ or_second (Some n) b e = cc
 or_second None b e = e
 
 no_clash : (format : FormatLines) → KeepsRule format → clashing_field [] format.fields ≡ None
-unfolding broken_line
+unfolding broken_format_line
 no_clash format keeps =
     or_first (clashing_field [] format.fields) (option_or (broken_input format.fields format.input) (broken_output format.fields format.output))
     (or_second (no_input 0 format.input)

@@ -15,10 +15,10 @@ use Rattle.model_system.specs.declared.message_field.MessageField.{MessageField}
 use Rattle.model_system.specs.declared.message_field.MessageField.TheVariants.{Source, Literal}
 use Rattle.model_system.specs.declared.message_field.MessageFieldLine.{MessageFieldLine}
 use Rattle.model_system.specs.declared.segment_line.SegmentLine.{SegmentLine}
-use Rattle.model_system.specs.Breaks.{has_field}
-use Rattle.model_system.specs.Entering.{entered, text_of, texts_of, unknown_field, unless_unknown, value_of}
-use Rattle.model_system.specs.Fitting.{fitted}
-use Rattle.model_system.specs.Formats.{FormatLines}
+use Rattle.model_system.specs.FormatRule.{has_field}
+use Rattle.model_system.specs.ScreenInput.{entered, field_text_of, field_texts_of, unknown_field, unless_unknown, field_value_of}
+use Rattle.model_system.specs.FittedValues.{fitted_value}
+use Rattle.model_system.specs.FormatLines.{FormatLines}
 use Rattle.model_session.specs.Blocks.{put_value}
 use Rattle.model_session.proofs.Pigeons.{Apart, Differ, differ_put, differ_take, few_names, none_differ, put_name}
 
@@ -117,7 +117,7 @@ last_all before (value ∷ values) name differ =
     ∙ ap (λ (o : Option FieldValue). option_or (last_of values name) o) (last_put value before name differ)
     ∙ sym (or_more (last_of values name) (this_if (bytes_eq value.name name) value) (last_of before name))
 
-value_all : (values : List FieldValue) (name : List ℕ) → value_of (put_all [] values) name ≡ value_of values name
+value_all : (values : List FieldValue) (name : List ℕ) → field_value_of (put_all [] values) name ≡ field_value_of values name
 value_all values name =
     ap (λ (o : Option FieldValue). option_map_or (λ value. value.text) o [])
     (last_is (put_all [] values) name ∙ last_all [] values name none_differ ∙ or_none (last_of values name) ∙ sym (last_is values name))
@@ -180,27 +180,27 @@ unknown_all fields values = unknown_is fields (put_all [] values) ∙ first_all 
 
 -- ---- what is entered
 
-text_same : (values others : List FieldValue) → ((name : List ℕ) → value_of values name ≡ value_of others name) → (content : MessageField)
-    → text_of values content ≡ text_of others content
-text_same values others same (Source source) = ap (λ (text : List ℕ). fitted source.justify source.fill source.width text) (same source.name)
+text_same : (values others : List FieldValue) → ((name : List ℕ) → field_value_of values name ≡ field_value_of others name) → (content : MessageField)
+    → field_text_of values content ≡ field_text_of others content
+text_same values others same (Source source) = ap (λ (text : List ℕ). fitted_value source.justify source.fill source.width text) (same source.name)
 text_same values others same (Literal text) = refl
 
-texts_same : (values others : List FieldValue) → ((name : List ℕ) → value_of values name ≡ value_of others name) → (lines : List MessageFieldLine)
-    → texts_of values lines ≡ texts_of others lines
+texts_same : (values others : List FieldValue) → ((name : List ℕ) → field_value_of values name ≡ field_value_of others name) → (lines : List MessageFieldLine)
+    → field_texts_of values lines ≡ field_texts_of others lines
 texts_same values others same [] = refl
 texts_same values others same (line ∷ lines) =
-    ap (λ (text : List ℕ). text ++ texts_of values lines) (text_same values others same line.content)
-    ∙ ap (λ (rest : List ℕ). text_of others line.content ++ rest) (texts_same values others same lines)
+    ap (λ (text : List ℕ). text ++ field_texts_of values lines) (text_same values others same line.content)
+    ∙ ap (λ (rest : List ℕ). field_text_of others line.content ++ rest) (texts_same values others same lines)
 
 abbrev segments_of : List FieldValue → List SegmentLine → List (List ℕ)
-segments_of values segments = map (λ segment. texts_of values segment.fields) segments
+segments_of values segments = map (λ segment. field_texts_of values segment.fields) segments
 
-segments_same : (values others : List FieldValue) → ((name : List ℕ) → value_of values name ≡ value_of others name) → (segments : List SegmentLine)
+segments_same : (values others : List FieldValue) → ((name : List ℕ) → field_value_of values name ≡ field_value_of others name) → (segments : List SegmentLine)
     → segments_of values segments ≡ segments_of others segments
 segments_same values others same [] = refl
 segments_same values others same (segment ∷ segments) =
     ap (λ (text : List ℕ). text ∷ segments_of values segments) (texts_same values others same segment.fields)
-    ∙ ap (λ (rest : List (List ℕ)). texts_of others segment.fields ∷ rest) (segments_same values others same segments)
+    ∙ ap (λ (rest : List (List ℕ)). field_texts_of others segment.fields ∷ rest) (segments_same values others same segments)
 
 entered_all : (format : FormatLines) (values : List FieldValue) → entered format (put_all [] values) ≡ entered format values
 unfolding entered

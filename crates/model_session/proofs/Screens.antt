@@ -1,19 +1,19 @@
 -- Of a screen's field lines the last values for the first 1,921 names are kept, and the lowest rule that one breaks: this is enough.
 use Rattle.std.proofs.Common.{◌≡◌, ◌∙◌, refl, sym, ap, ℕ, ◌≤◌, Bool, true, List, [], ◌∷◌, length, take, arith}
 use Rattle.std.specs.Prelude.{Option, Some, None, Result, Ok, Err, IfSome, min, if◌then◌else◌}
-use Rattle.text_rows.specs.Lowest.{also}
-use Rattle.model_machine.specs.Commands.{command_of}
+use Rattle.text_rows.specs.LowestRule.{also}
+use Rattle.model_machine.specs.CommandText.{command_of}
 use Rattle.model_system.specs.declared.fields.FieldValue.{FieldValue}
-use Rattle.model_system.specs.Entering.{entered}
-use Rattle.model_system.specs.Formats.{FormatLines}
-use Rattle.model_system.specs.ModelSystemFormats.{format_of}
+use Rattle.model_system.specs.ScreenInput.{entered}
+use Rattle.model_system.specs.FormatLines.{FormatLines}
+use Rattle.model_system.specs.SystemFormats.{format_of}
 use Rattle.model_system.specs.System.{System}
 use Rattle.model_session.specs.declared.asked.Asked.{Asked}
 use Rattle.model_session.specs.declared.asked.Form.{Form}
 use Rattle.model_session.specs.declared.asked.Form.TheVariants.{Screen as ScreenForm}
-use Rattle.model_session.specs.Blocks.{Block, alone, and_field, and_line, and_text, and_value, field_of, first_values, is_screen, judged, no_others}
+use Rattle.model_session.specs.Blocks.{Block, block_alone, and_field, and_line, and_text, and_value, field_of, first_values, is_screen, judged_field, no_others}
 use Rattle.model_session.specs.Lines.{asked_by, asked_of, block_form, command_asked, entered_asked, further_forms, is_command, printable_block, screen_asked}
-use Rattle.model_session.specs.Bounded.{HasScreens, fields_in, value_before, values_in, whole_screen, with_lines}
+use Rattle.model_session.specs.BoundedBlocks.{HasScreens, fields_in, value_before, values_in, whole_screen, with_lines}
 use Rattle.model_session.proofs.Putting.{entered_kept, keep_all}
 
 abbrev screen_block : List ℕ → List FieldValue → Result (Unit {0}) ℕ → Block
@@ -53,16 +53,16 @@ also_begin (Err p) = refl
 
 abbrev folded : Result (Unit {0}) ℕ → List (List ℕ) → Result (Unit {0}) ℕ
 folded fields [] = fields
-folded fields (line ∷ lines) = folded (also fields (judged (field_of line))) lines
+folded fields (line ∷ lines) = folded (also fields (judged_field (field_of line))) lines
 
 folded_is : (fields : Result (Unit {0}) ℕ) (lines : List (List ℕ)) → folded fields lines ≡ also fields (fields_in lines)
 folded_is fields [] = sym (also_end fields)
-folded_is fields (line ∷ lines) = folded_is (also fields (judged (field_of line))) lines ∙ also_more fields (judged (field_of line)) (fields_in lines)
+folded_is fields (line ∷ lines) = folded_is (also fields (judged_field (field_of line))) lines ∙ also_more fields (judged_field (field_of line)) (fields_in lines)
 
 -- ---- the block that the lines make
 
 and_screen : (line : List ℕ) (values : List FieldValue) (fields : Result (Unit {0}) ℕ) (next : List ℕ) → is_screen line ≡ true
-    → and_line (screen_block line values fields) next ≡ screen_block line (and_value values (field_of next)) (also fields (judged (field_of next)))
+    → and_line (screen_block line values fields) next ≡ screen_block line (and_value values (field_of next)) (also fields (judged_field (field_of next)))
 and_screen line values fields next screen =
     ap (λ (b : Bool). if b then and_field (screen_block line values fields) next else and_text (screen_block line values fields) next) screen
 
@@ -75,13 +75,13 @@ screen_lines : (line : List ℕ) (values : List FieldValue) (fields : Result (Un
     → with_lines (screen_block line values fields) lines ≡ screen_block line (keep_all first_values values (values_in lines)) (folded fields lines)
 screen_lines line values fields [] screen = refl
 screen_lines line values fields (next ∷ lines) screen =
-    let more = also fields (judged (field_of next)) in
+    let more = also fields (judged_field (field_of next)) in
     ap (λ (b : Block). with_lines b lines) (and_screen line values fields next screen)
     ∙ screen_lines line (and_value values (field_of next)) more lines screen
     ∙ ap (λ (l : List FieldValue). screen_block line l (folded more lines)) (value_step values (field_of next) (values_in lines))
 
 block_is : (line : List ℕ) (lines : List (List ℕ)) → is_screen line ≡ true
-    → with_lines (alone line) lines ≡ screen_block line (keep_all first_values [] (values_in lines)) (fields_in lines)
+    → with_lines (block_alone line) lines ≡ screen_block line (keep_all first_values [] (values_in lines)) (fields_in lines)
 block_is line lines screen =
     screen_lines line [] kept lines screen
     ∙ ap (λ (r : Result (Unit {0}) ℕ). screen_block line (keep_all first_values [] (values_in lines)) r) (folded_is kept lines ∙ also_begin (fields_in lines))
@@ -122,7 +122,7 @@ asked_same system line values others fields same =
 
 -- whatever field lines stand behind SCREEN
 pub screen_enough : (system : System) (line : List ℕ) (lines : List (List ℕ)) → HasScreens system → is_screen line ≡ true
-    → asked_of system (with_lines (alone line) lines) ≡ asked_of system (whole_screen line lines)
+    → asked_of system (with_lines (block_alone line) lines) ≡ asked_of system (whole_screen line lines)
 screen_enough system line lines screens screen =
     ap (λ (b : Block). asked_of system b) (block_is line lines screen)
     ∙ asked_same system line (keep_all first_values [] (values_in lines)) (values_in lines) (fields_in lines)

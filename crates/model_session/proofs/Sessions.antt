@@ -1,7 +1,7 @@
 -- Sessions, one behind another.
 use Rattle.std.proofs.Common.{List, [], ◌∷◌, ◌++◌, sym, ◌∙◌, ap, subst, append_assoc, ℕ}
 use Rattle.model_session.specs.Blocks.{Block}
-use Rattle.model_session.specs.Standing.{Setting, SessionState}
+use Rattle.model_session.specs.SessionState.{Setting, SessionState}
 use Rattle.model_session.specs.Session.{AreServed}
 
 -- blocks, and others from where they lead

@@ -8,23 +8,23 @@ use Rattle.model_session.specs.declared.asked.Asked.TheVariants.{Bad, BadCommand
 use Rattle.model_session.specs.Blocks.{Block}
 use Rattle.model_session.specs.Lines.{asked_of}
 use Rattle.model_session.specs.Lives.{LastLife}
-use Rattle.model_session.specs.Standing.{Setting, SessionState, Outage, Standing, Stop, no_life, unbegun, gone_on, called_on, ended, broken, failed, is_stopped, last_life}
-use Rattle.model_session.specs.Standing.Standing.{Up, Down}
-use Rattle.model_session.specs.Session.{ServedBy, IsServedUp, IsServedDown, IsRestarted, AreServed, Begins, IsBegun, IsBegunBy}
+use Rattle.model_session.specs.SessionState.{Setting, SessionState, Outage, Standing, Stop, no_life, unbegun, life_gone_on, called_on, life_ended, broken, failed, is_session_stopped, last_life}
+use Rattle.model_session.specs.SessionState.Standing.{Up, Down}
+use Rattle.model_session.specs.Session.{ServedBy, IsServedUp, IsServedDown, IsRestarted, AreServed, BeginsSession, IsSessionBegun, IsBegunBy}
 
 -- Where a session is down by a stop, or no life has begun, a stop is told.
 pub record HasStops (state : SessionState) : Type 0 where
-  pub stopped : is_stopped state.standing ≡ true → state.stops ≢ []
+  pub stopped : is_session_stopped state.standing ≡ true → state.stops ≢ []
   pub unbegun : last_life state.standing ≡ None → state.stops ≢ []
 
 one_more : (stops : List Stop) (stop : Stop) → stops ++ stop ∷ [] ≢ []
 one_more [] stop e = cc
 one_more (first ∷ stops) stop e = cc
 
-going : (state : SessionState) (life : LastLife) (entries : List Entry) → HasStops (gone_on state life entries)
+going : (state : SessionState) (life : LastLife) (entries : List Entry) → HasStops (life_gone_on state life entries)
 going state life entries = record { stopped = λ is. cc; unbegun = λ is. cc }
 
-ending : (state : SessionState) (life : LastLife) (entries : List Entry) → HasStops (ended state life entries)
+ending : (state : SessionState) (life : LastLife) (entries : List Entry) → HasStops (life_ended state life entries)
 ending state life entries = record { stopped = λ is. cc; unbegun = λ is. cc }
 
 calling : (ends : Bool) (state : SessionState) (life : LastLife) (entries : List Entry) → HasStops (called_on ends state life entries)
@@ -79,12 +79,12 @@ module _ (setting : Setting) where
   stops_on (block ∷ blocks) old new text one h =
       stops_on blocks one.mid new one.later one.on (by_standing old.standing (asked_of setting.system block) old one.mid one.first one.here h)
 
-  first_stops : (first : SessionState) → Begins setting first → HasStops first
+  first_stops : (first : SessionState) → BeginsSession setting first → HasStops first
   first_stops first (inl opens) = has first _ opens.goes (record { stopped = λ is. cc; unbegun = λ is. cc })
   first_stops first (inr fails) = has first _ fails.ends (failing unbegun no_life false fails.stop)
 
   -- So it is of each session.
-  pub stops_told : (blocks : List Block) (first mid : SessionState) (text : List ℕ) → Begins setting first → AreServed setting blocks first mid text → HasStops mid
+  pub stops_told : (blocks : List Block) (first mid : SessionState) (text : List ℕ) → BeginsSession setting first → AreServed setting blocks first mid text → HasStops mid
   stops_told blocks first mid text begins served = stops_on blocks first mid text served (first_stops first begins)
 
 -- and where turns stand of a block that was not served
@@ -101,6 +101,6 @@ begun_on (PowerIn writes pick) system old standing new same h = has new old same
 begun_on Restart system old standing new same h = has new old same h
 begun_on ColdStart system old standing new same h = has new old same h
 
-pub stops_begun : (system : System) (others : List Block) (old new : SessionState) → IsBegun system others old new → HasStops old → HasStops new
+pub stops_begun : (system : System) (others : List Block) (old new : SessionState) → IsSessionBegun system others old new → HasStops old → HasStops new
 stops_begun system [] old new same h = has new old same h
 stops_begun system (block ∷ others) old new one h = begun_on (asked_of system block) system old old.standing new one h

@@ -9,7 +9,7 @@ use Rattle.model_system.specs.declared.code_state.CodeState.{CodeState}
 use Rattle.model_system.specs.Codes.{code_at}
 use Rattle.model_system.specs.System.{System}
 use Rattle.model_messages.specs.declared.conversation.Conversation.{Conversation}
-use Rattle.model_messages.specs.Input.{busy_id}
+use Rattle.model_messages.specs.ConversationInput.{busy_id}
 use Rattle.model_messages.specs.Terminals.{conversation_at}
 use Rattle.model_messages.specs.declared.replies.TerminalReplies.{TerminalReplies}
 use Rattle.model_messages.specs.Outputs.{first_number}
@@ -27,10 +27,10 @@ use Rattle.model_machine.specs.declared.entry.Taken.TheVariants.{New, Already}
 use Rattle.model_machine.specs.declared.lasting.TerminalState.{TerminalState}
 use Rattle.model_data.specs.declared.victim.Victim.{Victim}
 use Rattle.model_machine.specs.Machine.{Moment, terminal_at, output_at, content, busy_slots, waiting_now}
-use Rattle.model_machine.specs.Lasting.{KeptInput, kept_input}
-use Rattle.model_machine.specs.ModelMachineCommands.{CommandAnswer, shown_code, shown_terminal, first_dequeued, all_dequeued, exited, command_answer, unless_busy, first_busy, checkpoint_answer, state_now}
-use Rattle.model_machine.specs.Steps.{Refusal, refusals, first_of, by_number, busy_by, most_segments, by_count, input_answer, ack_by}
-use Rattle.model_machine.specs.History.{May, call_of, entry_now, is_fault, number_in, victims_in}
+use Rattle.model_machine.specs.LastingSteps.{KeptInput, kept_input}
+use Rattle.model_machine.specs.CommandAnswers.{CommandAnswer, shown_code, shown_terminal, first_dequeued, all_dequeued, exited, command_answer, unless_busy, first_busy, checkpoint_answer, state_now}
+use Rattle.model_machine.specs.MachineCalls.{Refusal, refusals, first_refusal, by_number, busy_by, most_segments, by_count, input_answer, ack_by}
+use Rattle.model_machine.specs.History.{May, call_of, entry_now, is_fault, checkpoint_number_in, victims_in}
 
 -- ---- inputs
 
@@ -74,7 +74,7 @@ module _ (terminal : List ℕ) (number : ℕ) (segments : List (List ℕ)) where
   input_fine system moment =
       let kept : KeptInput = kept_input system moment.lasting terminal segments in
       let need : ℕ = input_needs (content moment.lasting) (counted_bytes kept.segments) (busy_slots moment.slots) in
-      at_end (first_of (refusals system moment terminal number kept)) moment.lasting.next_id
+      at_end (first_refusal (refusals system moment terminal number kept)) moment.lasting.next_id
       (next _ _ (choose (is_some (terminal_at moment.lasting.terminals terminal)) None (Some (Err NoTerminal)) tt refl)
       (next _ _ (choose (option_map_or (λ t. t.stopped) (terminal_at moment.lasting.terminals terminal) false) (Some (Err StoppedTerminal)) None refl tt)
       (next _ _ (terminal_fine (terminal_at moment.lasting.terminals terminal))
@@ -173,4 +173,4 @@ entry_fine system moment victims number (CommandCall command) = command_fine sys
 entry_fine system moment victims number (Checkpoint freeze) = checkpoint_fine moment freeze number
 
 pub unfaulted : (system : System) (moment : Moment) (entry : Entry) → May system moment entry → is_fault entry ≡ false
-unfaulted system moment entry may = ap is_fault may.answer ∙ entry_fine system moment (victims_in entry) (number_in entry) (call_of entry)
+unfaulted system moment entry may = ap is_fault may.answer ∙ entry_fine system moment (victims_in entry) (checkpoint_number_in entry) (call_of entry)

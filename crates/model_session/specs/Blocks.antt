@@ -6,7 +6,7 @@ use Rattle.std.specs.Str.{bytes_eq}
 use Rattle.tm_types.specs.Segment.{are_printable}
 use Rattle.tm_types.specs.Words.{first_word, operands}
 use Rattle.text_rows.specs.Lines.{is_passed_over, split_at}
-use Rattle.text_rows.specs.Lowest.{also}
+use Rattle.text_rows.specs.LowestRule.{also}
 use Rattle.model_system.specs.declared.fields.FieldValue.{FieldValue}
 use Rattle.model_session.specs.Numbers.{name_operand}
 use Rattle.model_session.specs.declared.others.Others.{Others}
@@ -38,24 +38,24 @@ long_of text = if nat_lt 1996 (length text) then Some (length text) else None
 -- ---- the field lines of a screen
 
 -- + NAME=text: the name stands before the first =, and the text is all that follows this, and may be empty
-abbrev pub with_text : List ℕ → Result (List ℕ) ℕ → Result FieldValue ℕ
-with_text text (Ok name) = Ok (record { name = name; text = text })
-with_text text (Err rule) = Err rule
+abbrev pub with_field_text : List ℕ → Result (List ℕ) ℕ → Result FieldValue ℕ
+with_field_text text (Ok name) = Ok (record { name = name; text = text })
+with_field_text text (Err rule) = Err rule
 
 abbrev pub field_parts : Option (List ℕ × List ℕ) → Result FieldValue ℕ
-field_parts (Some (name, text)) = with_text text (name_operand name)
+field_parts (Some (name, text)) = with_field_text text (name_operand name)
 field_parts None = Err 8
 
-abbrev pub printable_line : List ℕ → Result (Unit {0}) ℕ
-printable_line line = if are_printable line then Ok tt else Err 6
+abbrev pub printable_block_line : List ℕ → Result (Unit {0}) ℕ
+printable_block_line line = if are_printable line then Ok tt else Err 6
 
 -- the value that a field line gives, or the lowest rule that it breaks
 unfoldable pub field_of : List ℕ → Result FieldValue ℕ
-field_of line = also (if has_operand line then field_parts (split_at 61 (operands line)) else Err 2) (printable_line line)
+field_of line = also (if has_operand line then field_parts (split_at 61 (operands line)) else Err 2) (printable_block_line line)
 
-abbrev pub judged : Result FieldValue ℕ → Result (Unit {0}) ℕ
-judged (Ok value) = Ok tt
-judged (Err rule) = Err rule
+abbrev pub judged_field : Result FieldValue ℕ → Result (Unit {0}) ℕ
+judged_field (Ok value) = Ok tt
+judged_field (Err rule) = Err rule
 
 -- a value in the place of the one for the same name, or at the end
 abbrev pub put_value : FieldValue → List FieldValue → List FieldValue
@@ -95,8 +95,8 @@ and_other others line =
       fields = others.fields;
     }
 
-abbrev pub alone : List ℕ → Block
-alone line = record { line = line; further = []; values = []; others = no_others }
+abbrev pub block_alone : List ℕ → Block
+block_alone line = record { line = line; further = []; values = []; others = no_others }
 
 -- whether one more text of an input is kept
 abbrev pub keeps_further : Block → Bool
@@ -113,7 +113,7 @@ abbrev pub and_field : Block → List ℕ → Block
 and_field block line =
     record block {
       values = and_value block.values (field_of line);
-      others = record block.others { fields = also block.others.fields (judged (field_of line)) };
+      others = record block.others { fields = also block.others.fields (judged_field (field_of line)) };
     }
 
 -- one more `+` line: behind SCREEN stand field lines, and behind another line texts
@@ -128,7 +128,7 @@ open_before block (next ∷ blocks) =
 
 -- a line before blocks; only some lines take `+` lines
 abbrev pub line_before : List ℕ → List Block → List Block
-line_before line blocks = if takes_further line then open_before (alone line) blocks else alone line ∷ blocks
+line_before line blocks = if takes_further line then open_before (block_alone line) blocks else block_alone line ∷ blocks
 
 -- The blocks of some lines. Lines that are empty or begin with * are passed over.
 abbrev pub blocks_of : List (List ℕ) → List Block
@@ -141,7 +141,7 @@ blocks_behind (Some block) blocks = open_before block blocks
 blocks_behind None blocks = blocks
 
 -- The closed blocks of some blocks: all but a last one that may still take `+` lines.
-abbrev pub closed : List Block → List Block
-closed [] = []
-closed (block ∷ []) = if takes_further block.line then [] else block ∷ []
-closed (block ∷ next ∷ blocks) = block ∷ closed (next ∷ blocks)
+abbrev pub closed_blocks : List Block → List Block
+closed_blocks [] = []
+closed_blocks (block ∷ []) = if takes_further block.line then [] else block ∷ []
+closed_blocks (block ∷ next ∷ blocks) = block ∷ closed_blocks (next ∷ blocks)

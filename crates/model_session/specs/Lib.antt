@@ -1,9 +1,9 @@
 pub mod Numbers
 pub mod Blocks
-pub mod Bounded
+pub mod BoundedBlocks
 pub mod Lines
 pub mod Text
-pub mod Turns
+pub mod QuietTurns
 pub mod Lives
-pub mod Standing
+pub mod SessionState
 pub mod Session

@@ -5,15 +5,15 @@ use Rattle.std.specs.Prelude.{ℕ, ◌<◌, ◌≤◌, ⊤, ◌==◌, nat_lt, na
 use Rattle.std.specs.List.{list_all, list_any}
 use Rattle.std.specs.Option.{option_or}
 use Rattle.std.specs.Str.{bytes_eq}
-use Rattle.text_rows.specs.Lowest.{both, also}
+use Rattle.text_rows.specs.LowestRule.{both, also}
 use Rattle.tm_types.specs.Segment.{are_printable}
 use Rattle.tm_types.specs.Words.{first_word, operands}
-use Rattle.model_machine.specs.ModelMachineCommands.{IsServed}
+use Rattle.model_machine.specs.CommandAnswers.{IsCommandServed}
 use Rattle.model_machine.specs.declared.entry.ControlCall.TheVariants.{Input, Receive, Acknowledge, Turn, Command, Checkpoint}
 use Rattle.model_system.specs.declared.fields.FieldValue.{FieldValue}
-use Rattle.model_system.specs.Entering.{entered}
-use Rattle.model_system.specs.Formats.{FormatLines}
-use Rattle.model_system.specs.ModelSystemFormats.{format_of}
+use Rattle.model_system.specs.ScreenInput.{entered}
+use Rattle.model_system.specs.FormatLines.{FormatLines}
+use Rattle.model_system.specs.SystemFormats.{format_of}
 use Rattle.model_system.specs.System.{System}
 use Rattle.model_session.specs.declared.asked.Form.{Form}
 use Rattle.model_session.specs.declared.asked.Form.TheVariants.{Input as InputForm, Screen as ScreenForm, Receive as ReceiveForm, Acknowledge as AcknowledgeForm, Turn as TurnForm, Quiet as QuietForm, Power as PowerForm, PowerIn as PowerInForm}
@@ -24,7 +24,7 @@ use Rattle.model_session.specs.declared.asked.InputStopped.TheVariants.{Terminal
 use Rattle.model_session.specs.Numbers.{number_operand, name_operand}
 use Rattle.model_machine.specs.declared.command.Command.{Command as OperatorCommand}
 use Rattle.model_machine.specs.declared.command.Command.TheVariants.{Checkpoint as TakeCheckpoint, Freeze, EmergencyRestart, NormalRestart, ColdStart as ColdRestart}
-use Rattle.model_machine.specs.Commands.{command_of}
+use Rattle.model_machine.specs.CommandText.{command_of}
 pub use Rattle.model_session.specs.Blocks.{operand_count, has_operand}
 use Rattle.model_session.specs.Blocks.{Block, is_further, is_screen}
 
@@ -34,23 +34,23 @@ use Rattle.model_session.specs.Blocks.{Block, is_further, is_screen}
 abbrev pub message_number : List ℕ → Result ℕ ℕ
 message_number text = number_operand 1 999999999999 text
 
-abbrev pub numbered : (List ℕ → ℕ → Form) → Result (List ℕ × ℕ) ℕ → Result Form ℕ
-numbered form (Ok (terminal, number)) = Ok (form terminal number)
-numbered form (Err rule) = Err rule
+abbrev pub numbered_form : (List ℕ → ℕ → Form) → Result (List ℕ × ℕ) ℕ → Result Form ℕ
+numbered_form form (Ok (terminal, number)) = Ok (form terminal number)
+numbered_form form (Err rule) = Err rule
 
-abbrev pub named : Result (List ℕ) ℕ → Result Form ℕ
-named (Ok terminal) = Ok (ReceiveForm terminal)
-named (Err rule) = Err rule
+abbrev pub named_form : Result (List ℕ) ℕ → Result Form ℕ
+named_form (Ok terminal) = Ok (ReceiveForm terminal)
+named_form (Err rule) = Err rule
 
-abbrev pub counted : (ℕ → Form) → Result ℕ ℕ → Result Form ℕ
-counted form (Ok number) = Ok (form number)
-counted form (Err rule) = Err rule
+abbrev pub counted_form : (ℕ → Form) → Result ℕ ℕ → Result Form ℕ
+counted_form form (Ok number) = Ok (form number)
+counted_form form (Err rule) = Err rule
 
 -- IN t n text: the text is all that follows the blank behind n, and may be empty
 unfoldable pub input_form : List ℕ → Result Form ℕ
 input_form line =
     if nat_le 3 (operand_count line)
-    then numbered (λ t n. InputForm t n) (both (name_operand (first_word (operands line))) (message_number (first_word (operands (operands line)))))
+    then numbered_form (λ t n. InputForm t n) (both (name_operand (first_word (operands line))) (message_number (first_word (operands (operands line)))))
     else Err 2
 
 -- a terminal and a number, and no other operand
@@ -60,25 +60,25 @@ terminal_and_number line =
 
 -- SCREEN t n
 unfoldable pub screen_form : List ℕ → Result Form ℕ
-screen_form line = numbered (λ t n. ScreenForm t n) (terminal_and_number line)
+screen_form line = numbered_form (λ t n. ScreenForm t n) (terminal_and_number line)
 
 -- RECV t
 unfoldable pub receive_form : List ℕ → Result Form ℕ
-receive_form line = if operand_count line == 1 then named (name_operand (operands line)) else Err 2
+receive_form line = if operand_count line == 1 then named_form (name_operand (operands line)) else Err 2
 
 -- ACK t n
 unfoldable pub acknowledge_form : List ℕ → Result Form ℕ
-acknowledge_form line = numbered (λ t n. AcknowledgeForm t n) (terminal_and_number line)
+acknowledge_form line = numbered_form (λ t n. AcknowledgeForm t n) (terminal_and_number line)
 
 -- TURN r, of so many regions
 unfoldable pub turn_form : ℕ → List ℕ → Result Form ℕ
 turn_form regions line =
-    if operand_count line == 1 then counted (λ r. TurnForm r) (number_operand 1 regions (operands line)) else Err 2
+    if operand_count line == 1 then counted_form (λ r. TurnForm r) (number_operand 1 regions (operands line)) else Err 2
 
 -- QUIET n
 unfoldable pub quiet_form : List ℕ → Result Form ℕ
 quiet_form line =
-    if operand_count line == 1 then counted (λ n. QuietForm n) (number_operand 1 1000000 (operands line)) else Err 2
+    if operand_count line == 1 then counted_form (λ n. QuietForm n) (number_operand 1 1000000 (operands line)) else Err 2
 
 -- POWER p
 abbrev pub pick_number : List ℕ → Result ℕ ℕ
@@ -98,15 +98,15 @@ power_in_form line =
 unfoldable pub power_form : List ℕ → Result Form ℕ
 power_form line =
     if bytes_eq (first_word (operands line)) (codes "IN") then power_in_form line
-    else if operand_count line == 1 then counted (λ p. PowerForm p) (pick_number (operands line)) else Err 2
+    else if operand_count line == 1 then counted_form (λ p. PowerForm p) (pick_number (operands line)) else Err 2
 
 -- a `+` line that belongs to no line
 unfoldable pub lone_form : List ℕ → Result Form ℕ
 lone_form line = if operand_count line == 0 then Err 2 else Err 5
 
 -- by its first word
-unfoldable pub form_of : ℕ → List ℕ → Result Form ℕ
-form_of regions line =
+unfoldable pub line_form : ℕ → List ℕ → Result Form ℕ
+line_form regions line =
     if bytes_eq (first_word line) (codes "IN") then input_form line
     else if is_screen line then screen_form line
     else if bytes_eq (first_word line) (codes "TURN") then turn_form regions line
@@ -132,7 +132,7 @@ printable_block block = if are_printable block.line && list_all are_printable bl
 
 -- the form of the first line, where no line of the block breaks a rule; else the lowest rule that one of them breaks
 unfoldable pub block_form : ℕ → Block → Result Form ℕ
-block_form regions block = also (form_of regions block.line) (also (further_forms block) (printable_block block))
+block_form regions block = also (line_form regions block.line) (also (further_forms block) (printable_block block))
 
 -- the texts of an input's segments that are kept: the first is the third operand of its line
 abbrev pub input_text : List ℕ → List ℕ
@@ -158,11 +158,11 @@ input_long block = option_or (first_long (kept_texts block)) block.others.long
 -- An input is refused for a segment that is too long, the first; before that one from a screen is refused
 -- where the terminal has no format, or for a name that is no field, the first. Where there is such a
 -- reason, a name that is no terminal's is refused as such before.
-abbrev pub is_terminal : System → List ℕ → Bool
-is_terminal system name = list_any (λ terminal. bytes_eq terminal name) system.terminals
+abbrev pub is_terminal_word : System → List ℕ → Bool
+is_terminal_word system name = list_any (λ terminal. bytes_eq terminal name) system.terminals
 
 abbrev pub stopped : System → List ℕ → ℕ → InputStopped → Asked
-stopped system terminal number reason = Stopped terminal number (if is_terminal system terminal then reason else Terminal)
+stopped system terminal number reason = Stopped terminal number (if is_terminal_word system terminal then reason else Terminal)
 
 abbrev pub unless_long : System → List ℕ → ℕ → List (List ℕ) → Option ℕ → Asked
 unless_long system terminal number texts (Some long) = stopped system terminal number (TooLong long)
@@ -214,7 +214,7 @@ CanAsk regions (Call (Input terminal number segments)) = 0 < length segments
 CanAsk regions (Call (Turn region)) = (1 ≤ region) × (region ≤ regions)
 CanAsk regions (Call (Receive terminal)) = ⊤
 CanAsk regions (Call (Acknowledge terminal number)) = ⊤
-CanAsk regions (Call (Command command)) = IsServed command
+CanAsk regions (Call (Command command)) = IsCommandServed command
 CanAsk regions (Call (Checkpoint freeze)) = ⊤
 CanAsk regions (Quiet most) = ⊤
 CanAsk regions (Stopped terminal number reason) = ⊤

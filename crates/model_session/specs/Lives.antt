@@ -24,11 +24,11 @@ pub record LastLife : Type 0 where
   pub history : List Entry
 
 -- the moment that these entries of a life lead to, and the one that it has come to
-abbrev pub moment_of : System → LastLife → List Entry → Moment
-moment_of system life entries = moment_after system (start_of system life.opening) entries
+abbrev pub life_moment : System → LastLife → List Entry → Moment
+life_moment system life entries = moment_after system (start_of system life.opening) entries
 
 abbrev pub now_in : System → LastLife → Moment
-now_in system life = moment_of system life life.history
+now_in system life = life_moment system life life.history
 
 abbrev pub longer : LastLife → List Entry → LastLife
 longer life entries = record life { history = life.history ++ entries }
@@ -49,24 +49,24 @@ is_disk_fault _ = false
 
 -- A life that opened with this state is legal: each entry is the machine's answer at its place, but that the disk may have
 -- failed in the last call, and no other fault stands there; and the numbers of checkpoints ascend.
-pub record IsLife (system : System) (opening : LastingState) (history : List Entry) : Type 0 where
+pub record IsLegalLife (system : System) (opening : LastingState) (history : List Entry) : Type 0 where
   pub legal : IsLegal system (start_of system opening) history
   pub by_disk : (entry : Entry) → legal.last ≡ Some entry → is_disk_fault entry ≡ true
   pub numbers : AscendAbove 0 history
 
 -- A life is legal, and so many of its lasting steps were answered.
 pub record HasAnswered (system : System) (life : LastLife) (count : ℕ) : Type 0 where
-  pub life_is : IsLife system life.opening life.history
-  pub counted : life.opening.steps + count ≡ (moment_of system life life_is.legal.steps).lasting.steps
+  pub life_is : IsLegalLife system life.opening life.history
+  pub counted : life.opening.steps + count ≡ (life_moment system life life_is.legal.steps).lasting.steps
 
 -- What a life leaves: the state after a front of its entries that has every one that was answered. A step in
 -- whose call the disk failed is left or not. So many of its lasting steps are kept then.
-pub record Leaves (system : System) (life : LastLife) (kept : ℕ) (state : LastingState) : Type 0 where
+pub record LifeLeaves (system : System) (life : LastLife) (kept : ℕ) (state : LastingState) : Type 0 where
   pub front : List Entry
   pub rest : List Entry
   pub split : life.history ≡ front ++ rest
   pub unanswered : list_all is_fault rest ≡ true
-  pub left : state ≡ (moment_of system life front).lasting
+  pub left : state ≡ (life_moment system life front).lasting
   pub counted : kept ≡ state.steps - life.opening.steps
 
 -- the life with what is kept of it, behind those before it
@@ -80,4 +80,4 @@ with_life lives (Some life) kept = lives ++ kept_life life kept ∷ []
 -- each of these lives is legal
 abbrev pub AreLegal : System → List LifeState → Type 0
 AreLegal system [] = Unit {0}
-AreLegal system (life ∷ lives) = IsLife system life.opening life.history × AreLegal system lives
+AreLegal system (life ∷ lives) = IsLegalLife system life.opening life.history × AreLegal system lives

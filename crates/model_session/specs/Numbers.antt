@@ -7,13 +7,13 @@ use Rattle.std.specs.Str.Parse.{digits_value}
 use Rattle.text_rows.specs.Names.{is_name}
 
 -- a number is written with 1 to 20 decimal digits, zeros at its front being allowed
-abbrev pub is_number : List ℕ → Bool
-is_number text = nat_le 1 (length text) && nat_le (length text) 20 && list_all is_ascii_digit text
+abbrev pub is_padded_number : List ℕ → Bool
+is_padded_number text = nat_le 1 (length text) && nat_le (length text) 20 && list_all is_ascii_digit text
 
 -- the number that a text writes, where it writes one from low to high
 abbrev pub number_in : ℕ → ℕ → List ℕ → Option ℕ
 number_in low high text =
-    if is_number text && nat_le low (digits_value 10 text) && nat_le (digits_value 10 text) high
+    if is_padded_number text && nat_le low (digits_value 10 text) && nat_le (digits_value 10 text) high
     then Some (digits_value 10 text) else None
 
 -- the number of an operand, and the name; rule 3 where it is no number, and rule 4 where it is no name

@@ -14,15 +14,15 @@ use Rattle.model_session.specs.declared.asked.ImageRefused.TheVariants.{Rule, Te
 use Rattle.model_session.specs.Blocks.{Block}
 use Rattle.model_session.specs.Lines.{asked_of}
 use Rattle.model_session.specs.Text.{entry_text, bad_line_text, bad_command_text, stopped_text, broken_text, power_text, armed_text, up_text, down_text, opened_text, image_text}
-use Rattle.model_session.specs.Turns.{IsQuieted, IsBrokenOff, quieted_text, region_after}
+use Rattle.model_session.specs.QuietTurns.{IsQuieted, IsBrokenOff, quieted_text, region_behind_turns}
 use Rattle.model_session.specs.Lives.{LastLife, now_in, ends_life, is_disk_fault}
-use Rattle.model_session.specs.Standing.{Setting, SessionState, Outage, Standing, Stop, no_life, unbegun, gone_on, called_on, ended, broken, opened, failed, IsEmptied, MayBeFound, LastAnswered}
-use Rattle.model_session.specs.Standing.Standing.{Up, Down}
+use Rattle.model_session.specs.SessionState.{Setting, SessionState, Outage, Standing, Stop, no_life, unbegun, life_gone_on, called_on, life_ended, broken, life_opened, failed, IsStateEmptied, MayBeFound, LastAnswered}
+use Rattle.model_session.specs.SessionState.Standing.{Up, Down}
 
 -- ---- while the system is up
 
 -- The disk failed in a call, whose entry is the life's last.
-pub record BreaksAt (system : System) (call : ControlCall) (entry : Entry) : Type 0 where
+pub record BreaksAtEntry (system : System) (call : ControlCall) (entry : Entry) : Type 0 where
   pub asked : call_of entry ≡ call
   pub can : IsCall system call
   pub fault : is_disk_fault entry ≡ true
@@ -37,19 +37,19 @@ pub record IsCalled (system : System) (call : ControlCall) (old : SessionState) 
   pub printed : text ≡ entry_text system (now_in system life) entry
 
 -- The disk failed in the call.
-pub record IsCutOff (system : System) (call : ControlCall) (old : SessionState) (life : LastLife) (new : SessionState) (text : List ℕ) : Type 0 where
+pub record IsCallCutOff (system : System) (call : ControlCall) (old : SessionState) (life : LastLife) (new : SessionState) (text : List ℕ) : Type 0 where
   pub entry : Entry
   pub stop : Stop
-  pub breaks : BreaksAt system call entry
+  pub breaks : BreaksAtEntry system call entry
   pub ends : new ≡ broken old life (entry ∷ []) stop
   pub printed : text ≡ broken_text
 
 -- QUIET stands for turns, and has one text for all of them.
-pub record IsTurned (system : System) (most : ℕ) (old : SessionState) (life : LastLife) (new : SessionState) (text : List ℕ) : Type 0 where
+pub record IsQuietTurned (system : System) (most : ℕ) (old : SessionState) (life : LastLife) (new : SessionState) (text : List ℕ) : Type 0 where
   pub turns : List Entry
   pub steps : AreSteps system (now_in system life) turns
   pub quieted : IsQuieted most system (now_in system life) turns
-  pub goes : new ≡ gone_on old life turns
+  pub goes : new ≡ life_gone_on old life turns
   pub printed : text ≡ quieted_text system (now_in system life) turns
 
 -- The disk failed in one of its turns.
@@ -59,7 +59,7 @@ pub record IsTurnedOff (system : System) (most : ℕ) (old : SessionState) (life
   pub stop : Stop
   pub steps : AreSteps system (now_in system life) turns
   pub begun : IsBrokenOff most system (now_in system life) turns
-  pub breaks : BreaksAt system (Turn (region_after system (length turns))) entry
+  pub breaks : BreaksAtEntry system (Turn (region_behind_turns system (length turns))) entry
   pub ends : new ≡ broken old life (turns ++ entry ∷ []) stop
   pub printed : text ≡ broken_text
 
@@ -69,9 +69,9 @@ abbrev pub IsServedUp : Asked → Setting → SessionState → LastLife → Sess
 IsServedUp (Bad rule) setting old life new text = (new ≡ old) × (text ≡ bad_line_text rule)
 IsServedUp (BadCommand rule) setting old life new text = (new ≡ old) × (text ≡ bad_command_text rule)
 IsServedUp (Stopped terminal number reason) setting old life new text = (new ≡ old) × (text ≡ stopped_text terminal number reason)
-IsServedUp (Call call) setting old life new text = IsCalled setting.system call old life new text ⊎ IsCutOff setting.system call old life new text
-IsServedUp (Quiet most) setting old life new text = IsTurned setting.system most old life new text ⊎ IsTurnedOff setting.system most old life new text
-IsServedUp (Power pick) setting old life new text = (new ≡ ended old life []) × (text ≡ power_text)
+IsServedUp (Call call) setting old life new text = IsCalled setting.system call old life new text ⊎ IsCallCutOff setting.system call old life new text
+IsServedUp (Quiet most) setting old life new text = IsQuietTurned setting.system most old life new text ⊎ IsTurnedOff setting.system most old life new text
+IsServedUp (Power pick) setting old life new text = (new ≡ life_ended old life []) × (text ≡ power_text)
 IsServedUp (PowerIn writes pick) setting old life new text = (new ≡ old) × (text ≡ armed_text setting.can_arm writes)
 IsServedUp Restart setting old life new text = (new ≡ old) × (text ≡ up_text)
 IsServedUp ColdStart setting old life new text = (new ≡ old) × (text ≡ up_text)
@@ -79,9 +79,9 @@ IsServedUp ColdStart setting old life new text = (new ≡ old) × (text ≡ up_t
 -- ---- while it is down
 
 -- what a life opens with: what is found; or in a cold start the empty state, all that was answered counting as kept
-abbrev pub MayOpen : Bool → Setting → Outage → ℕ → LastingState → Type 0
-MayOpen false setting outage kept state = MayBeFound setting outage kept state
-MayOpen true setting outage kept state = (state ≡ empty_state setting.system) × LastAnswered setting.system outage.last kept
+abbrev pub MayOpenWith : Bool → Setting → Outage → ℕ → LastingState → Type 0
+MayOpenWith false setting outage kept state = MayBeFound setting outage kept state
+MayOpenWith true setting outage kept state = (state ≡ empty_state setting.system) × LastAnswered setting.system outage.last kept
 
 -- Before the first life what was handed in is to be opened.
 pub record OpensFirst (cold : Bool) (outage : Outage) : Type 0 where
@@ -90,12 +90,12 @@ pub record OpensFirst (cold : Bool) (outage : Outage) : Type 0 where
 
 -- A life opened. Of a disk that doesn't tell its contents nothing is known. Before the first life what was handed in is opened only
 -- where it is of the definition's text; or a cold start broke off since, and the life opens empty.
-pub record Opens (cold : Bool) (setting : Setting) (old : SessionState) (outage : Outage) (new : SessionState) : Type 0 where
+pub record OpensSession (cold : Bool) (setting : Setting) (old : SessionState) (outage : Outage) (new : SessionState) : Type 0 where
   pub kept : ℕ
   pub state : LastingState
-  pub may : setting.tells ≡ true → MayOpen cold setting outage kept state
-  pub right : setting.tells ≡ true → OpensFirst cold outage → setting.right_text ⊎ IsEmptied setting.system outage.last outage.emptied kept state
-  pub goes : new ≡ opened old outage kept state
+  pub may : setting.tells ≡ true → MayOpenWith cold setting outage kept state
+  pub right : setting.tells ≡ true → OpensFirst cold outage → setting.right_text ⊎ IsStateEmptied setting.system outage.last outage.emptied kept state
+  pub goes : new ≡ life_opened old outage kept state
 
 -- The disk failed in the opening.
 pub record FailsToOpen (cold : Bool) (old : SessionState) (outage : Outage) (new : SessionState) : Type 0 where
@@ -120,7 +120,7 @@ pub record IsNotOpened (cold : Bool) (setting : Setting) (outage : Outage) (old 
 
 abbrev pub IsRestarted : Bool → Setting → SessionState → Outage → SessionState → List ℕ → Type 0
 IsRestarted cold setting old outage new text =
-    (Opens cold setting old outage new × (text ≡ opened_text cold))
+    (OpensSession cold setting old outage new × (text ≡ opened_text cold))
     ⊎ (FailsToOpen cold old outage new × (text ≡ broken_text))
     ⊎ IsNotOpened cold setting outage old new text
 
@@ -137,15 +137,15 @@ abbrev pub ServedBy : Standing → Asked → Setting → SessionState → Sessio
 ServedBy (Up life) asked setting old new text = IsServedUp asked setting old life new text
 ServedBy (Down outage) asked setting old new text = IsServedDown asked setting old outage new text
 
-abbrev pub IsServed : Asked → Setting → SessionState → SessionState → List ℕ → Type 0
-IsServed asked setting old new text = ServedBy old.standing asked setting old new text
+abbrev pub IsBlockServed : Asked → Setting → SessionState → SessionState → List ℕ → Type 0
+IsBlockServed asked setting old new text = ServedBy old.standing asked setting old new text
 
 -- Blocks lead from one to another, and this is printed for them.
 pub record ThenServed (Rest : SessionState → List ℕ → Type 0) (asked : Asked) (setting : Setting) (old : SessionState) (text : List ℕ) : Type 0 where
   pub mid : SessionState
   pub first : List ℕ
   pub later : List ℕ
-  pub here : IsServed asked setting old mid first
+  pub here : IsBlockServed asked setting old mid first
   pub printed : text ≡ first ++ later
   pub on : Rest mid later
 
@@ -155,8 +155,8 @@ AreServed setting (block ∷ blocks) old new text =
     ThenServed (λ mid later. AreServed setting blocks mid new later) (asked_of setting.system block) setting old text
 
 -- A session begins with an opening of the disk, which prints nothing.
-abbrev pub Begins : Setting → SessionState → Type 0
-Begins setting first = Opens false setting unbegun no_life first ⊎ FailsToOpen false unbegun no_life first
+abbrev pub BeginsSession : Setting → SessionState → Type 0
+BeginsSession setting first = OpensSession false setting unbegun no_life first ⊎ FailsToOpen false unbegun no_life first
 
 -- What stands of the first of these blocks, none of which was served: nothing, but of a QUIET the
 -- turns up to where they broke off.
@@ -164,12 +164,12 @@ pub record TurnsBegun (most : ℕ) (system : System) (old : SessionState) (life 
   pub turns : List Entry
   pub steps : AreSteps system (now_in system life) turns
   pub begun : IsBrokenOff most system (now_in system life) turns
-  pub goes : new ≡ gone_on old life turns
+  pub goes : new ≡ life_gone_on old life turns
 
 abbrev pub IsBegunBy : Asked → System → SessionState → Standing → SessionState → Type 0
 IsBegunBy (Quiet most) system old (Up life) new = (new ≡ old) ⊎ TurnsBegun most system old life new
 IsBegunBy _ system old standing new = new ≡ old
 
-abbrev pub IsBegun : System → List Block → SessionState → SessionState → Type 0
-IsBegun system [] old new = new ≡ old
-IsBegun system (block ∷ blocks) old new = IsBegunBy (asked_of system block) system old old.standing new
+abbrev pub IsSessionBegun : System → List Block → SessionState → SessionState → Type 0
+IsSessionBegun system [] old new = new ≡ old
+IsSessionBegun system (block ∷ blocks) old new = IsBegunBy (asked_of system block) system old old.standing new

@@ -11,11 +11,11 @@ use Rattle.tm_types.specs.declared.message.Reply.{Reply}
 use Rattle.tm_types.specs.declared.dbd.Dbd.{Dbd}
 use Rattle.tm_types.specs.declared.resource.Resource.{Resource}
 use Rattle.model_data.specs.declared.victim.Victim.{Victim}
-use Rattle.model_system.specs.Formats.{FormatLines}
-use Rattle.model_system.specs.Showing.{shown}
-use Rattle.model_system.specs.ModelSystemFormats.{format_of}
+use Rattle.model_system.specs.FormatLines.{FormatLines}
+use Rattle.model_system.specs.ScreenPage.{shown_page}
+use Rattle.model_system.specs.SystemFormats.{format_of}
 use Rattle.model_system.specs.System.{System}
-use Rattle.model_messages.specs.Calls.{without_blanks}
+use Rattle.model_messages.specs.MessageCalls.{without_blanks}
 use Rattle.model_machine.specs.declared.entry.Entry.{Entry}
 use Rattle.model_machine.specs.declared.entry.Entry.TheVariants.{Accept, Show, Acked as AckedEntry, Turn, Commanded, Checked}
 use Rattle.model_machine.specs.declared.entry.ControlFault.{ControlFault}
@@ -35,7 +35,7 @@ use Rattle.model_machine.specs.declared.entry.CheckpointRefused.{CheckpointRefus
 use Rattle.model_machine.specs.declared.entry.CheckpointRefused.TheVariants.{BusyRegion, Fault as CheckpointFault}
 use Rattle.model_machine.specs.declared.answer.Answer.{Answer}
 use Rattle.model_machine.specs.declared.answer.Answer.TheVariants as answers
-use Rattle.model_machine.specs.Answers.{answer_text}
+use Rattle.model_machine.specs.AnswerText.{answer_text}
 use Rattle.model_machine.specs.declared.entry.Turned.{Turned}
 use Rattle.model_machine.specs.declared.entry.Turned.TheVariants.{Scheduled, Called, Next, QC, Done, Abended, Idle, Held, Waits, Backed}
 use Rattle.model_machine.specs.Machine.{Moment, output_at}
@@ -43,7 +43,7 @@ use Rattle.model_session.specs.declared.asked.ImageRefused.{ImageRefused}
 use Rattle.model_session.specs.declared.asked.ImageRefused.TheVariants.{Rule, Text as ImageText, Size}
 use Rattle.model_session.specs.declared.asked.InputStopped.{InputStopped}
 use Rattle.model_session.specs.declared.asked.InputStopped.TheVariants.{Terminal as StoppedTerminal, Format as StoppedFormat, Field as StoppedField, TooLong}
-use Rattle.model_machine.specs.Lasting.{code_word}
+use Rattle.model_machine.specs.LastingSteps.{code_word}
 
 -- a word and a blank
 abbrev pub spaced : List ℕ → List ℕ
@@ -102,7 +102,7 @@ page_text terminal number rows = about (codes "OUT") terminal number ++ codes " 
 
 -- a terminal with a format shows the page of a reply, and another one its segments
 abbrev pub shown_text : List ℕ → Option FormatLines → Reply → List ℕ
-shown_text terminal (Some format) reply = page_text terminal reply.number (shown format reply.segments)
+shown_text terminal (Some format) reply = page_text terminal reply.number (shown_page format reply.segments)
 shown_text terminal None reply = reply_text terminal reply
 
 -- a terminal without a reply, and a name that is no terminal's
@@ -135,8 +135,8 @@ ack_text terminal number (Err (Ahead first)) = about (codes "REFUSED") terminal 
 ack_text terminal number (Err (AckFault fault)) = []
 
 -- a region's lines begin with its number
-abbrev pub region_text : ℕ → List ℕ
-region_text region = codes "R" ++ decimal region ++ 32 ∷ []
+abbrev pub region_line_head : ℕ → List ℕ
+region_line_head region = codes "R" ++ decimal region ++ 32 ∷ []
 
 -- a blank status is printed as OK
 abbrev pub printed_status : Status → List ℕ
@@ -183,7 +183,7 @@ did_text databases (Waits resource by) = codes "WAITS " ++ resource_text databas
 did_text databases (Backed victims) = []
 
 abbrev pub region_line : ℕ → List ℕ → List ℕ
-region_line region did = region_text region ++ did ++ line_end
+region_line region did = region_line_head region ++ did ++ line_end
 
 abbrev pub turned_text : List Dbd → ℕ → Turned → List ℕ
 turned_text databases region (Backed victims) = flat_map (λ victim. region_line region (victim_text victim)) victims

@@ -104,10 +104,10 @@ label_from place name (line ∷ lines) = if sets_label name line.statement then 
 abbrev pub label_place : List ℕ → List ScriptLine → Option ℕ
 label_place name lines = label_from 0 name lines
 
-abbrev pub target_of : Statement → Option Target
-target_of (If left comparison right target) = Some target
-target_of (Goto target) = Some target
-target_of _ = None
+abbrev pub statement_target : Statement → Option Target
+statement_target (If left comparison right target) = Some target
+statement_target (Goto target) = Some target
+statement_target _ = None
 
 -- A program has at most 500 statements, each of them allowed. A label stands once, and where a line
 -- goes to one, the target has its place.
@@ -115,4 +115,4 @@ pub record IsProgram (lines : List ScriptLine) : Type 0 where
   pub few : statement_count lines ≤ 500
   pub allowed : IsTrue (list_all (λ line. is_statement line.statement) lines)
   pub labels : (place : ℕ) (number : ℕ) (name : List ℕ) → slice_get lines place ≡ Some (record { number = number; statement = Label name }) → label_place name lines ≡ Some place
-  pub targets : (place : ℕ) (line : ScriptLine) (target : Target) → slice_get lines place ≡ Some line → target_of line.statement ≡ Some target → label_place target.label lines ≡ Some target.place
+  pub targets : (place : ℕ) (line : ScriptLine) (target : Target) → slice_get lines place ≡ Some line → statement_target line.statement ≡ Some target → label_place target.label lines ≡ Some target.place

@@ -21,7 +21,7 @@ use Rattle.model_system.specs.declared.text.Text.{Text}
 use Rattle.model_system.specs.declared.text.Text.TheVariants.{Variable, Status as LastStatus, Literal}
 use Rattle.model_system.specs.Arithmetic.{sum_text, difference_text}
 use Rattle.model_system.specs.Programs.{is_label}
-use Rattle.model_system.specs.Texts.{word, cut, padded, holds}
+use Rattle.model_system.specs.Texts.{word, cut, zero_padded, comparison_holds}
 
 -- the answer to a call: its status, and the text that it brought
 pub record Answer : Type 0 where
@@ -43,22 +43,22 @@ script_start = record { place = 0; variables = replicate 26 []; status = Blank; 
 abbrev pub variable_text : ScriptState → ℕ → List ℕ
 variable_text state x = slice_index_or state.variables x []
 
-abbrev pub text_of : ScriptState → Text → List ℕ
-text_of state (Variable x) = variable_text state x
-text_of state LastStatus = status_text state.status
-text_of state (Literal bytes) = bytes
+abbrev pub script_text_of : ScriptState → Text → List ℕ
+script_text_of state (Variable x) = variable_text state x
+script_text_of state LastStatus = status_text state.status
+script_text_of state (Literal bytes) = bytes
 
 -- the texts joined, cut at 1,996 bytes
-abbrev pub joined : ScriptState → List Text → List ℕ
-joined state texts = take 1996 (flat_map (text_of state) texts)
+abbrev pub joined_texts : ScriptState → List Text → List ℕ
+joined_texts state texts = take 1996 (flat_map (script_text_of state) texts)
 
 -- One statement more is executed, and the script goes on at a place, with these variables.
-abbrev pub goes_on : ScriptState → ℕ → List (List ℕ) → ScriptState
-goes_on state place variables = record state { place = place; variables = variables; executed = suc state.executed }
+abbrev pub script_goes_on : ScriptState → ℕ → List (List ℕ) → ScriptState
+script_goes_on state place variables = record state { place = place; variables = variables; executed = suc state.executed }
 
 -- the next line, the variable being this text
 abbrev pub assigns : ScriptState → ℕ → List ℕ → ScriptState
-assigns state x text = goes_on state (suc state.place) (slice_set state.variables x text)
+assigns state x text = script_goes_on state (suc state.place) (slice_set state.variables x text)
 
 -- a call's segment search arguments, with the texts of their variables
 abbrev pub call_ssa : ScriptState → ScriptSsa → Ssa
@@ -77,39 +77,39 @@ pub data Executed : Type 0 where
   Needs : Need → Executed
 
 -- bad arithmetic ends the script abnormally, with U0901
-abbrev pub counted : ScriptState → ℕ → Option (List ℕ) → Executed
-counted state x (Some text) = GoesOn (assigns state x text)
-counted state x None = Needs (NeedsAbend (record { number = 901 }))
+abbrev pub computed : ScriptState → ℕ → Option (List ℕ) → Executed
+computed state x (Some text) = GoesOn (assigns state x text)
+computed state x None = Needs (NeedsAbend (record { number = 901 }))
 
 -- what each statement does
 abbrev pub executed_by : Statement → ScriptState → Executed
-executed_by (Set x texts) state = GoesOn (assigns state x (joined state texts))
+executed_by (Set x texts) state = GoesOn (assigns state x (joined_texts state texts))
 executed_by (Word x y number) state = GoesOn (assigns state x (word (variable_text state y) number))
 executed_by (Cut x y start count) state = GoesOn (assigns state x (cut (variable_text state y) start count))
-executed_by (Pad x width) state = GoesOn (assigns state x (padded (variable_text state x) width))
-executed_by (Add x y) state = counted state x (sum_text (variable_text state x) (variable_text state y))
-executed_by (Less x y) state = counted state x (difference_text (variable_text state x) (variable_text state y))
+executed_by (Pad x width) state = GoesOn (assigns state x (zero_padded (variable_text state x) width))
+executed_by (Add x y) state = computed state x (sum_text (variable_text state x) (variable_text state y))
+executed_by (Less x y) state = computed state x (difference_text (variable_text state x) (variable_text state y))
 executed_by (If left comparison right target) state =
-    GoesOn (goes_on state (if holds comparison (text_of state left) (text_of state right) then target.place else suc state.place) state.variables)
-executed_by (Goto target) state = GoesOn (goes_on state target.place state.variables)
+    GoesOn (script_goes_on state (if comparison_holds comparison (script_text_of state left) (script_text_of state right) then target.place else suc state.place) state.variables)
+executed_by (Goto target) state = GoesOn (script_goes_on state target.place state.variables)
 executed_by (Call function pcb area ssas) state = Needs (NeedsCall (call_text state function pcb area ssas))
 executed_by (Abend code) state = Needs (NeedsAbend code)
 executed_by End state = Needs Ended
 executed_by (Label name) state = Needs Ended
 
 -- one statement more than the limit ends the script abnormally, with U0240
-abbrev pub within : ℕ → ScriptState → Executed → Executed
-within limit state executed =
+abbrev pub within_limit : ℕ → ScriptState → Executed → Executed
+within_limit limit state executed =
     if nat_lt state.executed limit then executed else Needs (NeedsAbend (record { number = 240 }))
 
 -- A script ends behind its last line too.
 abbrev pub step_by : ℕ → Option ScriptLine → ScriptState → Executed
-step_by limit (Some line) state = within limit state (executed_by line.statement state)
+step_by limit (Some line) state = within_limit limit state (executed_by line.statement state)
 step_by limit None state = Needs Ended
 
 -- what comes of the line where the script stands
-abbrev pub step : List ScriptLine → ℕ → ScriptState → Executed
-step lines limit state = step_by limit (slice_get lines state.place) state
+abbrev pub script_step : List ScriptLine → ℕ → ScriptState → Executed
+script_step lines limit state = step_by limit (slice_get lines state.place) state
 
 -- how many labels these lines begin with
 abbrev pub labels_first : List ScriptLine → ℕ
@@ -129,12 +129,12 @@ unless_needs rest here (Needs need) = here
 abbrev pub run : List ScriptLine → ℕ → ℕ → ScriptState → ScriptState
 run lines limit zero state = arrived lines state
 run lines limit (suc left) state =
-    unless_needs (run lines limit left) (arrived lines state) (step lines limit (arrived lines state))
+    unless_needs (run lines limit left) (arrived lines state) (script_step lines limit (arrived lines state))
 
 -- The script at its next call or end: the lines up to it are executed, by as many statements as the
 -- limit leaves.
-unfoldable pub settled : List ScriptLine → ℕ → ScriptState → ScriptState
-settled lines limit state = run lines limit (limit - state.executed) state
+unfoldable pub script_settled : List ScriptLine → ℕ → ScriptState → ScriptState
+script_settled lines limit state = run lines limit (limit - state.executed) state
 
 abbrev pub need_of : Executed → Need
 need_of (Needs need) = need
@@ -142,7 +142,7 @@ need_of (GoesOn next) = Ended
 
 -- what a script needs from where it stands
 abbrev pub need_at : List ScriptLine → ℕ → ScriptState → Need
-need_at lines limit state = need_of (step lines limit (settled lines limit state))
+need_at lines limit state = need_of (script_step lines limit (script_settled lines limit state))
 
 -- a call sets its variable where it is answered with blank, GA or GK
 abbrev pub sets_variable : Status → Bool
@@ -174,7 +174,7 @@ waiting_by _ _ = None
 -- Where a script that needs its next call waits for the answer: the variable that the call may set,
 -- if any. None where it needs no call.
 abbrev pub waiting_at : List ScriptLine → ℕ → ScriptState → Option (Option ℕ)
-waiting_at lines limit state = waiting_by (slice_get lines (settled lines limit state).place) (need_at lines limit state)
+waiting_at lines limit state = waiting_by (slice_get lines (script_settled lines limit state).place) (need_at lines limit state)
 
 -- the variables once a call was answered that may set this one
 abbrev pub variables_after : List (List ℕ) → Option ℕ → Answer → List (List ℕ)
@@ -193,13 +193,13 @@ moved_on state (Some x) answer = record {
 moved_on state None answer = state
 
 -- where the script stands once the call that it needs was answered: on the line behind it
-abbrev pub answered : List ScriptLine → ℕ → ScriptState → Answer → ScriptState
-answered lines limit state answer = moved_on (settled lines limit state) (waiting_at lines limit state) answer
+abbrev pub script_answered : List ScriptLine → ℕ → ScriptState → Answer → ScriptState
+script_answered lines limit state answer = moved_on (script_settled lines limit state) (waiting_at lines limit state) answer
 
 -- where the script stands after these answers
 abbrev pub script_after : List ScriptLine → ℕ → ScriptState → List Answer → ScriptState
 script_after lines limit state [] = state
-script_after lines limit state (answer ∷ answers) = script_after lines limit (answered lines limit state answer) answers
+script_after lines limit state (answer ∷ answers) = script_after lines limit (script_answered lines limit state answer) answers
 
 -- what a script needs after these answers
 abbrev pub next_need : List ScriptLine → ℕ → List Answer → Need

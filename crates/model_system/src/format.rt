@@ -1,7 +1,7 @@
 //! A message format.
 ghost use Rattle.std.specs.Prelude.{◌≡◌};
-ghost use Rattle.model_system.specs.Formats.{FormatLines};
-ghost use Rattle.model_system.specs.Valid.{IsFormat};
+ghost use Rattle.model_system.specs.FormatLines.{FormatLines};
+ghost use Rattle.model_system.specs.ValidFormat.{IsFormat};
 
 use crate::{DeviceField, SegmentLine};
 use std::marker::Model;
@@ -16,8 +16,8 @@ pub struct Format {
 }
 
 impl Model for Format {
-    ghost use Rattle.model_system.specs.Formats.{FormatLines};
-    ghost use Rattle.model_system.specs.Valid.{IsFormat};
+    ghost use Rattle.model_system.specs.FormatLines.{FormatLines};
+    ghost use Rattle.model_system.specs.ValidFormat.{IsFormat};
 
     ghost Value = { FormatLines };
 

@@ -37,11 +37,4 @@ impl Variable {
     {
         self.place
     }
-
-    /// The code of the variable's letter, A to Z.
-    pub fn letter(&self) -> u8
-        ensures { result ≡ 65 + self.now }
-    {
-        b'A' + self.place
-    }
 }

@@ -15,9 +15,10 @@ use Rattle.std.proofs.lemmas.Map.Entries.{sum_by-remove_entry}
 use Rattle.tm_types.specs.declared.message.Message.{Message}
 use Rattle.model_messages.specs.declared.queued.Queued.{Queued}
 use Rattle.model_messages.specs.Room.{message_bytes, messages_bytes}
-use Rattle.model_messages.specs.Queue.{AreInOrder, ids_of, IsNewId, messages_of, has_id, queued_at, with_message, with_holder, without}
-use Rattle.msg_queues.specs.Kept.{AreKeyed}
-use Rattle.msg_queues.proofs.Keys.{at_key, key_is, greater_from, first_below, others_ascend}
+use Rattle.model_messages.specs.Queue.{AreInOrder, ids_of, IsNewId, messages_of, has_id, queued_at, with_message, with_holder, without_id_queued}
+use Rattle.msg_queues.specs.KeptMessages.{AreKeyed}
+use Rattle.msg_queues.proofs.Keys.{at_key, key_is, first_below, others_ascend}
+use Rattle.tm_types.proofs.Ordered.{greater_from}
 
 -- each message is kept under its id
 abbrev pub AreOwn : List (ℕ × Queued) → Type 0
@@ -43,7 +44,7 @@ with_holder_above id holder [] h g = refl
 with_holder_above id holder (e ∷ es) h g =
     λ i. cond (other_test id e h.0 g.0 i) (record e.1 { holder = holder }) e.1 ∷ with_holder_above id holder es h.1 g.1 i
 
-without_above : (id : ℕ) (es : List (ℕ × Queued)) → AreOwn es → AreAbove id es → without id (values_of es) ≡ values_of es
+without_above : (id : ℕ) (es : List (ℕ × Queued)) → AreOwn es → AreAbove id es → without_id_queued id (values_of es) ≡ values_of es
 without_above id [] h g = refl
 without_above id (e ∷ es) h g =
     λ i. cond (not (other_test id e h.0 g.0 i)) (e.1 ∷ without_above id es h.1 g.1 i) (without_above id es h.1 g.1 i)
@@ -108,20 +109,20 @@ keyed_set id holder es fs v h f g =
     })
 
 -- ---- a removal
-pub removed : (id : ℕ) (es : List (ℕ × Queued)) → AreOwn es → IsStrictlySortedBy nat_cmp (keys_of es) → values_of (remove_entry (is_at (nat_cmp id)) es) ≡ without id (values_of es)
+pub removed : (id : ℕ) (es : List (ℕ × Queued)) → AreOwn es → IsStrictlySortedBy nat_cmp (keys_of es) → values_of (remove_entry (is_at (nat_cmp id)) es) ≡ without_id_queued id (values_of es)
 removed id [] h s = refl
 removed id (e ∷ es) h s = by (is_at (nat_cmp id) e.0) refl (removed id es h.1 (others_ascend e es s))
   where
-    by : (b : Bool) → is_at (nat_cmp id) e.0 ≡ b → values_of (remove_entry (is_at (nat_cmp id)) es) ≡ without id (values_of es)
-        → values_of (cond (is_at (nat_cmp id) e.0) es (e ∷ remove_entry (is_at (nat_cmp id)) es)) ≡ cond (not (has_id id e.1)) (e.1 ∷ without id (values_of es)) (without id (values_of es))
+    by : (b : Bool) → is_at (nat_cmp id) e.0 ≡ b → values_of (remove_entry (is_at (nat_cmp id)) es) ≡ without_id_queued id (values_of es)
+        → values_of (cond (is_at (nat_cmp id) e.0) es (e ∷ remove_entry (is_at (nat_cmp id)) es)) ≡ cond (not (has_id id e.1)) (e.1 ∷ without_id_queued id (values_of es)) (without_id_queued id (values_of es))
     by true q rec =
         ap (λ b. values_of (cond b es (e ∷ remove_entry (is_at (nat_cmp id)) es))) q
         ∙ (sym (without_above id es h.1 (above_first id e es s q))
-        ∙ ap (λ b. cond (not b) (e.1 ∷ without id (values_of es)) (without id (values_of es))) (sym (own_test id e h.0 ∙ q)))
+        ∙ ap (λ b. cond (not b) (e.1 ∷ without_id_queued id (values_of es)) (without_id_queued id (values_of es))) (sym (own_test id e h.0 ∙ q)))
     by false q rec =
         ap (λ b. values_of (cond b es (e ∷ remove_entry (is_at (nat_cmp id)) es))) q
         ∙ (ap (λ vs. e.1 ∷ vs) rec
-        ∙ ap (λ b. cond (not b) (e.1 ∷ without id (values_of es)) (without id (values_of es))) (sym (own_test id e h.0 ∙ q)))
+        ∙ ap (λ b. cond (not b) (e.1 ∷ without_id_queued id (values_of es)) (without_id_queued id (values_of es))) (sym (own_test id e h.0 ∙ q)))
 
 pub own_removed : (test : ℕ → Bool) (es : List (ℕ × Queued)) → AreOwn es → AreOwn (remove_entry test es)
 own_removed test [] h = tt
@@ -172,7 +173,7 @@ bytes_sum (q ∷ qs) =
     ∙ (ap (λ n. message_bytes q.message + n) (bytes_sum qs) ∙ sym (sum_by-cons (λ r. message_bytes r.message) q qs))
 
 pub bytes_removed : (id : ℕ) (es : List (ℕ × Queued)) → AreKeyed es
-    → messages_bytes (messages_of (without id (values_of es))) + unwrap_or (option_map (λ q. message_bytes q.message) (queued_at id (values_of es))) 0
+    → messages_bytes (messages_of (without_id_queued id (values_of es))) + unwrap_or (option_map (λ q. message_bytes q.message) (queued_at id (values_of es))) 0
     ≡ messages_bytes (messages_of (values_of es))
 bytes_removed id es h =
     let f : Queued → ℕ = λ q. message_bytes q.message in

@@ -12,11 +12,11 @@ use Rattle.std.proofs.lemmas.Bool.{eq-eqb, ne_eqb, eqb-true}
 use Rattle.std.proofs.lemmas.List.Sums.{sum_by-cons}
 use Rattle.tm_types.specs.declared.message.Message.{Message}
 use Rattle.model_messages.specs.declared.queued.Queued.{Queued}
-use Rattle.model_messages.specs.Input.{is_conversing, busy_id}
+use Rattle.model_messages.specs.ConversationInput.{is_conversing, busy_id}
 use Rattle.model_messages.specs.Room.{message_bytes, messages_bytes}
-use Rattle.model_messages.specs.Queue.{messages_of, IsNewId, has_id, queued_at, message_at, with_message, with_holder, without, is_free_of, first_free, free_count}
-use Rattle.msg_queues.specs.Kept.{AreKeyed, AreKept, HasCode}
-use Rattle.msg_queues.specs.Places.{ids_of, places, conversing, IsBehind, with_id, with_flag, without_id, first_open, open_count}
+use Rattle.model_messages.specs.Queue.{messages_of, IsNewId, has_id, queued_at, queued_message, with_message, with_holder, without_id_queued, is_free_of, first_free, free_count}
+use Rattle.msg_queues.specs.KeptMessages.{AreKeyed, AreMessagesKept, HasCode}
+use Rattle.msg_queues.specs.Places.{flagged_ids, places, conversing_ids, IsIdBehind, with_id, with_flag, without_id, first_open, unheld_count}
 use Rattle.msg_queues.specs.Index.{of_name, when, ChangesName, KeepsNames, AreIndexed, AreConversing}
 use Rattle.msg_queues.proofs.Keys.{at_key, key_is, first_below, others_ascend}
 use Rattle.msg_queues.proofs.ById.{AreOwn, AreAbove, found_is, messages_held, bytes_added}
@@ -51,43 +51,43 @@ removed_step id q f false false false ps more e g rec = rec
 
 module _ (test : Message → Bool) (flag : Queued → Bool) where
   ids_cons : (q : Queued) (queued : List Queued)
-      → ids_of test flag (q ∷ queued) ≡ cond (test q.message) ((q.message.id, flag q) ∷ ids_of test flag queued) (ids_of test flag queued)
+      → flagged_ids test flag (q ∷ queued) ≡ cond (test q.message) ((q.message.id, flag q) ∷ flagged_ids test flag queued) (flagged_ids test flag queued)
   ids_cons q queued =
       elim (test q.message) as (λ b. map (λ (r : Queued). (r.message.id, flag r)) (cond b (q ∷ filter (λ r. test r.message) queued) (filter (λ r. test r.message) queued))
-      ≡ cond b ((q.message.id, flag q) ∷ ids_of test flag queued) (ids_of test flag queued)) [
+      ≡ cond b ((q.message.id, flag q) ∷ flagged_ids test flag queued) (flagged_ids test flag queued)) [
         | true ↦ refl
         | false ↦ refl
       ]
 
   ids_added : (message : Message) (queued : List Queued) → flag (record { message = message; holder = None }) ≡ false
-      → ids_of test flag (with_message message queued) ≡ cond (test message) (with_id message.id (ids_of test flag queued)) (ids_of test flag queued)
+      → flagged_ids test flag (with_message message queued) ≡ cond (test message) (with_id message.id (flagged_ids test flag queued)) (flagged_ids test flag queued)
   ids_added message [] free =
       ids_cons (record { message = message; holder = None }) [] ∙ ap (λ f. cond (test message) ((message.id, f) ∷ []) []) free
   ids_added message (q ∷ queued) free =
       ids_cons q (with_message message queued)
-      ∙ (added_step (test q.message) (test message) (q.message.id, flag q) (message.id, false) (ids_of test flag queued) (ids_of test flag (with_message message queued)) (ids_added message queued free)
+      ∙ (added_step (test q.message) (test message) (q.message.id, flag q) (message.id, false) (flagged_ids test flag queued) (flagged_ids test flag (with_message message queued)) (ids_added message queued free)
       ∙ ap (λ ps. cond (test message) (with_id message.id ps) ps) (sym (ids_cons q queued)))
 
-  ids_behind : (id : ℕ) (queued : List Queued) → IsNewId id queued → IsBehind id (ids_of test flag queued)
+  ids_behind : (id : ℕ) (queued : List Queued) → IsNewId id queued → IsIdBehind id (flagged_ids test flag queued)
   ids_behind id [] h = tt
-  ids_behind id (q ∷ queued) h = subst (IsBehind id) (sym (ids_cons q queued)) (by (test q.message) (ids_behind id queued h.1))
+  ids_behind id (q ∷ queued) h = subst (IsIdBehind id) (sym (ids_cons q queued)) (by (test q.message) (ids_behind id queued h.1))
     where
-      by : (b : Bool) → IsBehind id (ids_of test flag queued) → IsBehind id (cond b ((q.message.id, flag q) ∷ ids_of test flag queued) (ids_of test flag queued))
+      by : (b : Bool) → IsIdBehind id (flagged_ids test flag queued) → IsIdBehind id (cond b ((q.message.id, flag q) ∷ flagged_ids test flag queued) (flagged_ids test flag queued))
       by true rec = (h.0, rec)
       by false rec = rec
 
   without_cons : (id : ℕ) (q : Queued) (queued : List Queued)
-      → ids_of test flag (without id (q ∷ queued))
-      ≡ cond (not (has_id id q)) (cond (test q.message) ((q.message.id, flag q) ∷ ids_of test flag (without id queued)) (ids_of test flag (without id queued))) (ids_of test flag (without id queued))
+      → flagged_ids test flag (without_id_queued id (q ∷ queued))
+      ≡ cond (not (has_id id q)) (cond (test q.message) ((q.message.id, flag q) ∷ flagged_ids test flag (without_id_queued id queued)) (flagged_ids test flag (without_id_queued id queued))) (flagged_ids test flag (without_id_queued id queued))
   without_cons id q queued = by (has_id id q)
     where
-      by : (b : Bool) → ids_of test flag (cond (not b) (q ∷ without id queued) (without id queued))
-          ≡ cond (not b) (cond (test q.message) ((q.message.id, flag q) ∷ ids_of test flag (without id queued)) (ids_of test flag (without id queued))) (ids_of test flag (without id queued))
+      by : (b : Bool) → flagged_ids test flag (cond (not b) (q ∷ without_id_queued id queued) (without_id_queued id queued))
+          ≡ cond (not b) (cond (test q.message) ((q.message.id, flag q) ∷ flagged_ids test flag (without_id_queued id queued)) (flagged_ids test flag (without_id_queued id queued))) (flagged_ids test flag (without_id_queued id queued))
       by true = refl
-      by false = ids_cons q (without id queued)
+      by false = ids_cons q (without_id_queued id queued)
 
   ids_removed : (id : ℕ) (message : Message) (queued : List Queued) → Has (λ m. m) id message queued
-      → ids_of test flag (without id queued) ≡ cond (test message) (without_id id (ids_of test flag queued)) (ids_of test flag queued)
+      → flagged_ids test flag (without_id_queued id queued) ≡ cond (test message) (without_id id (flagged_ids test flag queued)) (flagged_ids test flag queued)
   ids_removed id message [] h =
       elim (test message) as (λ b. [] ≡ cond b (without_id id []) []) [
         | true ↦ refl
@@ -95,18 +95,18 @@ module _ (test : Message → Bool) (flag : Queued → Bool) where
       ]
   ids_removed id message (q ∷ queued) h =
       without_cons id q queued
-      ∙ (removed_step id q (flag q) (has_id id q) (test q.message) (test message) (ids_of test flag queued) (ids_of test flag (without id queued)) refl
+      ∙ (removed_step id q (flag q) (has_id id q) (test q.message) (test message) (flagged_ids test flag queued) (flagged_ids test flag (without_id_queued id queued)) refl
       (λ e. ap test (h.0 e)) (ids_removed id message queued h.1)
       ∙ ap (λ ps. cond (test message) (without_id id ps) ps) (sym (ids_cons q queued)))
 
-pub places_behind : (code : List ℕ) (id : ℕ) (queued : List Queued) → IsNewId id queued → IsBehind id (places code queued)
+pub places_behind : (code : List ℕ) (id : ℕ) (queued : List Queued) → IsNewId id queued → IsIdBehind id (places code queued)
 places_behind code id queued fresh = ids_behind (λ message. bytes_eq message.code code) (λ q. is_some q.holder) id queued fresh
 
-pub conversing_behind : (terminal : List ℕ) (id : ℕ) (queued : List Queued) → IsNewId id queued → IsBehind id (conversing terminal queued)
+pub conversing_behind : (terminal : List ℕ) (id : ℕ) (queued : List Queued) → IsNewId id queued → IsIdBehind id (conversing_ids terminal queued)
 conversing_behind terminal id queued fresh = ids_behind (is_conversing terminal) (λ _. false) id queued fresh
 
 -- an id that was added and is removed again
-pub undone : (id : ℕ) (ids : Places) → IsBehind id ids → without_id id (with_id id ids) ≡ ids
+pub undone : (id : ℕ) (ids : Places) → IsIdBehind id ids → without_id id (with_id id ids) ≡ ids
 undone id [] h = ap (λ b. cond (not b) ((id, false) ∷ []) []) (eq-eqb id id refl)
 undone id (p ∷ ids) h =
     let other : eqb p.0 id ≡ false = ne_eqb p.0 id (λ e. absurd (omega (arith, h.0))) in
@@ -153,7 +153,7 @@ places_held code id holder own (q ∷ queued) h =
     ∙ ap (λ ps. cond (bytes_eq own code) (with_flag id (is_some holder) ps) ps) (sym (ids_cons (of_code code) is_held q queued))))
 
 -- no one that belongs to a conversation is noted as held
-conversing_held : (terminal : List ℕ) (id : ℕ) (holder : Option ℕ) (queued : List Queued) → conversing terminal (with_holder id holder queued) ≡ conversing terminal queued
+conversing_held : (terminal : List ℕ) (id : ℕ) (holder : Option ℕ) (queued : List Queued) → conversing_ids terminal (with_holder id holder queued) ≡ conversing_ids terminal queued
 conversing_held terminal id holder [] = refl
 conversing_held terminal id holder (q ∷ queued) =
     ids_cons (is_conversing terminal) (λ _. false) (cond (has_id id q) (record q { holder = holder }) q) (with_holder id holder queued)
@@ -177,26 +177,26 @@ first_is code (q ∷ queued) =
       | false ↦ refl
     ])
 
-pub first_conversing : (terminal : List ℕ) (queued : List Queued) → first_open (conversing terminal queued) ≡ busy_id terminal (messages_of queued)
+pub first_conversing : (terminal : List ℕ) (queued : List Queued) → first_open (conversing_ids terminal queued) ≡ busy_id terminal (messages_of queued)
 first_conversing terminal [] = refl
 first_conversing terminal (q ∷ queued) =
     ap first_open (ids_cons (is_conversing terminal) (λ _. false) q queued)
-    ∙ elim (is_conversing terminal q.message) as (λ b. first_open (cond b ((q.message.id, false) ∷ conversing terminal queued) (conversing terminal queued))
+    ∙ elim (is_conversing terminal q.message) as (λ b. first_open (cond b ((q.message.id, false) ∷ conversing_ids terminal queued) (conversing_ids terminal queued))
     ≡ option_map (λ (m : Message). m.id) (cond b (Some q.message) (find (is_conversing terminal) (messages_of queued)))) [
       | true ↦ refl
       | false ↦ first_conversing terminal queued
     ]
 
-count_step : (t : Bool) (o : Option ℕ) (id : ℕ) (ps : Places) (n : ℕ) → open_count ps ≡ n → open_count (cond t ((id, is_some o) ∷ ps) ps) ≡ cond (t && is_none o) 1 0 + n
+count_step : (t : Bool) (o : Option ℕ) (id : ℕ) (ps : Places) (n : ℕ) → unheld_count ps ≡ n → unheld_count (cond t ((id, is_some o) ∷ ps) ps) ≡ cond (t && is_none o) 1 0 + n
 count_step true None id ps n e = omega (arith, e, sum_by-cons (λ held. cond (not held) 1 0) false (values_of ps))
 count_step true (Some o) id ps n e = omega (arith, e, sum_by-cons (λ held. cond (not held) 1 0) true (values_of ps))
 count_step false None id ps n e = omega (arith, e)
 count_step false (Some o) id ps n e = omega (arith, e)
 
-pub count_is : (code : List ℕ) (queued : List Queued) → open_count (places code queued) ≡ free_count code queued
+pub count_is : (code : List ℕ) (queued : List Queued) → unheld_count (places code queued) ≡ free_count code queued
 count_is code [] = refl
 count_is code (q ∷ queued) =
-    ap open_count (ids_cons (of_code code) is_held q queued)
+    ap unheld_count (ids_cons (of_code code) is_held q queued)
     ∙ (count_step (bytes_eq q.message.code code) q.holder q.message.id (places code queued) (free_count code queued) (count_is code queued)
     ∙ sym (sum_by-cons (λ r. cond (is_free_of code r) 1 0) q queued))
 
@@ -223,19 +223,19 @@ has_here f id (e ∷ es) q h s here = by (is_at (nat_cmp id) e.0) refl here (has
 pub has_code : (id : ℕ) (es : List (ℕ × Queued)) (q : Queued) → AreKeyed es → lookup (is_at (nat_cmp id)) es ≡ Some q → HasCode id q.message.code (values_of es)
 has_code id es q h f = has_here (λ m. m.code) id es q h.each h.ascending f
 
-same_id : (id : ℕ) (message : Message) (queued : List Queued) → Some message ≡ message_at id queued → message.id ≡ id
+same_id : (id : ℕ) (message : Message) (queued : List Queued) → Some message ≡ queued_message id queued → message.id ≡ id
 same_id id message [] e = let clash : Some message ≡ None = e in absurd (cc)
 same_id id message (q ∷ queued) e = by (has_id id q) refl e (same_id id message queued)
   where
     by : (b : Bool) → has_id id q ≡ b → Some message ≡ option_map (λ (r : Queued). r.message) (cond b (Some q) (queued_at id queued))
-        → (Some message ≡ message_at id queued → message.id ≡ id) → message.id ≡ id
+        → (Some message ≡ queued_message id queued → message.id ≡ id) → message.id ≡ id
     by true t g rec =
         let some : Some message ≡ Some q.message = g in
         let same : message ≡ q.message = cc in
         ap (λ (m : Message). m.id) same ∙ eqb-true q.message.id id t
     by false t g rec = rec g
 
-has_message : (id : ℕ) (es : List (ℕ × Queued)) (message : Message) → AreKeyed es → Some message ≡ message_at id (values_of es) → Has (λ m. m) id message (values_of es)
+has_message : (id : ℕ) (es : List (ℕ × Queued)) (message : Message) → AreKeyed es → Some message ≡ queued_message id (values_of es) → Has (λ m. m) id message (values_of es)
 has_message id es message h found =
     by (lookup (is_at (nat_cmp id)) es) refl (found ∙ ap (option_map (λ (q : Queued). q.message)) (found_is id es h.each))
   where
@@ -261,24 +261,24 @@ follows old new name change before after h e g c =
     e c ∙ (ap (λ ps. cond (bytes_eq name c) (change ps) ps) (h c) ∙ sym (g c))
 
 -- an id that was put in and taken out again
-pub names_undone : (old mid new : Index) (name : List ℕ) (id : ℕ) → IsBehind id (of_name name old)
+pub names_undone : (old mid new : Index) (name : List ℕ) (id : ℕ) → IsIdBehind id (of_name name old)
     → ChangesName name (with_id id) old mid → ChangesName name (without_id id) mid new → KeepsNames old new
 names_undone old mid new name id behind e f c = f c ∙ by (bytes_eq name c) refl (e c)
   where
     by : (b : Bool) → bytes_eq name c ≡ b → of_name c mid ≡ cond b (with_id id (of_name c old)) (of_name c old) → cond b (without_id id (of_name c mid)) (of_name c mid) ≡ of_name c old
-    by true t g = ap (without_id id) g ∙ undone id (of_name c old) (subst (λ n. IsBehind id (of_name n old)) (same_name name c t) behind)
+    by true t g = ap (without_id id) g ∙ undone id (of_name c old) (subst (λ n. IsIdBehind id (of_name n old)) (same_name name c t) behind)
     by false t g = g
 
 -- the same where it is put in and taken out on a condition
-when_undone : (old mid new : Index) (name : List ℕ) (condition : Bool) (id : ℕ) → IsBehind id (of_name name old)
+when_undone : (old mid new : Index) (name : List ℕ) (condition : Bool) (id : ℕ) → IsIdBehind id (of_name name old)
     → ChangesName name (when condition (with_id id)) old mid → ChangesName name (when condition (without_id id)) mid new → KeepsNames old new
 when_undone old mid new name true id behind e f c = names_undone old mid new name id behind e f c
 when_undone old mid new name false id behind e f c = f c ∙ (same_either (bytes_eq name c) (of_name c mid) ∙ (e c ∙ same_either (bytes_eq name c) (of_name c old)))
 
 -- ---- all that is kept, after a call
-module _ (es fs : List (ℕ × Queued)) (content : ℕ) (codes codes' terminals terminals' : Index) (h : AreKept es content codes terminals) where
+module _ (es fs : List (ℕ × Queued)) (content : ℕ) (codes codes' terminals terminals' : Index) (h : AreMessagesKept es content codes terminals) where
   pub kept_held : (id : ℕ) (holder : Option ℕ) (code : List ℕ) → values_of fs ≡ with_holder id holder (values_of es) → AreKeyed fs → HasCode id code (values_of es)
-      → ChangesName code (with_flag id (is_some holder)) codes codes' → AreKept fs content codes' terminals
+      → ChangesName code (with_flag id (is_some holder)) codes codes' → AreMessagesKept fs content codes' terminals
   kept_held id holder code e keyed own change =
       record {
         keyed = keyed;
@@ -290,9 +290,9 @@ module _ (es fs : List (ℕ × Queued)) (content : ℕ) (codes codes' terminals 
         small = h.small;
       }
 
-  pub kept_removed : (id bytes : ℕ) (message : Message) → Some message ≡ message_at id (values_of es) → values_of fs ≡ without id (values_of es) → AreKeyed fs
+  pub kept_removed : (id bytes : ℕ) (message : Message) → Some message ≡ queued_message id (values_of es) → values_of fs ≡ without_id_queued id (values_of es) → AreKeyed fs
       → ChangesName message.code (without_id message.id) codes codes' → ChangesName message.origin (when message.conversation (without_id message.id)) terminals terminals'
-      → messages_bytes (messages_of (values_of fs)) + message_bytes message ≡ messages_bytes (messages_of (values_of es)) → bytes ≡ message_bytes message → AreKept fs (content - bytes) codes' terminals'
+      → messages_bytes (messages_of (values_of fs)) + message_bytes message ≡ messages_bytes (messages_of (values_of es)) → bytes ≡ message_bytes message → AreMessagesKept fs (content - bytes) codes' terminals'
   kept_removed id bytes message found e keyed change change' less b =
       let has = has_message id es message h.keyed found in
       let same : message.id ≡ id = same_id id message (values_of es) found in
@@ -300,14 +300,14 @@ module _ (es fs : List (ℕ × Queued)) (content : ℕ) (codes codes' terminals 
         keyed = keyed;
         indexed =
             subst (AreIndexed codes') (sym e)
-            (follows codes codes' message.code (without_id id) (λ c. places c (values_of es)) (λ c. places c (without id (values_of es))) h.indexed
+            (follows codes codes' message.code (without_id id) (λ c. places c (values_of es)) (λ c. places c (without_id_queued id (values_of es))) h.indexed
             (subst (λ n. ChangesName message.code (without_id n) codes codes') same change) (λ c. ids_removed (of_code c) is_held id message (values_of es) has));
         conversing =
             subst (AreConversing terminals') (sym e)
-            (follows terminals terminals' message.origin (when message.conversation (without_id id)) (λ t. conversing t (values_of es)) (λ t. conversing t (without id (values_of es))) h.conversing
+            (follows terminals terminals' message.origin (when message.conversation (without_id id)) (λ t. conversing_ids t (values_of es)) (λ t. conversing_ids t (without_id_queued id (values_of es))) h.conversing
             (subst (λ n. ChangesName message.origin (when message.conversation (without_id n)) terminals terminals') same change')
             (λ t. ids_removed (is_conversing t) (λ _. false) id message (values_of es) has
-            ∙ when_both (bytes_eq message.origin t) message.conversation (without_id id) (conversing t (values_of es))));
+            ∙ when_both (bytes_eq message.origin t) message.conversation (without_id id) (conversing_ids t (values_of es))));
         counted = omega (arith, h.counted, less, b);
         small = omega (arith, h.small);
       }
@@ -315,7 +315,7 @@ module _ (es fs : List (ℕ × Queued)) (content : ℕ) (codes codes' terminals 
   pub kept_added : (message : Message) (bytes : ℕ) → values_of fs ≡ with_message message (values_of es) → AreKeyed fs
       → ChangesName message.code (with_id message.id) codes codes' → ChangesName message.origin (when message.conversation (with_id message.id)) terminals terminals'
       → bytes ≡ message_bytes message → messages_bytes (messages_of (values_of es)) + message_bytes message < 2 ^ 62
-      → AreKept fs (content + bytes) codes' terminals'
+      → AreMessagesKept fs (content + bytes) codes' terminals'
   kept_added message bytes e keyed change change' b fits =
       record {
         keyed = keyed;
@@ -325,17 +325,17 @@ module _ (es fs : List (ℕ × Queued)) (content : ℕ) (codes codes' terminals 
             (λ c. ids_added (of_code c) is_held message (values_of es) refl));
         conversing =
             subst (AreConversing terminals') (sym e)
-            (follows terminals terminals' message.origin (when message.conversation (with_id message.id)) (λ t. conversing t (values_of es)) (λ t. conversing t (with_message message (values_of es))) h.conversing change'
+            (follows terminals terminals' message.origin (when message.conversation (with_id message.id)) (λ t. conversing_ids t (values_of es)) (λ t. conversing_ids t (with_message message (values_of es))) h.conversing change'
             (λ t. ids_added (is_conversing t) (λ _. false) message (values_of es) refl
-            ∙ when_both (bytes_eq message.origin t) message.conversation (with_id message.id) (conversing t (values_of es))));
+            ∙ when_both (bytes_eq message.origin t) message.conversation (with_id message.id) (conversing_ids t (values_of es))));
         counted = omega (arith, h.counted, b, ap (λ qs. messages_bytes (messages_of qs)) e, bytes_added message (values_of es));
         small = omega (arith, h.counted, b, fits);
       }
 
   -- the messages stay
-  pub kept_same : fs ≡ es → KeepsNames codes codes' → KeepsNames terminals terminals' → AreKept fs content codes' terminals'
+  pub kept_same : fs ≡ es → KeepsNames codes codes' → KeepsNames terminals terminals' → AreMessagesKept fs content codes' terminals'
   kept_same e same same' =
-      subst (λ gs. AreKept gs content codes' terminals') (sym e) (record {
+      subst (λ gs. AreMessagesKept gs content codes' terminals') (sym e) (record {
         keyed = h.keyed;
         indexed = λ c. same c ∙ h.indexed c;
         conversing = λ t. same' t ∙ h.conversing t;
@@ -346,12 +346,12 @@ module _ (es fs : List (ℕ × Queued)) (content : ℕ) (codes codes' terminals 
   -- a message that was put in and taken out again
   pub kept_undone : (mid mid' : Index) (message back : Message) → IsNewId message.id (values_of es) → fs ≡ es → back ≡ message
       → ChangesName message.code (with_id message.id) codes mid → ChangesName message.origin (when message.conversation (with_id message.id)) terminals mid'
-      → ChangesName back.code (without_id back.id) mid codes' → ChangesName back.origin (when back.conversation (without_id back.id)) mid' terminals' → AreKept fs content codes' terminals'
+      → ChangesName back.code (without_id back.id) mid codes' → ChangesName back.origin (when back.conversation (without_id back.id)) mid' terminals' → AreMessagesKept fs content codes' terminals'
   kept_undone mid mid' message back fresh e is put put' taken taken' =
       kept_same e
       (names_undone codes mid codes' message.code message.id
-      (subst (IsBehind message.id) (sym (h.indexed message.code)) (places_behind message.code message.id (values_of es) fresh))
+      (subst (IsIdBehind message.id) (sym (h.indexed message.code)) (places_behind message.code message.id (values_of es) fresh))
       put (subst (λ (m : Message). ChangesName m.code (without_id m.id) mid codes') is taken))
       (when_undone terminals mid' terminals' message.origin message.conversation message.id
-      (subst (IsBehind message.id) (sym (h.conversing message.origin)) (conversing_behind message.origin message.id (values_of es) fresh))
+      (subst (IsIdBehind message.id) (sym (h.conversing message.origin)) (conversing_behind message.origin message.id (values_of es) fresh))
       put' (subst (λ (m : Message). ChangesName m.origin (when m.conversation (without_id m.id)) mid' terminals') is taken'))

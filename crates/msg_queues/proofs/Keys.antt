@@ -1,25 +1,13 @@
 -- Ids as keys.
-use Rattle.std.proofs.Common.{◌≡◌, ℕ, ◌<◌, ◌∷◌, List, sym, ◌∙◌, ap, arith, true, cond, eqb, ⊎_elim}
+use Rattle.std.proofs.Common.{◌≡◌, ℕ, ◌∷◌, List, sym, ◌∙◌, ap, arith, true, eqb, ⊎_elim}
 use Rattle.std.specs.List.{AllByRecursion}
 use Rattle.std.specs.List.Sorted.{IsStrictlySortedBy}
 use Rattle.std.specs.Ordering.{nat_cmp, is_eq}
-use Rattle.std.specs.declared.cmp.Ordering.TheVariants.{Less, Equal, Greater}
+use Rattle.std.specs.declared.cmp.Ordering.TheVariants.{Less}
 use Rattle.std.specs.BTreeMap.{is_at}
 use Rattle.std.specs.Map.{keys_of}
-use Rattle.std.proofs.lemmas.Bool.{lt-ltb, le-ltb, eq-eqb, ne_eqb, eqb-true, cases_order}
-
-pub less_from : (a b : ℕ) → a < b → nat_cmp a b ≡ Less
-less_from a b h = ap (λ t. cond t Less (cond (eqb a b) Equal Greater)) (lt-ltb a b h)
-
-pub equal_from : (a b : ℕ) → a ≡ b → nat_cmp a b ≡ Equal
-equal_from a b h =
-    ap (λ t. cond t Less (cond (eqb a b) Equal Greater)) (le-ltb a b (omega arith))
-    ∙ ap (λ t. cond t Equal Greater) (eq-eqb a b h)
-
-pub greater_from : (a b : ℕ) → b < a → nat_cmp a b ≡ Greater
-greater_from a b h =
-    ap (λ t. cond t Less (cond (eqb a b) Equal Greater)) (le-ltb a b (omega arith))
-    ∙ ap (λ t. cond t Equal Greater) (ne_eqb a b (λ e. absurd (omega arith)))
+use Rattle.std.proofs.lemmas.Bool.{eq-eqb, ne_eqb, eqb-true, cases_order}
+use Rattle.tm_types.proofs.Ordered.{less_from, equal_from, greater_from}
 
 -- the test of a look-up is equality
 pub at_key : (id k : ℕ) → is_at (nat_cmp id) k ≡ eqb k id

@@ -12,8 +12,9 @@ use Rattle.std.proofs.lemmas.Map.{keys-set_value}
 use Rattle.std.proofs.lemmas.Map.Entries.{sum_by-set_value, sum_by-remove_entry, length-values_of}
 use Rattle.std.proofs.lemmas.List.Sums.{sum_by_push, count_by-le-length}
 use Rattle.std.proofs.lemmas.List.{map-append}
-use Rattle.msg_queues.specs.Places.{IsBehind, with_flag, without_id, weight, open_count, AreCounted}
-use Rattle.msg_queues.proofs.Keys.{at_key, key_is, greater_from, first_below, others_ascend}
+use Rattle.msg_queues.specs.Places.{IsIdBehind, with_flag, without_id, id_weight, unheld_count, AreIdsCounted}
+use Rattle.msg_queues.proofs.Keys.{at_key, key_is, first_below, others_ascend}
+use Rattle.tm_types.proofs.Ordered.{greater_from}
 
 abbrev AreAbove : ℕ → List (ℕ × Bool) → Type 0
 AreAbove id es = AllByRecursion (λ k. nat_cmp id k ≡ Less) (keys_of es)
@@ -62,7 +63,7 @@ id_removed id (e ∷ es) s = by (is_at (nat_cmp id) e.0) refl (id_removed id es 
         ∙ (ap (λ fs. e ∷ fs) rec
         ∙ ap (λ b. cond (not b) (e ∷ without_id id es) (without_id id es)) (sym (sym (at_key id e.0) ∙ q)))
 
-pub id_added : (id : ℕ) (held : Bool) (es : List (ℕ × Bool)) → IsBehind id es → insert_entry nat_cmp es id held ≡ es ++ (id, held) ∷ []
+pub id_added : (id : ℕ) (held : Bool) (es : List (ℕ × Bool)) → IsIdBehind id es → insert_entry nat_cmp es id held ≡ es ++ (id, held) ∷ []
 id_added id held [] g = refl
 id_added id held (e ∷ es) g =
     λ i. match_ordering (greater_from id e.0 g.0 i) ((id, held) ∷ e ∷ es) ((e.0, held) ∷ es) (e ∷ id_added id held es g.1 i)
@@ -78,23 +79,23 @@ set_none test held (f ∷ es) e = by (test f.0) e (set_none test held es)
 
 -- ---- the counts
 module _ (id : ℕ) (es fs : List (ℕ × Bool)) where
-  pub open_added : IsBehind id es → fs ≡ insert_entry nat_cmp es id false → open_count fs ≡ open_count es + 1
+  pub open_added : IsIdBehind id es → fs ≡ insert_entry nat_cmp es id false → unheld_count fs ≡ unheld_count es + 1
   open_added g e =
       let values : values_of fs ≡ values_of es ++ false ∷ [] = ap values_of (e ∙ id_added id false es g) ∙ map-append (λ (f : ℕ × Bool). f.1) es ((id, false) ∷ []) in
-      omega (arith, ap (λ bs. count_by (λ held. not held) bs) values, sum_by_push weight (values_of es) false)
+      omega (arith, ap (λ bs. count_by (λ held. not held) bs) values, sum_by_push id_weight (values_of es) false)
 
-  pub open_set : (held was : Bool) → lookup (is_at (nat_cmp id)) es ≡ Some was → fs ≡ set_value (is_at (nat_cmp id)) es held → open_count fs + weight was ≡ open_count es + weight held
-  open_set held was found e = ap (λ us. open_count us + weight was) e ∙ sum_by-set_value weight (is_at (nat_cmp id)) es was held found
+  pub open_set : (held was : Bool) → lookup (is_at (nat_cmp id)) es ≡ Some was → fs ≡ set_value (is_at (nat_cmp id)) es held → unheld_count fs + id_weight was ≡ unheld_count es + id_weight held
+  open_set held was found e = ap (λ us. unheld_count us + id_weight was) e ∙ sum_by-set_value id_weight (is_at (nat_cmp id)) es was held found
 
   pub open_taken : (r : Option Bool) → r ≡ lookup (is_at (nat_cmp id)) es → fs ≡ remove_entry (is_at (nat_cmp id)) es
-      → MatchOption r (open_count fs ≡ open_count es) (λ was. open_count fs + weight was ≡ open_count es)
+      → MatchOption r (unheld_count fs ≡ unheld_count es) (λ was. unheld_count fs + id_weight was ≡ unheld_count es)
   open_taken None found e =
-      omega (arith, ap open_count e, sum_by-remove_entry weight (is_at (nat_cmp id)) es, ap (λ o. unwrap_or (option_map weight o) 0) found)
+      omega (arith, ap unheld_count e, sum_by-remove_entry id_weight (is_at (nat_cmp id)) es, ap (λ o. unwrap_or (option_map id_weight o) 0) found)
   open_taken (Some was) found e =
-      omega (arith, ap open_count e, sum_by-remove_entry weight (is_at (nat_cmp id)) es, ap (λ o. unwrap_or (option_map weight o) 0) found)
+      omega (arith, ap unheld_count e, sum_by-remove_entry id_weight (is_at (nat_cmp id)) es, ap (λ o. unwrap_or (option_map id_weight o) 0) found)
 
   pub keys_set : (held : Bool) → IsStrictlySortedBy nat_cmp (keys_of es) → fs ≡ set_value (is_at (nat_cmp id)) es held → IsStrictlySortedBy nat_cmp (keys_of fs)
   keys_set held s e = subst (λ us. IsStrictlySortedBy nat_cmp (keys_of us)) (sym e) (subst (IsStrictlySortedBy nat_cmp) (sym (keys-set_value (is_at (nat_cmp id)) es held)) s)
 
-pub free_within : (es : List (ℕ × Bool)) (free : ℕ) → AreCounted es free → free ≤ length es
+pub free_within : (es : List (ℕ × Bool)) (free : ℕ) → AreIdsCounted es free → free ≤ length es
 free_within es free h = omega (arith, h.counted, count_by-le-length (λ held. not held) (values_of es), length-values_of es)

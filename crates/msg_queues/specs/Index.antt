@@ -7,7 +7,7 @@ use Rattle.std.specs.Option.{unwrap_or}
 use Rattle.std.specs.Ordering.{nat_cmp}
 use Rattle.std.specs.Str.{bytes_eq}
 use Rattle.model_messages.specs.declared.queued.Queued.{Queued}
-use Rattle.msg_queues.specs.Places.{places, conversing}
+use Rattle.msg_queues.specs.Places.{places, conversing_ids}
 
 -- what is kept under a name, nothing where the name isn't there
 abbrev pub of_name : List ℕ → List (List ℕ × List (ℕ × Bool)) → List (ℕ × Bool)
@@ -31,4 +31,4 @@ AreIndexed by_code queued = (code : List ℕ) → of_name code by_code ≡ place
 
 -- under each terminal the messages of its conversation are kept
 abbrev pub AreConversing : List (List ℕ × List (ℕ × Bool)) → List Queued → Type 0
-AreConversing by_terminal queued = (terminal : List ℕ) → of_name terminal by_terminal ≡ conversing terminal queued
+AreConversing by_terminal queued = (terminal : List ℕ) → of_name terminal by_terminal ≡ conversing_ids terminal queued

@@ -1,4 +1,4 @@
-pub mod Kept
-pub mod Refused
+pub mod KeptMessages
+pub mod RefusedInput
 pub mod Places
 pub mod Index

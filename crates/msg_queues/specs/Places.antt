@@ -7,24 +7,24 @@ use Rattle.std.specs.Option.{option_map, is_some}
 use Rattle.std.specs.Ordering.{nat_cmp}
 use Rattle.std.specs.Str.{bytes_eq}
 use Rattle.tm_types.specs.declared.message.Message.{Message}
-use Rattle.model_messages.specs.Input.{is_conversing}
+use Rattle.model_messages.specs.ConversationInput.{is_conversing}
 use Rattle.model_messages.specs.declared.queued.Queued.{Queued}
 
 -- the ids of the messages that pass the test, each with this flag
-abbrev pub ids_of : (Message → Bool) → (Queued → Bool) → List Queued → List (ℕ × Bool)
-ids_of test flag queued = map (λ q. (q.message.id, flag q)) (filter (λ q. test q.message) queued)
+abbrev pub flagged_ids : (Message → Bool) → (Queued → Bool) → List Queued → List (ℕ × Bool)
+flagged_ids test flag queued = map (λ q. (q.message.id, flag q)) (filter (λ q. test q.message) queued)
 
 -- what is kept of a code's messages: those that a region has are held
 abbrev pub places : List ℕ → List Queued → List (ℕ × Bool)
-places code queued = ids_of (λ message. bytes_eq message.code code) (λ q. is_some q.holder) queued
+places code queued = flagged_ids (λ message. bytes_eq message.code code) (λ q. is_some q.holder) queued
 
 -- what is kept of the messages of a terminal's conversation: none is held, whether a region has it or not
-abbrev pub conversing : List ℕ → List Queued → List (ℕ × Bool)
-conversing terminal queued = ids_of (is_conversing terminal) (λ _. false) queued
+abbrev pub conversing_ids : List ℕ → List Queued → List (ℕ × Bool)
+conversing_ids terminal queued = flagged_ids (is_conversing terminal) (λ _. false) queued
 
 -- an id above all others
-abbrev pub IsBehind : ℕ → List (ℕ × Bool) → Type 0
-IsBehind id places = AllByRecursion (λ place. place.0 < id) places
+abbrev pub IsIdBehind : ℕ → List (ℕ × Bool) → Type 0
+IsIdBehind id places = AllByRecursion (λ place. place.0 < id) places
 
 -- an id that isn't held, behind all others
 abbrev pub with_id : ℕ → List (ℕ × Bool) → List (ℕ × Bool)
@@ -41,14 +41,14 @@ abbrev pub first_open : List (ℕ × Bool) → Option ℕ
 first_open places = option_map (λ place. place.0) (find (λ place. not place.1) places)
 
 -- how many ids aren't held
-abbrev pub open_count : List (ℕ × Bool) → ℕ
-open_count places = count_by (λ held. not held) (values_of places)
+abbrev pub unheld_count : List (ℕ × Bool) → ℕ
+unheld_count places = count_by (λ held. not held) (values_of places)
 
 -- how many an id with this flag counts
-abbrev pub weight : Bool → ℕ
-weight held = if not held then 1 else 0
+abbrev pub id_weight : Bool → ℕ
+id_weight held = if not held then 1 else 0
 
 -- the ids ascend, and those that aren't held are counted
-pub record AreCounted (places : List (ℕ × Bool)) (free : ℕ) : Type 0 where
+pub record AreIdsCounted (places : List (ℕ × Bool)) (free : ℕ) : Type 0 where
   pub ascending : IsStrictlySortedBy nat_cmp (keys_of places)
-  pub counted : free ≡ open_count places
+  pub counted : free ≡ unheld_count places

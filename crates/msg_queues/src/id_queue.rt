@@ -3,7 +3,7 @@ ghost use Rattle.std.specs.Prelude.{◌≡◌, ◌+◌, [], OnOk, OnErr, MatchOp
 ghost use Rattle.std.specs.Map.{keys_of};
 ghost use Rattle.std.specs.List.Sorted.{IsStrictlySortedBy};
 ghost use Rattle.std.specs.Ordering.{nat_cmp};
-ghost use Rattle.msg_queues.specs.Places.{IsBehind, with_id, with_flag, without_id, weight, first_open, open_count};
+ghost use Rattle.msg_queues.specs.Places.{IsIdBehind, with_id, with_flag, without_id, id_weight, first_open, unheld_count};
 
 use std::alloc::Global;
 use std::collections::BTreeMap;
@@ -19,13 +19,13 @@ pub struct IdQueue {
 
 impl Model for IdQueue {
     ghost use Rattle.std.specs.Prelude.{ℕ, List, Bool};
-    ghost use Rattle.msg_queues.specs.Places.{AreCounted};
+    ghost use Rattle.msg_queues.specs.Places.{AreIdsCounted};
 
     ghost Value = { List (ℕ × Bool) };
 
     ghost view = { λ q. q.ids.entries };
 
-    ghost invariant = { λ q. AreCounted q.ids.entries q.free };
+    ghost invariant = { λ q. AreIdsCounted q.ids.entries q.free };
 }
 
 impl IdQueue {
@@ -41,7 +41,7 @@ impl IdQueue {
 
     /// Adds an id, which isn't held, behind all others.
     pub fn push(&mut self, id: u64) -> Result<(), Memory>
-        requires { IsBehind id self.old }
+        requires { IsIdBehind id self.old }
         ensures ok { OnOk result (self.new ≡ with_id id self.old) }
         ensures err { OnErr result (self.new ≡ self.old) }
     {
@@ -86,23 +86,23 @@ impl IdQueue {
 
     /// How many ids aren't held.
     pub fn free(&self) -> usize
-        ensures { result ≡ open_count self.now }
+        ensures { result ≡ unheld_count self.now }
     {
         self.free
     }
 }
 
 fn weight(held: bool) -> usize
-    ensures { result ≡ weight held }
+    ensures { result ≡ id_weight held }
 {
     if held { 0 } else { 1 }
 }
 
 // Adds an id, which isn't held, behind all others.
 fn add_flag(ids: &mut BTreeMap<u64, bool>, id: u64) -> Result<(), Memory>
-    requires { IsBehind id ids.old.entries }
+    requires { IsIdBehind id ids.old.entries }
     ensures ok { OnOk result (ids.new.entries ≡ with_id id ids.old.entries) }
-    ensures count { OnOk result (open_count ids.new.entries ≡ open_count ids.old.entries + 1) }
+    ensures count { OnOk result (unheld_count ids.new.entries ≡ unheld_count ids.old.entries + 1) }
     ensures err { OnErr result (ids.new.entries ≡ ids.old.entries) }
     ensures ordered { IsStrictlySortedBy nat_cmp (keys_of ids.new.entries) }
 {
@@ -115,7 +115,7 @@ fn add_flag(ids: &mut BTreeMap<u64, bool>, id: u64) -> Result<(), Memory>
 // Notes whether this id is held, and answers whether it was before.
 fn set_flag(ids: &mut BTreeMap<u64, bool>, id: u64, held: bool) -> Option<bool>
     ensures value { ids.new.entries ≡ with_flag id held ids.old.entries }
-    ensures count { MatchOption result (open_count ids.new.entries ≡ open_count ids.old.entries) (λ was. open_count ids.new.entries + weight was ≡ open_count ids.old.entries + weight held) }
+    ensures count { MatchOption result (unheld_count ids.new.entries ≡ unheld_count ids.old.entries) (λ was. unheld_count ids.new.entries + id_weight was ≡ unheld_count ids.old.entries + id_weight held) }
     ensures ordered { IsStrictlySortedBy nat_cmp (keys_of ids.new.entries) }
 {
     let _count = ids.len();
@@ -132,7 +132,7 @@ fn set_flag(ids: &mut BTreeMap<u64, bool>, id: u64, held: bool) -> Option<bool>
 // Removes an id, and answers whether it was held.
 fn take_flag(ids: &mut BTreeMap<u64, bool>, id: u64) -> Option<bool>
     ensures value { ids.new.entries ≡ without_id id ids.old.entries }
-    ensures count { MatchOption result (open_count ids.new.entries ≡ open_count ids.old.entries) (λ was. open_count ids.new.entries + weight was ≡ open_count ids.old.entries) }
+    ensures count { MatchOption result (unheld_count ids.new.entries ≡ unheld_count ids.old.entries) (λ was. unheld_count ids.new.entries + id_weight was ≡ unheld_count ids.old.entries) }
     ensures ordered { IsStrictlySortedBy nat_cmp (keys_of ids.new.entries) }
 {
     let _count = ids.len();

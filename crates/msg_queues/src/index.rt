@@ -3,7 +3,7 @@ ghost use Rattle.std.specs.Prelude.{◌≡◌, None, OnOk, OnErr};
 ghost use Rattle.std.specs.Ordering.{nat_cmp};
 ghost use Rattle.std.specs.Cmp.Lexicographic.{slice_cmp};
 ghost use Rattle.std.specs.BTreeMap.{get};
-ghost use Rattle.msg_queues.specs.Places.{IsBehind, with_id, with_flag, without_id, first_open, open_count};
+ghost use Rattle.msg_queues.specs.Places.{IsIdBehind, with_id, with_flag, without_id, first_open, unheld_count};
 ghost use Rattle.msg_queues.specs.Index.{of_name, when, ChangesName, KeepsNames};
 
 use crate::id_queue::IdQueue;
@@ -19,8 +19,8 @@ pub fn put(
     alloc: Global,
     message: &Message,
 ) -> Result<(), Memory>
-    requires code { IsBehind message.now.id (of_name message.now.code by_code.old.entries) }
-    requires terminal { IsBehind message.now.id (of_name message.now.origin by_terminal.old.entries) }
+    requires code { IsIdBehind message.now.id (of_name message.now.code by_code.old.entries) }
+    requires terminal { IsIdBehind message.now.id (of_name message.now.origin by_terminal.old.entries) }
     ensures code { OnOk result (ChangesName message.now.code (with_id message.now.id) by_code.old.entries by_code.new.entries) }
     ensures terminal { OnOk result (ChangesName message.now.origin (when message.now.conversation (with_id message.now.id)) by_terminal.old.entries by_terminal.new.entries) }
     ensures code_err { OnErr result (KeepsNames by_code.old.entries by_code.new.entries) }
@@ -54,7 +54,7 @@ fn push_conversing(
     alloc: Global,
     message: &Message,
 ) -> Result<(), Memory>
-    requires { IsBehind message.now.id (of_name message.now.origin by_terminal.old.entries) }
+    requires { IsIdBehind message.now.id (of_name message.now.origin by_terminal.old.entries) }
     ensures ok { OnOk result (ChangesName message.now.origin (when message.now.conversation (with_id message.now.id)) by_terminal.old.entries by_terminal.new.entries) }
     ensures err { OnErr result (KeepsNames by_terminal.old.entries by_terminal.new.entries) }
 {
@@ -80,7 +80,7 @@ fn push(
     name: &Name,
     id: u64,
 ) -> Result<(), Memory>
-    requires { IsBehind id (of_name name.now by_name.old.entries) }
+    requires { IsIdBehind id (of_name name.now by_name.old.entries) }
     ensures ok { OnOk result (ChangesName name.now (with_id id) by_name.old.entries by_name.new.entries) }
     ensures err { OnErr result (KeepsNames by_name.old.entries by_name.new.entries) }
 {
@@ -139,7 +139,7 @@ pub fn first_free(by_name: &BTreeMap<Name, IdQueue>, name: &Name) -> Option<u64>
 
 /// How many ids of the name aren't held.
 pub fn free_count(by_name: &BTreeMap<Name, IdQueue>, name: &Name) -> usize
-    ensures { result ≡ open_count (of_name name.now by_name.now.entries) }
+    ensures { result ≡ unheld_count (of_name name.now by_name.now.entries) }
 {
     match by_name.get(name) {
         Some(queue) => queue.free(),

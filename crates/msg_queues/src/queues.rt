@@ -3,9 +3,9 @@ ghost use Rattle.std.specs.Prelude.{◌≡◌, ◌+◌, ◌<◌, ◌≤◌, ◌^
 ghost use Rattle.std.specs.Option.{option_copied, option_and_then};
 ghost use Rattle.std.specs.Map.{values_of};
 ghost use Rattle.model_messages.specs.Room.{message_bytes, messages_bytes, input_needs};
-ghost use Rattle.model_messages.specs.Queue.{IsNewId, AreInOrder, messages_of, queued_at, message_at, with_message, with_holder, without, first_free, free_count};
-ghost use Rattle.model_messages.specs.Input.{busy_id};
-ghost use Rattle.msg_queues.specs.Refused.{RefusesInput};
+ghost use Rattle.model_messages.specs.Queue.{IsNewId, AreInOrder, messages_of, queued_at, queued_message, with_message, with_holder, without_id_queued, first_free, free_count};
+ghost use Rattle.model_messages.specs.ConversationInput.{busy_id};
+ghost use Rattle.msg_queues.specs.RefusedInput.{RefusesInput};
 
 use crate::id_queue::IdQueue;
 use crate::{entries, index};
@@ -45,13 +45,13 @@ pub struct Queues {
 impl Model for Queues {
     ghost use Rattle.std.specs.Map.{values_of};
     ghost use Rattle.model_messages.specs.Queue.{QueuesState};
-    ghost use Rattle.msg_queues.specs.Kept.{AreKept};
+    ghost use Rattle.msg_queues.specs.KeptMessages.{AreMessagesKept};
 
     ghost Value = { QueuesState };
 
     ghost view = { λ q. record { limit = q.limit; queued = values_of q.messages.entries } };
 
-    ghost invariant = { λ q. AreKept q.messages.entries q.content q.by_code.entries q.by_terminal.entries };
+    ghost invariant = { λ q. AreMessagesKept q.messages.entries q.content q.by_code.entries q.by_terminal.entries };
 }
 
 impl Queues {
@@ -188,7 +188,7 @@ impl Queues {
     /// Removes a message, whether a region has it or none. This takes no memory.
     pub fn remove(&mut self, id: u64)
         requires { IsSome (queued_at id self.old.queued) }
-        ensures { self.new ≡ record self.old { queued = without id self.old.queued } }
+        ensures { self.new ≡ record self.old { queued = without_id_queued id self.old.queued } }
     {
         let Some(message) = entries::remove(&mut self.messages, id) else {
             unreachable!()
@@ -199,7 +199,7 @@ impl Queues {
 
     /// The message of this id.
     pub fn find(&self, id: u64) -> Option<&Message>
-        ensures { option_copied result ≡ message_at id self.now.queued }
+        ensures { option_copied result ≡ queued_message id self.now.queued }
     {
         match self.messages.get(&id) {
             Some(queued) => Some(&queued.message),
@@ -209,7 +209,7 @@ impl Queues {
 
     /// The segment of a message at this place, counted from 0.
     pub fn segment(&self, id: u64, place: u32) -> Option<&Segment>
-        ensures { option_copied result ≡ option_and_then (λ message. slice_get message.segments place) (message_at id self.now.queued) }
+        ensures { option_copied result ≡ option_and_then (λ message. slice_get message.segments place) (queued_message id self.now.queued) }
     {
         match self.find(id) {
             Some(message) => message.segments.get(place as usize),

@@ -5,11 +5,11 @@ use Rattle.model_system.specs.System.{System}
 use Rattle.model_machine.specs.Machine.{LastingState}
 use Rattle.restart_data.specs.declared.restart.RestartSector.{RestartSector}
 use Rattle.restart_data.specs.Restart.{IsRestart}
-use Rattle.checkpointing.specs.Records.{snapshot_records}
+use Rattle.checkpointing.specs.SnapshotRecords.{snapshot_records}
 use Rattle.checkpointing.specs.Counts.{CountsUpTo, RaisesCounts}
 use Rattle.checkpointing.proofs.Counted.{begun_up_to}
-use Rattle.openings.specs.Parts.{OpeningParts}
-use Rattle.openings.specs.Opening.{IsReopened}
+use Rattle.openings.specs.OpeningParts.{OpeningParts}
+use Rattle.openings.specs.OpenedImage.{IsReopened}
 use Rattle.openings.specs.Renewal.{IsRenewed}
 
 -- A life that begins counts as its restart sector and its next unit say.

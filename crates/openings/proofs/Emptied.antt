@@ -14,14 +14,15 @@ use Rattle.std.proofs.lemmas.List.Sums.{sum_by-cons}
 use Rattle.model_system.specs.System.{System}
 use Rattle.model_machine.specs.Machine.{empty_state, fresh_terminal_state, first_setting}
 use Rattle.restart_data.specs.Restart.{restart_of}
-use Rattle.restart_data.specs.Rules.{first_broken, unless_broken}
+use Rattle.restart_data.specs.Rules.{first_broken, unless_rule_broken}
 use Rattle.restart_data.specs.Restart.{restart_rules, fields_of}
 use Rattle.restart_data.specs.Fields.{are_zeros}
-use Rattle.restart_data.proofs.Zeros.{blank_is, are_zeros-zeros}
+use Rattle.restart_data.proofs.Zeros.{are_zeros-zeros}
 use Rattle.model_image.specs.States.{is_small, is_next, has_right_pad, run_up_to, breaks_a_rule, is_setting}
-use Rattle.checkpointing.specs.Records.{IsOfSystem}
+use Rattle.checkpointing.specs.SnapshotRecords.{IsOfSystem}
 use Rattle.system_types.specs.Definitions.{IsTransaction}
-use Rattle.system_types.specs.Valid.{IsSystem}
+use Rattle.system_types.specs.ValidSystem.{IsSystem}
+use Rattle.tm_disk.proofs.Zeros.{blank_is}
 
 -- ---- the empty state keeps the rules
 
@@ -90,4 +91,4 @@ empty_is system = record {
 pub blank_restart : (most : ℕ) → restart_of most blank ≡ Ok None
 unfolding restart_of
 blank_restart most =
-    ap (λ (b : Bool). if b then Ok None else unless_broken (first_broken (restart_rules most blank)) (Some (fields_of blank))) (ap are_zeros blank_is ∙ are_zeros-zeros 4096)
+    ap (λ (b : Bool). if b then Ok None else unless_rule_broken (first_broken (restart_rules most blank)) (Some (fields_of blank))) (ap are_zeros blank_is ∙ are_zeros-zeros 4096)

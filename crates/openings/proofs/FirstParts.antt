@@ -7,11 +7,11 @@ use Rattle.model_messages.specs.Outputs.{fresh_terminal}
 use Rattle.model_system.specs.declared.code.Code.{Code}
 use Rattle.model_system.specs.declared.code_state.CodeState.{CodeState}
 use Rattle.model_system.specs.System.{System}
-use Rattle.model_machine.specs.Machine.{empty_state, fresh_terminal_state, first_setting, states_by, states_of, start_of, state_by, raised_by, raised_now}
+use Rattle.model_machine.specs.Machine.{empty_state, fresh_terminal_state, first_setting, states_by, states_of, start_of, code_state_by, raised_by, raised_now}
 use Rattle.system_types.specs.Codes.{first_state}
 use Rattle.seg_store.specs.Slots.{Stored, rows_of_slots, free_slots}
 use Rattle.seg_store.specs.Stores.{empty_stores, no_changed}
-use Rattle.openings.specs.Parts.{OpeningParts, AreOpeningParts}
+use Rattle.openings.specs.OpeningParts.{OpeningParts, AreOpeningParts}
 
 -- ---- the flags
 
@@ -21,7 +21,7 @@ not_raised code waiting none = rw (none) refl
 states_first : (waiting : List ℕ → ℕ) → ((code : List ℕ) → waiting code ≡ 0) → (codes : List Code) → states_by (map first_setting codes) (raised_now waiting codes (map {A = Code} {B = Bool} (λ _. false) codes)) ≡ map first_state codes
 states_first waiting none [] = refl
 states_first waiting none (code ∷ codes) =
-    ap (λ (raised : Bool). state_by (first_setting code) raised ∷ states_by (map first_setting codes) (raised_now waiting codes (map {A = Code} {B = Bool} (λ _. false) codes))) (not_raised code (waiting code.transaction.code) (none code.transaction.code))
+    ap (λ (raised : Bool). code_state_by (first_setting code) raised ∷ states_by (map first_setting codes) (raised_now waiting codes (map {A = Code} {B = Bool} (λ _. false) codes))) (not_raised code (waiting code.transaction.code) (none code.transaction.code))
     ∙ ap (λ (states : List CodeState). first_state code ∷ states) (states_first waiting none codes)
 
 -- no flag is raised in the empty machine

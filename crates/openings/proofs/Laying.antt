@@ -1,24 +1,16 @@
 -- Sectors are filled one by one.
 use Rattle.std.proofs.Common.{◌≡◌, ℕ, ◌+◌, ◌-◌, ◌<◌, ◌≤◌, List, [], ◌++◌, length, take, drop, refl, sym, ◌∙◌, ap, subst, ⊎_elim, arith}
 use Rattle.std.proofs.lemmas.Bool.{cases_lt}
-use Rattle.std.proofs.lemmas.List.{get_or-set_same, get_or-set_other, length-set}
-use Rattle.tm_disk.specs.Disk.{Image, DiskState, sector_at, with_sector, Follows, Within}
+use Rattle.std.proofs.lemmas.List.{get_or-set_same, get_or-set_other}
+use Rattle.tm_disk.specs.Disk.{Image, DiskState, sector_at, with_sector, Follows, Within, ChangesOnly}
 use Rattle.tm_disk.specs.Sector.{zeros, blank}
-use Rattle.restart_data.specs.Images.{ChangesOnly}
-use Rattle.restart_data.proofs.Laying.{changes_none}
-use Rattle.restart_data.proofs.Zeros.{blank_is, drop-zeros}
-use Rattle.openings.specs.Filling.{Fills, KeepsRestart}
+use Rattle.restart_data.proofs.Laying.{changes_none, changes_write}
+use Rattle.openings.specs.ColdWrites.{Fills, KeepsRestart}
 use Rattle.tm_disk.proofs.Words.{follows_on, within_within, follows_same}
+use Rattle.tm_disk.proofs.Zeros.{blank_is, drop-zeros}
 
 pub fills_none : (each : ℕ → List ℕ) (at : ℕ) (image : Image) → Fills each at 0 image image
 fills_none each at image = record { changes = changes_none at 0 image; filled = λ x lt. absurd (omega (arith, lt)) }
-
-changes_write : (at count p : ℕ) (before mid : Image) (sector : List ℕ) → at ≤ p → p < at + count → ChangesOnly at count before mid → ChangesOnly at count before (with_sector mid p sector)
-changes_write at count p before mid sector low high changes = record {
-  size = length-set mid p sector ∙ changes.size;
-  below = λ k lt. get_or-set_other mid p k sector [] (λ e. omega (arith, e, low, lt)) ∙ changes.below k lt;
-  above = λ k far. get_or-set_other mid p k sector [] (λ e. omega (arith, e, high, far)) ∙ changes.above k far;
-}
 
 pub fills_step : (each : ℕ → List ℕ) (at n p : ℕ) (before mid after : Image) (sector : List ℕ) → p ≡ at + n → p < length mid → sector ≡ each n → Fills each at n before mid → after ≡ with_sector mid p sector → Fills each at (n + 1) before after
 fills_step each at n p before mid after sector is within right fills new =

@@ -1,10 +1,9 @@
 pub mod Laying
 pub mod ThreeSteps
 pub mod Emptied
-pub mod Names
 pub mod FirstSnapshot
 pub mod FirstWritten
-pub mod OpeningPartsMade
+pub mod StoresMade
 pub mod Opened
 pub mod Walked
 pub mod Reading

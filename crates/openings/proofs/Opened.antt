@@ -13,12 +13,12 @@ use Rattle.model_system.specs.declared.code_state.CodeState.{CodeState}
 use Rattle.model_system.specs.System.{System}
 use Rattle.model_machine.specs.declared.lasting.CodeSetting.{CodeSetting}
 use Rattle.model_machine.specs.Machine.{LastingState, Slot, is_held, states_by, states_of, start_of, raised_now, waiting_now}
-use Rattle.image_records.specs.Kept.{KeptState, kept_of, free_message}
+use Rattle.image_records.specs.KeptState.{KeptState, kept_of, free_message}
 use Rattle.seg_store.specs.Slots.{rows_of_slots}
-use Rattle.seg_store.specs.Changed.{Kept, AllStores, stored, all_stores}
+use Rattle.seg_store.specs.ChangedSlots.{Kept, AllStores, stored, all_stores}
 use Rattle.seg_store.specs.Stores.{no_changed}
-use Rattle.openings.specs.Parts.{OpeningParts, AreOpeningParts}
-use Rattle.openings.specs.Shown.{opening_state, opening_states}
+use Rattle.openings.specs.OpeningParts.{OpeningParts, AreOpeningParts}
+use Rattle.openings.specs.OpeningState.{opening_state, opening_states}
 
 -- ---- the codes
 

@@ -7,8 +7,8 @@ use Rattle.model_system.specs.System.{System}
 use Rattle.model_machine.specs.Machine.{LastingState}
 use Rattle.openings.specs.declared.refusals.OpenError.{OpenError}
 use Rattle.openings.specs.declared.refusals.OpenError.TheVariants.{BadImage, WrongDefinition, TooSmall, Spent, Disk, Memory}
-use Rattle.openings.specs.Parts.{OpeningParts}
-use Rattle.openings.specs.Opening.{SizeFirst, OpeningCause, WroteNothing}
+use Rattle.openings.specs.OpeningParts.{OpeningParts}
+use Rattle.openings.specs.OpenedImage.{SizeFirst, OpeningCause, WroteNothing}
 
 pub read_only : (old mid : DiskState) → Keeps old mid → Only old.shown old → Only mid.shown mid
 read_only old mid keeps only image left = only image (keeps.no_more image left) ∙ sym keeps.shown

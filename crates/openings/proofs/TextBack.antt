@@ -5,7 +5,7 @@ use Rattle.std.proofs.lemmas.List.{take_all, drop_all, drop-drop, take-append-le
 use Rattle.std.proofs.Math.Seq.{take-append-add}
 use Rattle.tm_disk.specs.Disk.{Image, sector_at}
 use Rattle.tm_disk.specs.Sector.{zeros}
-use Rattle.openings.specs.Filling.{text_sectors, text_piece, text_sector}
+use Rattle.openings.specs.ColdWrites.{text_sectors, text_piece, text_sector}
 use Rattle.model_image.specs.Text.{bytes_from, text_in}
 
 no_zeros : (n : ℕ) → n ≡ 0 → zeros n ≡ []

@@ -7,11 +7,11 @@ use Rattle.tm_disk.proofs.Words.{within_where, follows_where, follows_on, follow
 use Rattle.tm_disk.specs.Sector.{blank}
 use Rattle.restart_data.specs.declared.restart.RestartSector.{RestartSector}
 use Rattle.restart_data.specs.Restart.{IsRestart, restart_sector}
-use Rattle.restart_data.specs.Snapshot.{sectors_of}
-use Rattle.restart_data.specs.Images.{Restarts}
+use Rattle.restart_data.specs.Snapshot.{snapshot_sectors_of}
+use Rattle.restart_data.specs.WrittenSectors.{Restarts}
 use Rattle.restart_data.proofs.ImageLaws.{restart_either, others_stay, restart_keeps_snapshots}
 use Rattle.openings.specs.declared.laying_cold.Places.{Places}
-use Rattle.openings.specs.Filling.{Clears, KeepsRestart, IsLaid, IsWritten, Begins}
+use Rattle.openings.specs.ColdWrites.{Clears, KeepsRestart, IsLaid, IsColdWritten, BeginsCold}
 
 -- one run after another, where more is known of the end of the first
 within_then : (first middle second both : Image → Image → Type 0) (old mid new : DiskState) → ((a c : Image) → first a c → both a c) → ((a b c : Image) → middle a b → second b c → both a c)
@@ -48,12 +48,12 @@ kept_clear : (a b c : Image) → IsCleared a b → KeepsRestart b c → IsCleare
 kept_clear a b c one two = record { size = two.size ∙ one.size; zeros = two.restart ∙ one.zeros }
 
 -- a restart sector is written over what was laid
-laid_on : (places : Places) (text bytes : List ℕ) (now : RestartSector) (before after : Image) → 65 ≤ places.snapshot → places.snapshot ≤ places.blanks → IsLaid places text bytes before → Restarts now before after → IsWritten places text bytes now after
+laid_on : (places : Places) (text bytes : List ℕ) (now : RestartSector) (before after : Image) → 65 ≤ places.snapshot → places.snapshot ≤ places.blanks → IsLaid places text bytes before → Restarts now before after → IsColdWritten places text bytes now after
 laid_on places text bytes now before after first apart laid restarts = record {
   laid = record {
     has_text = λ x lt. others_stay now before after restarts (1 + x) (omega arith) ∙ laid.has_text x lt;
     blanks = λ x lt. others_stay now before after restarts (places.blanks + x) (omega (arith, first, apart)) ∙ laid.blanks x lt;
-    snapshot = restart_keeps_snapshots now before after restarts (sectors_of (length bytes)) places.snapshot 1 (omega (arith, first)) ∙ laid.snapshot;
+    snapshot = restart_keeps_snapshots now before after restarts (snapshot_sectors_of (length bytes)) places.snapshot 1 (omega (arith, first)) ∙ laid.snapshot;
   };
   restart = restarts.read;
 }
@@ -62,17 +62,17 @@ module _ (places : Places) (text bytes : List ℕ) (now : RestartSector) (old : 
   sized : (image : Image) → old.may_leave image → 0 < length image
   sized image left = omega (arith, some, is_disk.image_size old.clock image (is_disk.now_counts old.clock image (omega arith) left))
 
-  pub begins_first : (mid : DiskState) → Within (MayWrite 0 blank) old mid → Within (Begins places text bytes now) old mid
+  pub begins_first : (mid : DiskState) → Within (MayWrite 0 blank) old mid → Within (BeginsCold places text bytes now) old mid
   begins_first mid within =
-      within_where (MayWrite 0 blank) (Begins places text bytes now) old mid
+      within_where (MayWrite 0 blank) (BeginsCold places text bytes now) old mid
       (λ before image left may. ⊎_elim (λ same. inl same) (λ (cleared : IsCleared before image). inr (inl cleared.zeros)) (may_clear before image (sized before left) may)) within
 
   cleared_follows : (mid : DiskState) → Follows Clears old mid → Follows IsCleared old mid
   cleared_follows mid follows = follows_where Clears IsCleared old mid (λ before image left is. clears before image (sized before left) is) follows
 
-  pub begins_second : (mid new : DiskState) → Within (MayWrite 0 blank) old mid → Follows Clears old mid → Within KeepsRestart mid new → Within (Begins places text bytes now) old new
+  pub begins_second : (mid new : DiskState) → Within (MayWrite 0 blank) old mid → Follows Clears old mid → Within KeepsRestart mid new → Within (BeginsCold places text bytes now) old new
   begins_second mid new within follows after =
-      within_then (Begins places text bytes now) IsCleared KeepsRestart (Begins places text bytes now) old mid new (λ a c one. one)
+      within_then (BeginsCold places text bytes now) IsCleared KeepsRestart (BeginsCold places text bytes now) old mid new (λ a c one. one)
       (λ a b c one two. inr (inl (kept_clear a b c one two).zeros)) (begins_first mid within) (cleared_follows mid follows) after
 
   pub prepared : (mid new : DiskState) → IsDisk mid → IsDisk new → new.tells ≡ mid.tells → Follows Clears old mid → Follows KeepsRestart mid new → (IsTrue mid.tells → IsLaid places text bytes new.shown) → Only new.shown new → Follows (IsPrepared places text bytes) old new
@@ -89,9 +89,9 @@ module _ (places : Places) (text bytes : List ℕ) (now : RestartSector) (old : 
     prepared_size : (a b : Image) → old.may_leave a → IsPrepared places text bytes a b → 0 < length b
     prepared_size a b left prepared = omega (arith, sized a left, prepared.cleared.size)
 
-    pub begins_third : (mid last new : DiskState) → IsDisk last → 0 < last.size → Within (Begins places text bytes now) old last → Follows (IsPrepared places text bytes) old last → Within (MayWrite 0 (restart_sector now)) last new → Within (Begins places text bytes now) old new
+    pub begins_third : (mid last new : DiskState) → IsDisk last → 0 < last.size → Within (BeginsCold places text bytes now) old last → Follows (IsPrepared places text bytes) old last → Within (MayWrite 0 (restart_sector now)) last new → Within (BeginsCold places text bytes now) old new
     begins_third mid last new last_disk more within follows after =
-        within_then (Begins places text bytes now) (IsPrepared places text bytes) (λ b c. (0 < length b) × MayWrite 0 (restart_sector now) b c) (Begins places text bytes now) old last new (λ a c one. one)
+        within_then (BeginsCold places text bytes now) (IsPrepared places text bytes) (λ b c. (0 < length b) × MayWrite 0 (restart_sector now) b c) (BeginsCold places text bytes now) old last new (λ a c one. one)
         (λ a b c one two.
         ⊎_elim
         (λ (same : c ≡ b). inr (inl (ap (λ (i : Image). sector_at i 0) same ∙ one.cleared.zeros)))
@@ -101,9 +101,9 @@ module _ (places : Places) (text bytes : List ℕ) (now : RestartSector) (old : 
         (within_where (MayWrite 0 (restart_sector now)) (λ b c. (0 < length b) × MayWrite 0 (restart_sector now) b c) last new
         (λ b c left may. (omega (arith, more, last_disk.image_size last.clock b (last_disk.now_counts last.clock b (omega arith) left)), may)) after)
 
-    pub written_all : (last new : DiskState) → Follows (IsPrepared places text bytes) old last → Follows (Restarts now) last new → Follows (λ before after. IsWritten places text bytes now after) old new
+    pub written_all : (last new : DiskState) → Follows (IsPrepared places text bytes) old last → Follows (Restarts now) last new → Follows (λ before after. IsColdWritten places text bytes now after) old new
     written_all last new before after =
-        follows_on (IsPrepared places text bytes) (Restarts now) (λ before after. IsWritten places text bytes now after) old last new
+        follows_on (IsPrepared places text bytes) (Restarts now) (λ before after. IsColdWritten places text bytes now after) old last new
         (λ a b c one two. laid_on places text bytes now b c first apart one.laid two) before after
 
 pub on_ok : {A E P Q : Type 0} (r : Result A E) → (P → Q) → OnOk r P → OnOk r Q

@@ -9,8 +9,8 @@ use Rattle.restart_data.specs.declared.restart.RestartSector.{RestartSector}
 use Rattle.restart_data.specs.Restart.{restart_in}
 use Rattle.restart_data.specs.Snapshot.{snapshot_in}
 use Rattle.model_image.specs.Areas.{snapshot_area, snapshot_first, log_first, data_first}
-use Rattle.checkpointing.specs.Records.{snapshot_records}
-use Rattle.openings.specs.Filling.{text_sectors, text_sector}
+use Rattle.checkpointing.specs.SnapshotRecords.{snapshot_records}
+use Rattle.openings.specs.ColdWrites.{text_sectors, text_sector}
 
 -- how many sectors a disk of the system has at least
 abbrev pub sectors_needed : System → ℕ
@@ -21,7 +21,7 @@ abbrev pub first_records : System → List Record
 first_records system = snapshot_records 1 1 (empty_state system) []
 
 -- a cold start begins to count at 1, with the first areas
-pub record IsFirst (now : RestartSector) : Type 0 where
+pub record IsFirstRestart (now : RestartSector) : Type 0 where
   pub epoch : now.epoch ≡ 1
   pub checkpoint : now.checkpoint ≡ 1
   pub sequence : now.sequence ≡ 1

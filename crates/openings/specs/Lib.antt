@@ -1,10 +1,10 @@
 pub mod FirstImage
-pub mod Filling
-pub mod Parts
-pub mod Shown
+pub mod ColdWrites
+pub mod OpeningParts
+pub mod OpeningState
 pub mod Renewal
-pub mod Opening
-pub mod Keeping
-pub mod Opened
+pub mod OpenedImage
+pub mod KeptImage
+pub mod LifeBeginning
 pub mod Faults
-pub mod Made
+pub mod MadeParts

@@ -7,10 +7,10 @@ use Rattle.restart_data.specs.declared.restart.RestartSector.{RestartSector}
 use Rattle.restart_data.specs.Restart.{restart_in}
 use Rattle.log_writer.specs.Writer.{Writer}
 use Rattle.model_image.specs.Areas.{snapshot_area, log_first}
-use Rattle.model_image.specs.Ahead.{NoneAhead}
+use Rattle.model_image.specs.SectorsAhead.{NoneAhead}
 use Rattle.model_image.specs.Counters.{next_sequence}
-use Rattle.model_image.specs.Recovered.{Recovers, snapshot_from}
-use Rattle.checkpointing.specs.Records.{snapshot_records}
+use Rattle.model_image.specs.RecoveredState.{Recovers, snapshot_from}
+use Rattle.checkpointing.specs.SnapshotRecords.{snapshot_records}
 use Rattle.model_image.specs.Text.{text_in}
 
 -- the log's writer at the start of the area that a restart sector names

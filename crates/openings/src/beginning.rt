@@ -2,7 +2,7 @@
 ghost use Rattle.std.specs.Prelude.{◌≡◌, ◌+◌, ◌*◌, ◌≤◌, ◌<◌, ◌^◌, length, OnOk, OnErr};
 ghost use Rattle.tm_disk.specs.Disk.{Stays, Within, Follows, Only, FailedSince};
 ghost use Rattle.restart_data.specs.Restart.{IsRestart};
-ghost use Rattle.openings.specs.Filling.{Begins, IsWritten};
+ghost use Rattle.openings.specs.ColdWrites.{BeginsCold, IsColdWritten};
 
 use crate::clearing::clear_restart;
 use crate::laying_cold::{Places, lay};
@@ -27,8 +27,8 @@ pub(crate) fn begin<D: Disk>(
     requires value { IsRestart now.now }
     requires short { now.now.sectors < 2 ^ 32 }
     ensures stays { Stays (D.state disk.old) (D.state disk.new) }
-    ensures any_moment { Within (Begins places.now text.now bytes.now now.now) (D.state disk.old) (D.state disk.new) }
-    ensures done { OnOk result (Follows (λ before after. IsWritten places.now text.now bytes.now now.now after) (D.state disk.old) (D.state disk.new)) }
+    ensures any_moment { Within (BeginsCold places.now text.now bytes.now now.now) (D.state disk.old) (D.state disk.new) }
+    ensures done { OnOk result (Follows (λ before after. IsColdWritten places.now text.now bytes.now now.now after) (D.state disk.old) (D.state disk.new)) }
     ensures synced { OnOk result (Only (D.state disk.new).shown (D.state disk.new)) }
     ensures no_fault { OnOk result ((D.state disk.new).faults ≡ (D.state disk.old).faults) }
     ensures cause { OnErr result (FailedSince (D.state disk.old) (D.state disk.new)) }

@@ -2,7 +2,7 @@
 ghost use Rattle.std.specs.Prelude.{◌≡◌, ◌<◌, IsTrue, OnOk, OnErr};
 ghost use Rattle.tm_disk.specs.Disk.{Stays, Within, Follows, Only, MayWrite, WritesAtMost, FailedSince, with_sector};
 ghost use Rattle.tm_disk.specs.Sector.{blank};
-ghost use Rattle.openings.specs.Filling.{Clears};
+ghost use Rattle.openings.specs.ColdWrites.{Clears};
 
 use tm_disk::{Disk, DiskFault, Sector};
 

@@ -2,8 +2,8 @@
 ghost use Rattle.std.specs.Prelude.{◌≡◌, ◌++◌, ◌∷◌, [], false, IfOk, OnOk};
 ghost use Rattle.model_messages.specs.Queue.{free_count};
 ghost use Rattle.model_machine.specs.Machine.{LastingState, raised_by, states_of, start_of};
-ghost use Rattle.image_records.specs.Kept.{kept_of};
-ghost use Rattle.openings.specs.Shown.{opening_state, opening_states};
+ghost use Rattle.image_records.specs.KeptState.{kept_of};
+ghost use Rattle.openings.specs.OpeningState.{opening_state, opening_states};
 
 use image_records::Kept;
 use model_machine::CodeSetting;

@@ -2,7 +2,7 @@
 ghost use Rattle.std.specs.Prelude.{◌≡◌, ◌++◌, ◌∷◌, [], length, slice_get, IfOk, OnOk};
 ghost use Rattle.std.specs.Option.{option_copied};
 ghost use Rattle.model_messages.specs.Queue.{messages_of};
-ghost use Rattle.openings.specs.Shown.{shown};
+ghost use Rattle.openings.specs.OpeningState.{shown_state};
 
 use image_records::Kept;
 use model_machine::{CodeSetting, DatabaseRows, Lasting, TerminalState};
@@ -14,7 +14,7 @@ use tm_types::{Memory, Message, Reply};
 
 /// What lasts, a copy of what is kept, with these rows. `Memory` is the only refusal.
 pub fn lasting_of(alloc: Global, kept: &Kept, rows: Vec<DatabaseRows>) -> Result<Lasting, Memory>
-    ensures { IfOk result (λ lasting. lasting ≡ shown kept.now rows.items) }
+    ensures { IfOk result (λ lasting. lasting ≡ shown_state kept.now rows.items) }
 {
     Ok(Lasting {
         rows,

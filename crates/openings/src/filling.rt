@@ -1,9 +1,8 @@
 //! Sectors of zeros, and the text of a definition.
 ghost use Rattle.std.specs.Prelude.{◌≡◌, ◌+◌, ◌≤◌, ◌<◌, length, IsTrue, OnOk, OnErr};
-ghost use Rattle.tm_disk.specs.Disk.{Stays, Within, Follows, WritesAtMost, FailedSince};
+ghost use Rattle.tm_disk.specs.Disk.{Stays, Within, Follows, WritesAtMost, FailedSince, ChangesOnly};
 ghost use Rattle.tm_disk.specs.Sector.{blank};
-ghost use Rattle.restart_data.specs.Images.{ChangesOnly};
-ghost use Rattle.openings.specs.Filling.{Fills, text_sectors, text_piece, text_sector};
+ghost use Rattle.openings.specs.ColdWrites.{Fills, text_sectors, text_piece, text_sector};
 
 use tm_disk::{Disk, DiskFault, SECTOR_BYTES, Sector};
 

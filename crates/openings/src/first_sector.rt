@@ -1,8 +1,8 @@
 //! The first restart sector.
 ghost use Rattle.std.specs.Prelude.{◌≡◌, ◌<◌, ◌≤◌};
 ghost use Rattle.restart_data.specs.Restart.{IsRestart};
-ghost use Rattle.restart_data.specs.Snapshot.{sectors_of};
-ghost use Rattle.openings.specs.FirstImage.{IsFirst};
+ghost use Rattle.restart_data.specs.Snapshot.{snapshot_sectors_of};
+ghost use Rattle.openings.specs.FirstImage.{IsFirstRestart};
 
 use restart_data::RestartSector;
 
@@ -11,9 +11,9 @@ pub fn first_restart(snapshot: usize, text: u32) -> RestartSector
     requires some { 0 < snapshot }
     requires few { snapshot ≤ 8192 }
     requires text { text ≤ 262144 }
-    ensures begins { IsFirst result }
+    ensures begins { IsFirstRestart result }
     ensures valid { IsRestart result }
-    ensures sectors { result.sectors ≡ sectors_of snapshot }
+    ensures sectors { result.sectors ≡ snapshot_sectors_of snapshot }
     ensures text { result.text ≡ text }
 {
     RestartSector {

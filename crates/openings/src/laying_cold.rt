@@ -1,7 +1,7 @@
 //! What a cold start lays before its restart sector.
 ghost use Rattle.std.specs.Prelude.{◌≡◌, ◌+◌, ◌*◌, ◌≤◌, ◌<◌, length, IsTrue, OnOk, OnErr};
 ghost use Rattle.tm_disk.specs.Disk.{Stays, Within, Follows, Only, FailedSince};
-ghost use Rattle.openings.specs.Filling.{KeepsRestart, IsLaid};
+ghost use Rattle.openings.specs.ColdWrites.{KeepsRestart, IsLaid};
 
 use crate::filling::{write_text, write_zeros};
 use restart_data::write_snapshot;

@@ -23,7 +23,7 @@ mod clearing;
 mod codes;
 mod copies;
 mod filling;
-mod first_parts_making;
+mod first_parts;
 mod first_sector;
 mod how;
 mod laying_cold;
@@ -39,7 +39,7 @@ mod writing;
 
 pub use codes::codes_of;
 pub use copies::lasting_of;
-pub use first_parts_making::{Made, make};
+pub use first_parts::{Made, make};
 pub use first_sector::first_restart;
 pub use how::How;
 pub use life::{History, Life};

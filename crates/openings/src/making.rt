@@ -1,11 +1,11 @@
 //! The parts of a life that begins with what was read.
 ghost use Rattle.std.specs.Prelude.{◌≡◌, map, IfOk};
 ghost use Rattle.model_machine.specs.Machine.{LastingState};
-ghost use Rattle.image_records.specs.Kept.{kept_of};
+ghost use Rattle.image_records.specs.KeptState.{kept_of};
 ghost use Rattle.seg_store.specs.Slots.{rows_of_slots};
-ghost use Rattle.seg_store.specs.Changed.{all_stores, stored};
+ghost use Rattle.seg_store.specs.ChangedSlots.{all_stores, stored};
 ghost use Rattle.seg_store.specs.Stores.{no_changed};
-ghost use Rattle.openings.specs.Parts.{AreOpeningParts};
+ghost use Rattle.openings.specs.OpeningParts.{AreOpeningParts};
 
 use crate::codes::codes_of;
 use crate::parts::Parts;

@@ -34,7 +34,7 @@ pub struct Parts {
 }
 
 impl Model for Parts {
-    ghost use Rattle.openings.specs.Parts.{OpeningParts};
+    ghost use Rattle.openings.specs.OpeningParts.{OpeningParts};
 
     ghost Value = { OpeningParts };
 

@@ -1,6 +1,6 @@
 //! Where the areas of a system stand.
 ghost use Rattle.std.specs.Prelude.{◌≤◌};
-ghost use Rattle.openings.specs.Filling.{AreOf};
+ghost use Rattle.openings.specs.ColdWrites.{ArePlacesOf};
 
 use crate::laying_cold::Places;
 use image_loading::{log_first, sectors_needed, snapshot_area, snapshot_first};
@@ -8,7 +8,7 @@ use system_types::System;
 
 /// Where a cold start lays what on a disk of this system.
 pub(crate) fn places(system: &System) -> Places
-    ensures value { AreOf system.now result }
+    ensures value { ArePlacesOf system.now result }
     ensures some { 3 ≤ result.area }
 {
     let blanks = log_first(system, 0);

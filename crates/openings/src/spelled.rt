@@ -3,7 +3,7 @@ ghost use Rattle.std.specs.Prelude.{◌≡◌, ◌<◌, ◌≤◌, [], length, m
 ghost use Rattle.model_messages.specs.Terminals.{without_conversation};
 ghost use Rattle.model_messages.specs.Outputs.{fresh_terminal};
 ghost use Rattle.model_machine.specs.Machine.{empty_state, fresh_terminal_state};
-ghost use Rattle.checkpointing.specs.Spelled.{Adds};
+ghost use Rattle.checkpointing.specs.SpelledRecords.{AddsSpelled};
 ghost use Rattle.system_types.specs.Codes.{first_state};
 ghost use Rattle.openings.specs.FirstImage.{first_records};
 
@@ -28,7 +28,7 @@ fn spelled(
     requires outputs { outputs.now ≡ map fresh_terminal system.now.terminals }
     requires conversations { conversations.now ≡ map without_conversation system.now.terminals }
     requires codes { codes.now ≡ map first_state system.now.codes }
-    ensures { IfOk result (λ bytes. Adds (first_records system.now) [] bytes.items) }
+    ensures { IfOk result (λ bytes. AddsSpelled (first_records system.now) [] bytes.items) }
 {
     write_first(alloc, terminals, outputs, conversations, codes)
 }
@@ -43,7 +43,7 @@ pub fn first_snapshot(
 ) -> Result<Vec<u8>, Memory>
     requires lasting { lasting.now ≡ empty_state system.now }
     requires codes { codes.now ≡ map first_state system.now.codes }
-    ensures records { IfOk result (λ bytes. Adds (first_records system.now) [] bytes.items) }
+    ensures records { IfOk result (λ bytes. AddsSpelled (first_records system.now) [] bytes.items) }
     ensures some { IfOk result (λ bytes. 0 < length bytes.items) }
     ensures few { IfOk result (λ bytes. length bytes.items ≤ 8192) }
 {

@@ -1,7 +1,7 @@
 //! Counters that are spent.
 ghost use Rattle.std.specs.Prelude.{◌≡◌, ◌+◌, nat_le};
 ghost use Rattle.model_machine.specs.Machine.{LastingState as OneState};
-ghost use Rattle.openings.specs.Opening.{counters, output_counters, first_spent};
+ghost use Rattle.openings.specs.OpenedImage.{counters, output_counters, first_spent};
 
 use model_machine::Counter;
 use model_messages::TerminalReplies;

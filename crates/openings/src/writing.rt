@@ -2,9 +2,9 @@
 ghost use Rattle.std.specs.Prelude.{◌≡◌, ◌<◌, ◌≤◌, [], length, OnOk, OnErr};
 ghost use Rattle.tm_disk.specs.Disk.{Stays, Within, Follows, Only, FailedSince};
 ghost use Rattle.restart_data.specs.Restart.{IsRestart};
-ghost use Rattle.restart_data.specs.Snapshot.{sectors_of};
-ghost use Rattle.checkpointing.specs.Spelled.{Adds};
-ghost use Rattle.openings.specs.FirstImage.{IsFirst, IsFirstImage, BeginsImage, first_records, sectors_needed};
+ghost use Rattle.restart_data.specs.Snapshot.{snapshot_sectors_of};
+ghost use Rattle.checkpointing.specs.SpelledRecords.{AddsSpelled};
+ghost use Rattle.openings.specs.FirstImage.{IsFirstRestart, IsFirstImage, BeginsImage, first_records, sectors_needed};
 
 use crate::beginning::begin;
 use crate::places::places;
@@ -23,12 +23,12 @@ pub fn write_image<D: Disk>(
 ) -> Result<(), DiskFault>
     requires text { length text.now ≤ 262144 }
     requires size { sectors_needed system.now ≤ (D.state disk.old).size }
-    requires records { Adds (first_records system.now) [] bytes.now }
+    requires records { AddsSpelled (first_records system.now) [] bytes.now }
     requires some { 0 < length bytes.now }
     requires few { length bytes.now ≤ 8192 }
-    requires first { IsFirst now.now }
+    requires first { IsFirstRestart now.now }
     requires valid { IsRestart now.now }
-    requires sectors { now.now.sectors ≡ sectors_of (length bytes.now) }
+    requires sectors { now.now.sectors ≡ snapshot_sectors_of (length bytes.now) }
     ensures stays { Stays (D.state disk.old) (D.state disk.new) }
     // Whenever a crash comes, it leaves the image before, one whose restart sector is all zeros, or the first image.
     ensures any_moment { Within (BeginsImage system.now text.now bytes.now now.now) (D.state disk.old) (D.state disk.new) }

@@ -1,7 +1,7 @@
 //! What is printed for the answer to a command.
 ghost use Rattle.std.specs.Prelude.{◌≡◌, ◌++◌, codes, decimal, IfOk, OnOk, OnErr};
 ghost use Rattle.std.specs.List.{flat_map};
-ghost use Rattle.model_machine.specs.Answers as text;
+ghost use Rattle.model_machine.specs.AnswerText as text;
 
 use itoa::Buffer;
 use model_machine::{ActiveRegion, Answer, RegionWork};
@@ -207,7 +207,7 @@ fn add_message(out: &mut Vec<u8>, code: &Name, id: u64) -> Result<(), Memory>
 }
 
 fn add_wait(out: &mut Vec<u8>, database: &Name, root: &Option<Key>, by: u32) -> Result<(), Memory>
-    ensures { OnOk result (out.new.items ≡ out.old.items ++ (codes " WAITS " ++ database.now ++ text.root_text root.now ++ codes " BY " ++ decimal by)) }
+    ensures { OnOk result (out.new.items ≡ out.old.items ++ (codes " WAITS " ++ database.now ++ text.answer_root_text root.now ++ codes " BY " ++ decimal by)) }
 {
     add_named(out, b" WAITS ", database)?;
     add_root(out, root)?;
@@ -215,7 +215,7 @@ fn add_wait(out: &mut Vec<u8>, database: &Name, root: &Option<Key>, by: u32) -> 
 }
 
 fn add_root(out: &mut Vec<u8>, root: &Option<Key>) -> Result<(), Memory>
-    ensures { OnOk result (out.new.items ≡ out.old.items ++ text.root_text root.now) }
+    ensures { OnOk result (out.new.items ≡ out.old.items ++ text.answer_root_text root.now) }
 {
     match root {
         Some(root) => {

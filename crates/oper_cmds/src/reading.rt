@@ -1,6 +1,6 @@
 //! What a text commands.
 ghost use Rattle.std.specs.Prelude.{◌≡◌, Ok, Err, MatchResult};
-ghost use Rattle.model_machine.specs.Commands as spec;
+ghost use Rattle.model_machine.specs.CommandText as spec;
 
 use crate::rules::{UNKNOWN_KEYWORD, UNKNOWN_VERB, WRONG_OPERANDS};
 use crate::words::{
@@ -32,7 +32,7 @@ pub fn read_command(text: &[u8]) -> Result<Command, BadCommand>
     }
 }
 
-#[tactic(auto, unfolding(model_machine::specs::Commands::command_of))]
+#[tactic(auto, unfolding(model_machine::specs::CommandText::command_of))]
 fn command_of(text: &[u8]) -> Result<Command, u8>
     ensures { result ≡ spec.command_of text.now }
 {
@@ -60,7 +60,7 @@ fn command_of(text: &[u8]) -> Result<Command, u8>
 
 /// A command behind whose words nothing more stands.
 fn alone(count: usize, command: Command, text: &[u8]) -> Result<Command, u8>
-    ensures { result ≡ spec.alone count command text.now }
+    ensures { result ≡ spec.command_alone count command text.now }
 {
     if operand_count(text) == count {
         Ok(command)
@@ -70,7 +70,7 @@ fn alone(count: usize, command: Command, text: &[u8]) -> Result<Command, u8>
 }
 
 /// `/START TRANSACTION c`, `/START LTERM t`
-#[tactic(auto, unfolding(model_machine::specs::Commands::start_command))]
+#[tactic(auto, unfolding(model_machine::specs::CommandText::start_command))]
 fn start_command(text: &[u8]) -> Result<Command, u8>
     ensures { result ≡ spec.start_command text.now }
 {
@@ -90,7 +90,7 @@ fn start_command(text: &[u8]) -> Result<Command, u8>
 }
 
 /// `/STOP TRANSACTION c`, `/STOP LTERM t`
-#[tactic(auto, unfolding(model_machine::specs::Commands::stop_command))]
+#[tactic(auto, unfolding(model_machine::specs::CommandText::stop_command))]
 fn stop_command(text: &[u8]) -> Result<Command, u8>
     ensures { result ≡ spec.stop_command text.now }
 {
@@ -110,7 +110,7 @@ fn stop_command(text: &[u8]) -> Result<Command, u8>
 }
 
 /// `/DISPLAY TRANSACTION c`, `/DISPLAY LTERM t`, `/DISPLAY ACTIVE`
-#[tactic(auto, unfolding(model_machine::specs::Commands::display_command))]
+#[tactic(auto, unfolding(model_machine::specs::CommandText::display_command))]
 fn display_command(text: &[u8]) -> Result<Command, u8>
     ensures { result ≡ spec.display_command text.now }
 {
@@ -132,7 +132,7 @@ fn display_command(text: &[u8]) -> Result<Command, u8>
 }
 
 /// `/CHECKPOINT`, `/CHECKPOINT FREEZE`
-#[tactic(auto, unfolding(model_machine::specs::Commands::checkpoint_command))]
+#[tactic(auto, unfolding(model_machine::specs::CommandText::checkpoint_command))]
 fn checkpoint_command(text: &[u8]) -> Result<Command, u8>
     ensures { result ≡ spec.checkpoint_command text.now }
 {
@@ -146,7 +146,7 @@ fn checkpoint_command(text: &[u8]) -> Result<Command, u8>
 }
 
 /// `/DEQUEUE LTERM t PURGE1`, `/DEQUEUE LTERM t PURGE`
-#[tactic(auto, unfolding(model_machine::specs::Commands::dequeue_command))]
+#[tactic(auto, unfolding(model_machine::specs::CommandText::dequeue_command))]
 fn dequeue_command(text: &[u8]) -> Result<Command, u8>
     ensures { result ≡ spec.dequeue_command text.now }
 {
@@ -160,7 +160,7 @@ fn dequeue_command(text: &[u8]) -> Result<Command, u8>
 }
 
 /// The keyword behind the name counts before the name.
-#[tactic(auto, unfolding(model_machine::specs::Commands::purge_command))]
+#[tactic(auto, unfolding(model_machine::specs::CommandText::purge_command))]
 fn purge_command(text: &[u8]) -> Result<Command, u8>
     ensures { result ≡ spec.purge_command text.now }
 {
@@ -180,7 +180,7 @@ fn purge_command(text: &[u8]) -> Result<Command, u8>
 }
 
 /// `/EXIT t`
-#[tactic(auto, unfolding(model_machine::specs::Commands::exit_command))]
+#[tactic(auto, unfolding(model_machine::specs::CommandText::exit_command))]
 fn exit_command(text: &[u8]) -> Result<Command, u8>
     ensures { result ≡ spec.exit_command text.now }
 {
@@ -192,7 +192,7 @@ fn exit_command(text: &[u8]) -> Result<Command, u8>
 }
 
 /// `/NRESTART`, `/NRESTART CHECKPOINT 0`
-#[tactic(auto, unfolding(model_machine::specs::Commands::restart_command))]
+#[tactic(auto, unfolding(model_machine::specs::CommandText::restart_command))]
 fn restart_command(text: &[u8]) -> Result<Command, u8>
     ensures { result ≡ spec.restart_command text.now }
 {
@@ -206,7 +206,7 @@ fn restart_command(text: &[u8]) -> Result<Command, u8>
 }
 
 /// The 0 is a keyword.
-#[tactic(auto, unfolding(model_machine::specs::Commands::cold_command))]
+#[tactic(auto, unfolding(model_machine::specs::CommandText::cold_command))]
 fn cold_command(text: &[u8]) -> Result<Command, u8>
     ensures { result ≡ spec.cold_command text.now }
 {

@@ -1,13 +1,13 @@
 //! The words of a command, which one blank parts, and its names.
 ghost use Rattle.std.specs.Prelude.{◌≡◌};
-ghost use Rattle.model_machine.specs.Commands as spec;
+ghost use Rattle.model_machine.specs.CommandText as spec;
 
 use crate::rules::{NO_NAME, WRONG_OPERANDS};
 use tm_types::{Name, first_word, operands};
 
 /// How many operands a text has, as many as blanks.
 pub(crate) fn operand_count(text: &[u8]) -> usize
-    ensures { result ≡ spec.operand_count text.now }
+    ensures { result ≡ spec.command_operand_count text.now }
 {
     text.iter().filter(|b| **b == b' ').count()
 }
@@ -31,9 +31,9 @@ pub(crate) fn third_operand(text: &[u8]) -> &[u8]
 }
 
 /// The name that a word is.
-#[tactic(auto, unfolding(model_machine::specs::Commands::name_operand))]
+#[tactic(auto, unfolding(model_machine::specs::CommandText::command_name_operand))]
 pub(crate) fn name_operand(word: &[u8]) -> Result<Name, u8>
-    ensures { result ≡ spec.name_operand word.now }
+    ensures { result ≡ spec.command_name_operand word.now }
 {
     match Name::read(word) {
         Some(name) => Ok(name),
@@ -43,7 +43,7 @@ pub(crate) fn name_operand(word: &[u8]) -> Result<Name, u8>
 
 /// The name that stands second, where there are so many operands.
 pub(crate) fn name_of(count: usize, text: &[u8]) -> Result<Name, u8>
-    ensures { result ≡ spec.name_of count text.now }
+    ensures { result ≡ spec.command_name_of count text.now }
 {
     if operand_count(text) == count {
         name_operand(second_operand(text))

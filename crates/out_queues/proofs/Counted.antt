@@ -9,8 +9,8 @@ use Rattle.tm_types.specs.Segment.{counted_bytes}
 use Rattle.tm_types.specs.declared.message.Reply.{Reply}
 use Rattle.model_messages.specs.Room.{reply_bytes, replies_bytes}
 use Rattle.model_messages.specs.declared.replies.TerminalReplies.{TerminalReplies}
-use Rattle.model_messages.specs.Outputs.{fresh_terminal, is_of, replies_at, IsTerminal, with_terminal, with_reply, without_first, without_last, with_next, RunUpTo, AreNumbered, outputs_bytes}
-use Rattle.out_queues.specs.Kept.{AreKept}
+use Rattle.model_messages.specs.Outputs.{fresh_terminal, are_replies_of, replies_at, IsTerminal, with_terminal, with_reply, without_first, without_last, with_next, RunUpTo, AreNumbered, outputs_bytes}
+use Rattle.out_queues.specs.KeptReplies.{AreRepliesKept}
 
 abbrev terminal_bytes : TerminalReplies → ℕ
 terminal_bytes t = replies_bytes t.replies
@@ -20,11 +20,11 @@ terminal_bytes t = replies_bytes t.replies
 bytes_changed : (name : List ℕ) (f : TerminalReplies → TerminalReplies) (ts : List TerminalReplies) (t : TerminalReplies) → replies_at name ts ≡ Some t
     → outputs_bytes (with_terminal name f ts) + terminal_bytes t ≡ outputs_bytes ts + terminal_bytes (f t)
 bytes_changed name f [] t e = let clash : None ≡ Some t = e in absurd (cc)
-bytes_changed name f (u ∷ ts) t e = by (is_of name u) refl e (bytes_changed name f ts t)
+bytes_changed name f (u ∷ ts) t e = by (are_replies_of name u) refl e (bytes_changed name f ts t)
   where
-    by : (b : Bool) → is_of name u ≡ b → cond b (Some u) (replies_at name ts) ≡ Some t
+    by : (b : Bool) → are_replies_of name u ≡ b → cond b (Some u) (replies_at name ts) ≡ Some t
         → (replies_at name ts ≡ Some t → outputs_bytes (with_terminal name f ts) + terminal_bytes t ≡ outputs_bytes ts + terminal_bytes (f t))
-        → outputs_bytes (cond (is_of name u) (f u ∷ ts) (u ∷ with_terminal name f ts)) + terminal_bytes t ≡ outputs_bytes (u ∷ ts) + terminal_bytes (f t)
+        → outputs_bytes (cond (are_replies_of name u) (f u ∷ ts) (u ∷ with_terminal name f ts)) + terminal_bytes t ≡ outputs_bytes (u ∷ ts) + terminal_bytes (f t)
     by true q g rec =
         let some : Some u ≡ Some t = g in
         let same : u ≡ t = cc in
@@ -40,7 +40,7 @@ bytes_fresh (name ∷ names) = omega (arith, sum_by-cons terminal_bytes (fresh_t
 
 pub terminal_within : (name : List ℕ) (ts : List TerminalReplies) (t : TerminalReplies) → replies_at name ts ≡ Some t → replies_bytes t.replies ≤ outputs_bytes ts
 terminal_within name [] t e = let clash : None ≡ Some t = e in absurd (cc)
-terminal_within name (u ∷ ts) t e = by (is_of name u) e (terminal_within name ts t)
+terminal_within name (u ∷ ts) t e = by (are_replies_of name u) e (terminal_within name ts t)
   where
     by : (b : Bool) → cond b (Some u) (replies_at name ts) ≡ Some t → (replies_at name ts ≡ Some t → terminal_bytes t ≤ outputs_bytes ts) → terminal_bytes t ≤ outputs_bytes (u ∷ ts)
     by true g rec =
@@ -53,7 +53,7 @@ terminal_within name (u ∷ ts) t e = by (is_of name u) e (terminal_within name 
 numbered_changed : (name : List ℕ) (f : TerminalReplies → TerminalReplies) (ts : List TerminalReplies) → AllByRecursion AreNumbered ts
     → ((t : TerminalReplies) → replies_at name ts ≡ Some t → AreNumbered t → AreNumbered (f t)) → AllByRecursion AreNumbered (with_terminal name f ts)
 numbered_changed name f [] h g = tt
-numbered_changed name f (u ∷ ts) h g = by (is_of name u) g (numbered_changed name f ts h.1)
+numbered_changed name f (u ∷ ts) h g = by (are_replies_of name u) g (numbered_changed name f ts h.1)
   where
     by : (b : Bool) → ((t : TerminalReplies) → cond b (Some u) (replies_at name ts) ≡ Some t → AreNumbered t → AreNumbered (f t))
         → (((t : TerminalReplies) → replies_at name ts ≡ Some t → AreNumbered t → AreNumbered (f t)) → AllByRecursion AreNumbered (with_terminal name f ts))
@@ -98,9 +98,9 @@ pub there_by : (o : Option TerminalReplies) (P : TerminalReplies → Type 0) →
 there_by None P g = absurd g
 there_by (Some t) P g = refl
 
-pub kept_fresh : (names : List (List ℕ)) (ts : List TerminalReplies) → ts ≡ map fresh_terminal names → AreKept ts 0
+pub kept_fresh : (names : List (List ℕ)) (ts : List TerminalReplies) → ts ≡ map fresh_terminal names → AreRepliesKept ts 0
 kept_fresh names ts e =
-    subst (λ us. AreKept us 0) (sym e) (record {
+    subst (λ us. AreRepliesKept us 0) (sym e) (record {
       counted = sym (bytes_fresh names);
       small = omega arith;
       numbered = numbered_fresh names;
@@ -113,36 +113,36 @@ the_terminal name ts h = by (replies_at name ts) refl h
     by None e g = let clash : false ≡ true = g in absurd (cc)
     by (Some t) e g = (t, e)
 
-pub kept_removed : (name : List ℕ) (ts new fs : List TerminalReplies) (content bytes : ℕ) → AreKept ts content → new ≡ with_terminal name without_first ts
-    → outputs_bytes new + bytes ≡ outputs_bytes ts → fs ≡ new → AreKept fs (content - bytes)
+pub kept_removed : (name : List ℕ) (ts new fs : List TerminalReplies) (content bytes : ℕ) → AreRepliesKept ts content → new ≡ with_terminal name without_first ts
+    → outputs_bytes new + bytes ≡ outputs_bytes ts → fs ≡ new → AreRepliesKept fs (content - bytes)
 kept_removed name ts new fs content bytes h e g same =
-    subst (λ us. AreKept us (content - bytes)) (sym same) (record {
+    subst (λ us. AreRepliesKept us (content - bytes)) (sym same) (record {
       counted = omega (arith, h.counted, g);
       small = omega (arith, h.small);
       numbered = subst (AllByRecursion AreNumbered) (sym e) (numbered_changed name without_first ts h.numbered (λ t f n. run_fewer t.next t.replies n));
     })
 
-pub kept_added : (name : List ℕ) (segments : List (List ℕ)) (ts new fs : List TerminalReplies) (content bytes : ℕ) → AreKept ts content → IsTerminal name ts
-    → new ≡ with_terminal name (with_reply segments) ts → bytes ≡ counted_bytes segments → content + bytes < 2 ^ 62 → fs ≡ new → AreKept fs (content + bytes)
+pub kept_added : (name : List ℕ) (segments : List (List ℕ)) (ts new fs : List TerminalReplies) (content bytes : ℕ) → AreRepliesKept ts content → IsTerminal name ts
+    → new ≡ with_terminal name (with_reply segments) ts → bytes ≡ counted_bytes segments → content + bytes < 2 ^ 62 → fs ≡ new → AreRepliesKept fs (content + bytes)
 kept_added name segments ts new fs content bytes h there e b fits same =
     let the = the_terminal name ts there in
     let t = the.0 in
     let moved : outputs_bytes new + terminal_bytes t ≡ outputs_bytes ts + terminal_bytes (with_reply segments t) =
     ap (λ us. outputs_bytes us + terminal_bytes t) e ∙ bytes_changed name (with_reply segments) ts t the.1 in
     let more : terminal_bytes (with_reply segments t) ≡ terminal_bytes t + counted_bytes segments = sum_by_push reply_bytes t.replies (record { number = t.next; segments = segments }) in
-    subst (λ us. AreKept us (content + bytes)) (sym same) (record {
+    subst (λ us. AreRepliesKept us (content + bytes)) (sym same) (record {
       counted = omega (arith, h.counted, moved, more, b);
       small = fits;
       numbered = subst (AllByRecursion AreNumbered) (sym e) (numbered_changed name (with_reply segments) ts h.numbered (λ u f n. run_more u.next u.replies segments n));
     })
 
-pub kept_next : (name : List ℕ) (number : ℕ) (ts new fs : List TerminalReplies) (content : ℕ) → AreKept ts content → IsSomeAnd (replies_at name ts) (λ t. t.replies ≡ [])
-    → new ≡ with_terminal name (with_next number) ts → fs ≡ new → AreKept fs content
+pub kept_next : (name : List ℕ) (number : ℕ) (ts new fs : List TerminalReplies) (content : ℕ) → AreRepliesKept ts content → IsSomeAnd (replies_at name ts) (λ t. t.replies ≡ [])
+    → new ≡ with_terminal name (with_next number) ts → fs ≡ new → AreRepliesKept fs content
 kept_next name number ts new fs content h none e same =
     let the = the_terminal name ts (there_by (replies_at name ts) (λ t. t.replies ≡ []) none) in
     let moved : outputs_bytes new + terminal_bytes the.0 ≡ outputs_bytes ts + terminal_bytes the.0 =
     ap (λ us. outputs_bytes us + terminal_bytes the.0) e ∙ bytes_changed name (with_next number) ts the.0 the.1 in
-    subst (λ us. AreKept us content) (sym same) (record {
+    subst (λ us. AreRepliesKept us content) (sym same) (record {
       counted = omega (arith, h.counted, moved);
       small = h.small;
       numbered =
@@ -150,10 +150,10 @@ kept_next name number ts new fs content h none e same =
           (numbered_changed name (with_next number) ts h.numbered (λ t f n. run_none number t.replies (subst (λ o. IsSomeAnd o (λ u. u.replies ≡ [])) f none)));
     })
 
-pub kept_taken : (name : List ℕ) (ts new fs : List TerminalReplies) (content bytes : ℕ) → AreKept ts content → new ≡ with_terminal name without_last ts
-    → outputs_bytes new + bytes ≡ outputs_bytes ts → fs ≡ new → AreKept fs (content - bytes)
+pub kept_taken : (name : List ℕ) (ts new fs : List TerminalReplies) (content bytes : ℕ) → AreRepliesKept ts content → new ≡ with_terminal name without_last ts
+    → outputs_bytes new + bytes ≡ outputs_bytes ts → fs ≡ new → AreRepliesKept fs (content - bytes)
 kept_taken name ts new fs content bytes h e g same =
-    subst (λ us. AreKept us (content - bytes)) (sym same) (record {
+    subst (λ us. AreRepliesKept us (content - bytes)) (sym same) (record {
       counted = omega (arith, h.counted, g);
       small = omega (arith, h.small);
       numbered = subst (AllByRecursion AreNumbered) (sym e) (numbered_changed name without_last ts h.numbered (λ t f n. run_fewer_last t.next t.replies n));
@@ -163,7 +163,7 @@ kept_taken name ts new fs content bytes h e g same =
 pub next_given : (name : List ℕ) (ts : List TerminalReplies) → AllByRecursion AreNumbered ts → IsSomeAnd (replies_at name ts) (λ t. 1 ≤ length t.replies)
     → IsSomeAnd (replies_at name ts) (λ t. 1 ≤ t.next)
 next_given name [] h g = absurd g
-next_given name (u ∷ ts) h g = by (is_of name u) g (next_given name ts h.1)
+next_given name (u ∷ ts) h g = by (are_replies_of name u) g (next_given name ts h.1)
   where
     by : (b : Bool) → IsSomeAnd (cond b (Some u) (replies_at name ts)) (λ t. 1 ≤ length t.replies)
         → (IsSomeAnd (replies_at name ts) (λ t. 1 ≤ length t.replies) → IsSomeAnd (replies_at name ts) (λ t. 1 ≤ t.next))

@@ -1,2 +1,2 @@
-pub mod Kept
-pub mod Acknowledged
+pub mod KeptReplies
+pub mod Acknowledgement

@@ -4,7 +4,7 @@ ghost use Rattle.std.specs.List.{AllByRecursion};
 ghost use Rattle.std.specs.Option.{option_copied, is_some};
 ghost use Rattle.tm_types.specs.Segment.{counted_bytes};
 ghost use Rattle.model_messages.specs.Outputs.{fresh_terminal, replies_at, IsTerminal, with_terminal, with_reply, without_last, with_next, reply_at, next_of, AreNumbered, outputs_bytes};
-ghost use Rattle.out_queues.specs.Acknowledged.{ack_answer, left_by};
+ghost use Rattle.out_queues.specs.Acknowledgement.{replies_ack_answer, left_by_acknowledgement};
 
 use crate::table;
 use model_messages::TerminalReplies;
@@ -40,13 +40,13 @@ pub struct Outputs {
 impl Model for Outputs {
     ghost use Rattle.std.specs.Prelude.{List};
     ghost use Rattle.model_messages.specs.declared.replies.TerminalReplies.{TerminalReplies};
-    ghost use Rattle.out_queues.specs.Kept.{AreKept};
+    ghost use Rattle.out_queues.specs.KeptReplies.{AreRepliesKept};
 
     ghost Value = { List TerminalReplies };
 
     ghost view = { λ o. o.terminals.items };
 
-    ghost invariant = { λ o. AreKept o.terminals.items o.content };
+    ghost invariant = { λ o. AreRepliesKept o.terminals.items o.content };
 }
 
 impl Outputs {
@@ -174,8 +174,8 @@ impl Outputs {
     /// none is kept, is refused.
     pub fn acknowledge(&mut self, terminal: &Name, number: u64) -> Result<Acked, AckAhead>
         requires { IsTerminal terminal.now self.old }
-        ensures answer { IsSomeAnd (replies_at terminal.now self.old) (λ t. result ≡ ack_answer t number) }
-        ensures ok { IfOk result (λ acked. self.new ≡ left_by acked terminal.now self.old) }
+        ensures answer { IsSomeAnd (replies_at terminal.now self.old) (λ t. result ≡ replies_ack_answer t number) }
+        ensures ok { IfOk result (λ acked. self.new ≡ left_by_acknowledgement acked terminal.now self.old) }
         ensures err { OnErr result (self.new ≡ self.old) }
     {
         match ack_answer(table::find(&self.terminals, terminal), number) {
@@ -191,7 +191,7 @@ impl Outputs {
 }
 
 fn ack_answer(kept: &TerminalReplies, number: u64) -> Result<Acked, AckAhead>
-    ensures { result ≡ ack_answer kept.now number }
+    ensures { result ≡ replies_ack_answer kept.now number }
 {
     let first = table::first_number(kept);
     if number < first {

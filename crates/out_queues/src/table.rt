@@ -3,7 +3,7 @@ ghost use Rattle.std.specs.Prelude.{◌≡◌, ◌+◌, ◌<◌, ◌≤◌, ◌^
 ghost use Rattle.tm_types.specs.Segment.{counted_bytes};
 ghost use Rattle.std.specs.Option.{option_copied};
 ghost use Rattle.model_messages.specs.Room.{replies_bytes};
-ghost use Rattle.model_messages.specs.Outputs.{fresh_terminal, is_of, replies_at, IsTerminal, with_terminal, with_reply, without_first, without_last, with_next, next_of, first_number, outputs_bytes};
+ghost use Rattle.model_messages.specs.Outputs.{fresh_terminal, are_replies_of, replies_at, IsTerminal, with_terminal, with_reply, without_first, without_last, with_next, next_of, first_number, outputs_bytes};
 
 use model_messages::{Replies, TerminalReplies};
 use std::alloc::{AllocFailed, Global};
@@ -33,7 +33,7 @@ fn fresh_terminal(alloc: Global, name: &Name) -> TerminalReplies
 }
 
 fn is_of(name: &Name, kept: &TerminalReplies) -> bool
-    ensures { result ≡ is_of name.now kept.now }
+    ensures { result ≡ are_replies_of name.now kept.now }
 {
     &kept.terminal == name
 }
@@ -41,7 +41,7 @@ fn is_of(name: &Name, kept: &TerminalReplies) -> bool
 /// The place of the terminal of this name.
 fn place_of(terminals: &[TerminalReplies], name: &Name) -> usize
     requires { IsTerminal name.now terminals.now }
-    ensures place { position (is_of name.now) terminals.now ≡ Some result }
+    ensures place { position (are_replies_of name.now) terminals.now ≡ Some result }
     ensures found { replies_at name.now terminals.now ≡ slice_get terminals.now result }
 {
     match position(terminals, name) {
@@ -51,7 +51,7 @@ fn place_of(terminals: &[TerminalReplies], name: &Name) -> usize
 }
 
 fn position(terminals: &[TerminalReplies], name: &Name) -> Option<usize>
-    ensures { result ≡ position (is_of name.now) terminals.now }
+    ensures { result ≡ position (are_replies_of name.now) terminals.now }
 {
     terminals.iter().position(|kept| is_of(name, kept))
 }

@@ -9,8 +9,8 @@ use Rattle.tm_types.specs.declared.resource.Mode.{Mode}
 use Rattle.model_data.specs.declared.request.Holder.{Holder}
 use Rattle.model_data.specs.declared.request.Request.{Request}
 use Rattle.model_data.specs.Modes.{excludes}
-use Rattle.model_data.specs.Table.{EnqueueTable, holds_of, holders_against, is_against, ahead, is_upgrade, is_served, blocked_by}
-use Rattle.pi_enqueue.specs.Grant.{AreFree, without_waits}
+use Rattle.model_data.specs.Table.{EnqueueTable, holds_of, holders_against, is_against, ahead, is_upgrade, is_request_served, blocked_by}
+use Rattle.pi_enqueue.specs.Grants.{AreRequestsFree, without_waits}
 use Rattle.pi_enqueue.specs.Lists.{AreEmpty, AreListed, IsUpTo, is_on, is_listed}
 
 no_items : {A : Type 0} (xs : List A) → length xs ≡ 0 → xs ≡ []
@@ -61,9 +61,9 @@ module _ (region last : ℕ) (first : 1 ≤ region) (index : List (List Resource
   -- nothing blocks it
   pub alone_free : (T : EnqueueTable) → length T.upgrades ≡ 0 → length T.waits ≡ 0 → AllByRecursion (IsUpTo last) (keys_of T.holds) → AreListed index T.holds → blocked_by q T ≡ None
   alone_free T us ws small listed =
-      (λ i. slice_get (cond (is_served q T.holds) [] (nobody_against T.holds small listed i
+      (λ i. slice_get (cond (is_request_served q T.holds) [] (nobody_against T.holds small listed i
       ++ (ahead q (no_items T.upgrades us i) ++ cond (is_upgrade q T.holds) [] (ahead q (no_items T.waits ws i))))) 0)
-      ∙ by (is_served q T.holds) (is_upgrade q T.holds)
+      ∙ by (is_request_served q T.holds) (is_upgrade q T.holds)
     where
       nobody : List ℕ
       nobody = []
@@ -73,6 +73,6 @@ module _ (region last : ℕ) (first : 1 ≤ region) (index : List (List Resource
       by false true = refl
       by false false = refl
 
-pub alone_all : (region : ℕ) (qs : List Request) (T : EnqueueTable) → ((q : Request) → q.region ≡ region → blocked_by q T ≡ None) → AllByRecursion (λ q. q.region ≡ region) qs → AreFree qs T
+pub alone_all : (region : ℕ) (qs : List Request) (T : EnqueueTable) → ((q : Request) → q.region ≡ region → blocked_by q T ≡ None) → AllByRecursion (λ q. q.region ≡ region) qs → AreRequestsFree qs T
 alone_all region [] T free own = tt
 alone_all region (q ∷ qs) T free own = (free q own.0, alone_all region qs T free own.1)

@@ -8,7 +8,7 @@ use Rattle.std.specs.declared.result.Result.{Result}
 use Rattle.std.specs.declared.result.Result.TheVariants.{Ok, Err}
 use Rattle.std.specs.declared.alloc.AllocError.{AllocError}
 use Rattle.pi_enqueue.specs.declared.lists.Lists.{Lists}
-use Rattle.pi_enqueue.specs.Lists.{seen, AreKept, AreListed}
+use Rattle.pi_enqueue.specs.Lists.{table_of_lists, AreListsKept, AreListed}
 use Rattle.std.proofs.lemmas.Bool.{eq-eqb, eqb-true}
 use Rattle.std.proofs.lemmas.Map.Keys.{IsDistinct-head, IsDistinct-tail}
 use Rattle.tm_types.specs.declared.resource.Mode.{Mode}
@@ -16,10 +16,10 @@ use Rattle.model_data.specs.declared.request.Holder.{Holder}
 use Rattle.model_data.specs.declared.request.Request.{Request}
 use Rattle.model_data.specs.Modes.{same_resource}
 use Rattle.model_data.specs.Table.{EnqueueTable, is_own, blocked_by, is_upgrade}
-use Rattle.model_data.specs.Ask.{without_wait, placed, granted, waiting, answer_to, left_by, after_ask, waits_only_for, waits_for_nothing, after_asks, first_blocked}
-use Rattle.model_data.specs.Cycle.{IsRegion}
-use Rattle.pi_enqueue.specs.Kept.{IsKept, WaitsForNothingElse}
-use Rattle.pi_enqueue.specs.Grant.{AreFree, granted_all, with_holds, without_waits, told}
+use Rattle.model_data.specs.EnqueueRequests.{without_wait, placed_request, granted, with_waiter, answer_to, left_by_request, after_ask, waits_only_for, waits_for_nothing, after_asks, first_blocked}
+use Rattle.model_data.specs.Cycle.{IsTableRegion}
+use Rattle.pi_enqueue.specs.KeptTable.{IsTableKept, WaitsForNothingElse}
+use Rattle.pi_enqueue.specs.Grants.{AreRequestsFree, granted_all, with_holds, without_waits, blocked_told}
 use Rattle.pi_enqueue.specs.declared.table.Blocked.{Blocked}
 use Rattle.pi_enqueue.proofs.Ascending.{all_map}
 use Rattle.pi_enqueue.proofs.Granting.{clash, blocked_after}
@@ -35,33 +35,33 @@ granted_parts [] T = refl
 granted_parts (q ∷ qs) T = granted_parts qs (granted q T)
 
 module _ (region : ℕ) where
-  free_next : (T : EnqueueTable) (p : Request) (qs : List Request) → IsKept T → p.region ≡ region → blocked_by p T ≡ None → AreOf region qs → AreFree qs T → AreFree qs (granted p T)
+  free_next : (T : EnqueueTable) (p : Request) (qs : List Request) → IsTableKept T → p.region ≡ region → blocked_by p T ≡ None → AreOf region qs → AreRequestsFree qs T → AreRequestsFree qs (granted p T)
   free_next T p [] kept own free of h = tt
   free_next T p (q ∷ qs) kept own free of h =
       (blocked_after T p q kept (own ∙ sym of.0) free ∙ h.0, free_next T p qs kept own free of.1 h.1)
 
-  in_region : (T : EnqueueTable) (q : Request) → IsRegion T region → q.region ≡ region → IsRegion T q.region
-  in_region T q h own = subst (IsRegion T) (sym own) h
+  in_region : (T : EnqueueTable) (q : Request) → IsTableRegion T region → q.region ≡ region → IsTableRegion T q.region
+  in_region T q h own = subst (IsTableRegion T) (sym own) h
 
   module _ (rest : List Request) where
-    pub first_behind : (ps : List Request) (T : EnqueueTable) → IsKept T → IsRegion T region → AreOf region ps → AreFree ps T → first_blocked (ps ++ rest) T ≡ first_blocked rest (granted_all ps T)
+    pub first_behind : (ps : List Request) (T : EnqueueTable) → IsTableKept T → IsTableRegion T region → AreOf region ps → AreRequestsFree ps T → first_blocked (ps ++ rest) T ≡ first_blocked rest (granted_all ps T)
     first_behind [] T kept is of free = refl
     first_behind (p ∷ ps) T kept is of free =
         ap (λ o. option_map_or (λ by. Some (p, by)) o (first_blocked (ps ++ rest) (granted p T))) free.0
         ∙ first_behind ps (granted p T) (kept_granted T p kept (in_region T p is of.0) free.0) is of.1 (free_next T p ps kept of.0 free.0 of.1 free.1)
 
-    pub after_behind : (ps : List Request) (T : EnqueueTable) → IsKept T → IsRegion T region → AreOf region ps → AreFree ps T → after_asks region (ps ++ rest) T ≡ after_asks region rest (granted_all ps T)
+    pub after_behind : (ps : List Request) (T : EnqueueTable) → IsTableKept T → IsTableRegion T region → AreOf region ps → AreRequestsFree ps T → after_asks region (ps ++ rest) T ≡ after_asks region rest (granted_all ps T)
     after_behind [] T kept is of free = refl
     after_behind (p ∷ ps) T kept is of free =
-        ap (λ o. option_map_or (λ by. waiting p (waits_only_for p T)) o (after_asks region (ps ++ rest) (granted p T))) free.0
+        ap (λ o. option_map_or (λ by. with_waiter p (waits_only_for p T)) o (after_asks region (ps ++ rest) (granted p T))) free.0
         ∙ after_behind ps (granted p T) (kept_granted T p kept (in_region T p is of.0) free.0) is of.1 (free_next T p ps kept of.0 free.0 of.1 free.1)
 
-  pub kept_granted_all : (ps : List Request) (T : EnqueueTable) → IsKept T → IsRegion T region → AreOf region ps → AreFree ps T → IsKept (granted_all ps T)
+  pub kept_granted_all : (ps : List Request) (T : EnqueueTable) → IsTableKept T → IsTableRegion T region → AreOf region ps → AreRequestsFree ps T → IsTableKept (granted_all ps T)
   kept_granted_all [] T kept is of free = kept
   kept_granted_all (p ∷ ps) T kept is of free =
       kept_granted_all ps (granted p T) (kept_granted T p kept (in_region T p is of.0) free.0) is of.1 (free_next T p ps kept of.0 free.0 of.1 free.1)
 
-  pub blocked_after_all : (ps : List Request) (T : EnqueueTable) (q : Request) → IsKept T → IsRegion T region → AreOf region ps → AreFree ps T → q.region ≡ region → blocked_by q (granted_all ps T) ≡ blocked_by q T
+  pub blocked_after_all : (ps : List Request) (T : EnqueueTable) (q : Request) → IsTableKept T → IsTableRegion T region → AreOf region ps → AreRequestsFree ps T → q.region ≡ region → blocked_by q (granted_all ps T) ≡ blocked_by q T
   blocked_after_all [] T q kept is of free own = refl
   blocked_after_all (p ∷ ps) T q kept is of free own =
       blocked_after_all ps (granted p T) q (kept_granted T p kept (in_region T p is of.0) free.0) is of.1 (free_next T p ps kept of.0 free.0 of.1 free.1) own
@@ -87,8 +87,8 @@ module _ (region : ℕ) where
   drop_at (suc n) (x ∷ qs) q e = let r = drop_at n qs q e in (r.0, ap (λ ys. x ∷ ys) r.1)
 
   -- the request at this place is blocked, and none before it
-  module _ (qs : List Request) (T : EnqueueTable) (kept : IsKept T) (is : IsRegion T region) (of : AreOf region qs) (n : ℕ) (q : Request) (by : ℕ)
-      (at : slice_get qs n ≡ Some q) (free : AreFree (take n qs) T) (stop : blocked_by q T ≡ Some by) where
+  module _ (qs : List Request) (T : EnqueueTable) (kept : IsTableKept T) (is : IsTableRegion T region) (of : AreOf region qs) (n : ℕ) (q : Request) (by : ℕ)
+      (at : slice_get qs n ≡ Some q) (free : AreRequestsFree (take n qs) T) (stop : blocked_by q T ≡ Some by) where
     stop_then : blocked_by q (granted_all (take n qs) T) ≡ Some by
     stop_then = blocked_after_all (take n qs) T q kept is (all_front (λ q. q.region ≡ region) n qs of) free (of_at (λ q. q.region ≡ region) n qs q of at) ∙ stop
 
@@ -99,18 +99,18 @@ module _ (region : ℕ) where
         ∙ (first_behind (q ∷ r.0) (take n qs) T kept is (all_front (λ q. q.region ≡ region) n qs of) free
         ∙ ap (λ o. option_map_or (λ by. Some (q, by)) o (first_blocked r.0 (granted q (granted_all (take n qs) T)))) stop_then)
 
-    pub after_is : after_asks region qs T ≡ waiting q (waits_only_for q (granted_all (take n qs) T))
+    pub after_is : after_asks region qs T ≡ with_waiter q (waits_only_for q (granted_all (take n qs) T))
     after_is =
         let r = drop_at n qs q at in
         ap (λ l. after_asks region l T) (sym r.1)
         ∙ (after_behind (q ∷ r.0) (take n qs) T kept is (all_front (λ q. q.region ≡ region) n qs of) free
-        ∙ ap (λ o. option_map_or (λ by. waiting q (waits_only_for q (granted_all (take n qs) T))) o (after_asks region r.0 (granted q (granted_all (take n qs) T)))) stop_then)
+        ∙ ap (λ o. option_map_or (λ by. with_waiter q (waits_only_for q (granted_all (take n qs) T))) o (after_asks region r.0 (granted q (granted_all (take n qs) T)))) stop_then)
 
   append_nil : (qs : List Request) → qs ++ [] ≡ qs
   append_nil [] = refl
   append_nil (q ∷ qs) = ap (λ l. q ∷ l) (append_nil qs)
 
-  module _ (qs : List Request) (T : EnqueueTable) (kept : IsKept T) (is : IsRegion T region) (of : AreOf region qs) (free : AreFree qs T) where
+  module _ (qs : List Request) (T : EnqueueTable) (kept : IsTableKept T) (is : IsTableRegion T region) (of : AreOf region qs) (free : AreRequestsFree qs T) where
     pub none_blocked : first_blocked qs T ≡ None
     none_blocked = ap (λ l. first_blocked l T) (sym (append_nil qs)) ∙ first_behind [] qs T kept is of free
 
@@ -133,15 +133,15 @@ only_own q ws = all_map (λ w h. own w h.0) (filter (λ w. not (eqb w.region q.r
     own : (w : Request) → not (eqb w.region q.region && not (is_own q w)) ≡ true → w.region ≡ q.region → is_own q w ≡ true
     own w h e = from (eqb w.region q.region) (is_own q w) (eq-eqb w.region q.region e) h
 
-pub kept_after_asks : (region : ℕ) (qs : List Request) (T : EnqueueTable) → IsKept T → IsRegion T region → AreOf region qs → IsKept (after_asks region qs T)
+pub kept_after_asks : (region : ℕ) (qs : List Request) (T : EnqueueTable) → IsTableKept T → IsTableRegion T region → AreOf region qs → IsTableKept (after_asks region qs T)
 kept_after_asks region [] T kept is of = kept_waits_for_nothing T region kept
 kept_after_asks region (q ∷ qs) T kept is of = by (blocked_by q T) refl (λ k. kept_after_asks region qs (granted q T) k is of.1)
   where
-    here : IsRegion T q.region
-    here = subst (IsRegion T) (sym of.0) is
+    here : IsTableRegion T q.region
+    here = subst (IsTableRegion T) (sym of.0) is
 
-    by : (o : Option ℕ) → blocked_by q T ≡ o → (IsKept (granted q T) → IsKept (after_asks region qs (granted q T)))
-        → IsKept (option_map_or (λ by. waiting q (waits_only_for q T)) o (after_asks region qs (granted q T)))
+    by : (o : Option ℕ) → blocked_by q T ≡ o → (IsTableKept (granted q T) → IsTableKept (after_asks region qs (granted q T)))
+        → IsTableKept (option_map_or (λ by. with_waiter q (waits_only_for q T)) o (after_asks region qs (granted q T)))
     by None e rec = rec (kept_granted T q kept here e)
     by (Some other) e rec = kept_waiting (waits_only_for q T) q (kept_waits_only_for T q kept) here (only_own q T.upgrades) (only_own q T.waits)
 
@@ -189,7 +189,7 @@ same_none q ws h =
     passes true false g f = clash (sym (g refl))
     passes false b g f = refl
 
-module _ (q : Request) (T : EnqueueTable) (kept : IsKept T) (else_none : WaitsForNothingElse q T) where
+module _ (q : Request) (T : EnqueueTable) (kept : IsTableKept T) (else_none : WaitsForNothingElse q T) where
   most : WaitsAtMost q T.upgrades × WaitsAtMost q T.waits
   most =
       let all : WaitsAtMost q (T.upgrades ++ T.waits) = at_most q (T.upgrades ++ T.waits) kept.once else_none in
@@ -204,9 +204,9 @@ module _ (q : Request) (T : EnqueueTable) (kept : IsKept T) (else_none : WaitsFo
   pub one_asked : after_asks q.region (q ∷ []) T ≡ after_ask q T
   one_asked = by (blocked_by q T)
     where
-      by : (o : Option ℕ) → option_map_or (λ by. waiting q (waits_only_for q T)) o (waits_for_nothing q.region (granted q T)) ≡ left_by (answer_to o) q T
+      by : (o : Option ℕ) → option_map_or (λ by. with_waiter q (waits_only_for q T)) o (waits_for_nothing q.region (granted q T)) ≡ left_by_request (answer_to o) q T
       by None = nothing_is
-      by (Some other) = ap (waiting q) only_is
+      by (Some other) = ap (with_waiter q) only_is
 
 -- ---- the lists
 pub granted_seen : (qs : List Request) (T : EnqueueTable) (holds : List (Holder × Mode)) (us ws : List Request)
@@ -218,39 +218,39 @@ at_from f by n [] q e h = let c : None ≡ Some by = h in absurd (cc)
 at_from f by zero (x ∷ qs) q e h = ap (λ (y : Request). Some y) (sym e)
 at_from f by (suc n) (x ∷ qs) q e h = at_from f by n qs q e h
 
-module _ (region : ℕ) (qs : List Request) (T made got left : EnqueueTable) (kept : IsKept T) (is : IsRegion T region) (of : AreOf region qs) (n : ℕ) (q : Request) (by : ℕ)
-    (at : q ≡ slice_index_or qs n q) (free : AreFree (take n qs) T) (here : option_and_then (λ r. blocked_by r T) (slice_get qs n) ≡ Some by) where
+module _ (region : ℕ) (qs : List Request) (T made got left : EnqueueTable) (kept : IsTableKept T) (is : IsTableRegion T region) (of : AreOf region qs) (n : ℕ) (q : Request) (by : ℕ)
+    (at : q ≡ slice_index_or qs n q) (free : AreRequestsFree (take n qs) T) (here : option_and_then (λ r. blocked_by r T) (slice_get qs n) ≡ Some by) where
   place : slice_get qs n ≡ Some q
   place = at_from (λ r. blocked_by r T) by n qs q at here
 
   stopped : blocked_by q T ≡ Some by
   stopped = ap (option_and_then (λ r. blocked_by r T)) (sym place) ∙ here
 
-  pub told_is : (b : Blocked) → b ≡ told (q, by) → Some b ≡ option_map told (first_blocked qs T)
-  told_is b e = ap (λ (x : Blocked). Some x) e ∙ ap (option_map told) (sym (first_is region qs T kept is of n q by place free stopped))
+  pub told_is : (b : Blocked) → b ≡ blocked_told (q, by) → Some b ≡ option_map blocked_told (first_blocked qs T)
+  told_is b e = ap (λ (x : Blocked). Some x) e ∙ ap (option_map blocked_told) (sym (first_is region qs T kept is of n q by place free stopped))
 
-  pub left_is : made ≡ T → got ≡ granted_all (take n qs) made → left ≡ waiting q (waits_only_for q got) → left ≡ after_asks region qs T
-  left_is e f g = g ∙ (ap (λ t. waiting q (waits_only_for q t)) (f ∙ ap (granted_all (take n qs)) e) ∙ sym (after_is region qs T kept is of n q by place free stopped))
+  pub left_is : made ≡ T → got ≡ granted_all (take n qs) made → left ≡ with_waiter q (waits_only_for q got) → left ≡ after_asks region qs T
+  left_is e f g = g ∙ (ap (λ t. with_waiter q (waits_only_for q t)) (f ∙ ap (granted_all (take n qs)) e) ∙ sym (after_is region qs T kept is of n q by place free stopped))
 
-module _ (region : ℕ) (qs : List Request) (T got left : EnqueueTable) (kept : IsKept T) (is : IsRegion T region) (of : AreOf region qs) (free : AreFree qs T) where
-  pub told_none : None ≡ option_map told (first_blocked qs T)
-  told_none = ap (option_map told) (sym (none_blocked region qs T kept is of free))
+module _ (region : ℕ) (qs : List Request) (T got left : EnqueueTable) (kept : IsTableKept T) (is : IsTableRegion T region) (of : AreOf region qs) (free : AreRequestsFree qs T) where
+  pub told_none : None ≡ option_map blocked_told (first_blocked qs T)
+  told_none = ap (option_map blocked_told) (sym (none_blocked region qs T kept is of free))
 
   pub left_free : got ≡ granted_all qs T → left ≡ waits_for_nothing region got → left ≡ after_asks region qs T
   left_free f g = g ∙ (ap (waits_for_nothing region) f ∙ sym (after_none region qs T kept is of free))
 
 -- ---- a table that was asked
-waiting_keeps : (q : Request) (T : EnqueueTable) → (waiting q T).regions ≡ T.regions
+waiting_keeps : (q : Request) (T : EnqueueTable) → (with_waiter q T).regions ≡ T.regions
 waiting_keeps q T = by (is_upgrade q T.holds)
   where
-    by : (b : Bool) → (cond b (record T { upgrades = placed q T.upgrades }) (record T { waits = placed q T.waits })).regions ≡ T.regions
+    by : (b : Bool) → (cond b (record T { upgrades = placed_request q T.upgrades }) (record T { waits = placed_request q T.waits })).regions ≡ T.regions
     by true = refl
     by false = refl
 
-pub holds_of_waiting : (q : Request) (T : EnqueueTable) → (waiting q T).holds ≡ T.holds
+pub holds_of_waiting : (q : Request) (T : EnqueueTable) → (with_waiter q T).holds ≡ T.holds
 holds_of_waiting q T = by (is_upgrade q T.holds)
   where
-    by : (b : Bool) → (cond b (record T { upgrades = placed q T.upgrades }) (record T { waits = placed q T.waits })).holds ≡ T.holds
+    by : (b : Bool) → (cond b (record T { upgrades = placed_request q T.upgrades }) (record T { waits = placed_request q T.waits })).holds ≡ T.holds
     by true = refl
     by false = refl
 
@@ -259,13 +259,13 @@ same_regions region [] T = refl
 same_regions region (q ∷ qs) T = by (blocked_by q T) (same_regions region qs (granted q T))
   where
     by : (o : Option ℕ) → (after_asks region qs (granted q T)).regions ≡ T.regions
-        → (option_map_or (λ by. waiting q (waits_only_for q T)) o (after_asks region qs (granted q T))).regions ≡ T.regions
+        → (option_map_or (λ by. with_waiter q (waits_only_for q T)) o (after_asks region qs (granted q T))).regions ≡ T.regions
     by None rec = rec
     by (Some other) rec = waiting_keeps q (waits_only_for q T)
 
-module _ (region : ℕ) (qs : List Request) (old new : Lists) (kept : AreKept old) (is : IsRegion (seen old) region) (of : AreOf region qs) where
-  pub kept_asked : (r : Result (Option Blocked) AllocError) → OnOk r (seen new ≡ after_asks region qs (seen old)) → OnErr r (seen new ≡ seen old)
-      → AreListed new.held.items new.holds.entries → length new.held.items ≡ length old.held.items → AreKept new
+module _ (region : ℕ) (qs : List Request) (old new : Lists) (kept : AreListsKept old) (is : IsTableRegion (table_of_lists old) region) (of : AreOf region qs) where
+  pub kept_asked : (r : Result (Option Blocked) AllocError) → OnOk r (table_of_lists new ≡ after_asks region qs (table_of_lists old)) → OnErr r (table_of_lists new ≡ table_of_lists old)
+      → AreListed new.held.items new.holds.entries → length new.held.items ≡ length old.held.items → AreListsKept new
   kept_asked (Ok b) ok err listed all =
-      kept_lists old new (after_asks region qs (seen old)) kept ok (same_regions region qs (seen old)) (kept_after_asks region qs (seen old) kept.kept is of) listed all
-  kept_asked (Err e) ok err listed all = kept_lists old new (seen old) kept err refl kept.kept listed all
+      kept_lists old new (after_asks region qs (table_of_lists old)) kept ok (same_regions region qs (table_of_lists old)) (kept_after_asks region qs (table_of_lists old) kept.kept is of) listed all
+  kept_asked (Err e) ok err listed all = kept_lists old new (table_of_lists old) kept err refl kept.kept listed all

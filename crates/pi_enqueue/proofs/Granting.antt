@@ -14,12 +14,14 @@ use Rattle.tm_types.specs.declared.resource.Mode.{Mode}
 use Rattle.tm_types.specs.declared.resource.Mode.TheVariants.{Shared, Exclusive}
 use Rattle.model_data.specs.declared.request.Holder.{Holder}
 use Rattle.model_data.specs.declared.request.Request.{Request}
-use Rattle.model_data.specs.Modes.{same_resource, excludes, serves, stronger, holder_cmp}
+use Rattle.model_data.specs.Modes.{same_resource, excludes, mode_serves, stronger, holder_cmp}
 use Rattle.model_data.specs.Table.{EnqueueTable, holds_of, mode_held, is_against, holders_against, is_own, ahead, blockers, blocked_by}
-use Rattle.model_data.specs.Ask.{asker, granted_mode, with_hold, without_wait, granted}
-use Rattle.pi_enqueue.specs.Kept.{IsKept, Upgrades, held}
-use Rattle.pi_enqueue.proofs.Keys.{holder_total, lookup_alike, holder_exact, holder_ties, resource_exact, resource_back, eqb_back}
+use Rattle.model_data.specs.EnqueueRequests.{asker, granted_mode, with_hold, without_wait, granted}
+use Rattle.pi_enqueue.specs.KeptTable.{IsTableKept, Upgrades, held_mode}
+use Rattle.pi_enqueue.proofs.Keys.{lookup_alike}
 use Rattle.pi_enqueue.proofs.Ascending.{all_map, all_filtered, filter_inserted, lookup_inserted}
+use Rattle.model_data.proofs.Holders.{holder_total, holder_exact, holder_ties, resource_exact, resource_back}
+use Rattle.tm_types.proofs.Ordered.{eqb_back}
 
 pub clash : {P : Type 0} → true ≡ false → P
 clash h = absurd (cc)
@@ -35,7 +37,7 @@ at_holder region resource h =
     holder_ties (record { resource = resource; region = region }) h ∙ (λ i. resource_back resource h.resource i && eqb_back region h.region i)
 
 pub held_at : (region : ℕ) (resource : Resource) (es : List (Holder × Mode))
-    → lookup (is_at (holder_cmp (record { resource = resource; region = region }))) es ≡ held region resource es
+    → lookup (is_at (holder_cmp (record { resource = resource; region = region }))) es ≡ held_mode region resource es
 held_at region resource es =
     lookup_alike (is_at (holder_cmp (record { resource = resource; region = region }))) (λ h. holds_of resource h && eqb h.region region) (at_holder region resource) es
 
@@ -44,7 +46,7 @@ pub is_its : Request → ℕ → Resource → Bool
 is_its p region resource = is_at (holder_cmp (record { resource = resource; region = region })) (asker p)
 
 pub held_after : (p : Request) (region : ℕ) (resource : Resource) (es : List (Holder × Mode))
-    → held region resource (with_hold p es) ≡ cond (is_at (holder_cmp (record { resource = resource; region = region })) (asker p)) (Some (granted_mode p es)) (held region resource es)
+    → held_mode region resource (with_hold p es) ≡ cond (is_at (holder_cmp (record { resource = resource; region = region })) (asker p)) (Some (granted_mode p es)) (held_mode region resource es)
 held_after p region resource es =
     sym (held_at region resource (with_hold p es))
     ∙ (lookup_inserted holder_total (record { resource = resource; region = region }) (asker p) (granted_mode p es) es
@@ -71,7 +73,7 @@ and_true true false c x y z = y
 and_true false b c x y z = x
 
 -- a holder in a mode that can't go together with the request stands against it
-pub against_found : (q : Request) (region : ℕ) (mode : Mode) (es : List (Holder × Mode)) → held region q.resource es ≡ Some mode → eqb region q.region ≡ false → excludes mode q.mode ≡ true
+pub against_found : (q : Request) (region : ℕ) (mode : Mode) (es : List (Holder × Mode)) → held_mode region q.resource es ≡ Some mode → eqb region q.region ≡ false → excludes mode q.mode ≡ true
     → holders_against q es ≡ [] → ⊥
 against_found q region mode [] h out bad none = let f : None ≡ Some mode = h in absurd (cc)
 against_found q region mode (e ∷ es) h out bad none =
@@ -86,8 +88,8 @@ against_found q region mode (e ∷ es) h out bad none =
         let f : e.0.region ∷ holders_against q es ≡ [] = sym (ap (λ b. map (λ (h : Holder × Mode). h.0.region) (cond b (e ∷ filter (is_against q) es) (filter (is_against q) es))) g) ∙ none in
         absurd (cc)
 
-    by : (b : Bool) → holds_of q.resource e.0 && eqb e.0.region region ≡ b → cond b (Some e.1) (held region q.resource es) ≡ Some mode
-        → (held region q.resource es ≡ Some mode → holders_against q es ≡ [] → ⊥) → ⊥
+    by : (b : Bool) → holds_of q.resource e.0 && eqb e.0.region region ≡ b → cond b (Some e.1) (held_mode region q.resource es) ≡ Some mode
+        → (held_mode region q.resource es ≡ Some mode → holders_against q es ≡ [] → ⊥) → ⊥
     by true t g rec =
         let some : Some e.1 ≡ Some mode = g in
         let m : e.1 ≡ mode = cc in
@@ -152,7 +154,7 @@ none_upgrading T q (w ∷ ws) m none h = by (same_resource w.resource q.resource
 
     found : (o : Option Mode) → mode_held w T.holds ≡ o → is_some o ≡ true → w.resource ≡ q.resource → eqb w.region q.region ≡ false → ⊥
     found None g f r out = clash (sym f)
-    found (Some x) g f r out = against_found q w.region x T.holds (ap (λ y. held w.region y T.holds) (sym r) ∙ g) out (excl x) none
+    found (Some x) g f r out = against_found q w.region x T.holds (ap (λ y. held_mode w.region y T.holds) (sym r) ∙ g) out (excl x) none
 
     by : (a b : Bool) → same_resource w.resource q.resource ≡ a → eqb w.region q.region ≡ b → ahead q ws ≡ [] → cond (a && b) [] (cond a (w.region ∷ ahead q ws) (ahead q ws)) ≡ []
     by true true f g rec = refl
@@ -162,7 +164,7 @@ none_upgrading T q (w ∷ ws) m none h = by (same_resource w.resource q.resource
 -- ---- who blocks a request, after another one of its region was granted
 abbrev blockers_of : Mode → Option Mode → List ℕ → List ℕ → List ℕ → List ℕ
 blockers_of mode has against upgrading waiting =
-    if option_map_or (λ m. serves m mode) has false then []
+    if option_map_or (λ m. mode_serves m mode) has false then []
     else against ++ (upgrading ++ (if is_some has then [] else waiting))
 
 abbrev first : List ℕ → Option ℕ
@@ -213,7 +215,7 @@ module _ (against pagainst upgrading left waiting gone : List ℕ) where
       let all = none_both pagainst (upgrading ++ waiting) (none_first (pagainst ++ (upgrading ++ waiting)) free) in
       first_stays against (left ++ []) (upgrading ++ waiting) (λ e. append_none left (none refl e).1) (λ e. all.1)
 
-module _ (T : EnqueueTable) (p q : Request) (kept : IsKept T) (same : p.region ≡ q.region) (free : blocked_by p T ≡ None) where
+module _ (T : EnqueueTable) (p q : Request) (kept : IsTableKept T) (same : p.region ≡ q.region) (free : blocked_by p T ≡ None) where
   blockers_is : blockers q (granted p T) ≡ blockers_of q.mode (mode_held q (with_hold p T.holds)) (holders_against q T.holds) (ahead q (without_wait p T.upgrades)) (ahead q (without_wait p T.waits))
   blockers_is = ap (λ us. blockers_of q.mode (mode_held q (with_hold p T.holds)) us (ahead q (without_wait p T.upgrades)) (ahead q (without_wait p T.waits))) (against_kept p q T.holds same)
 
@@ -228,7 +230,7 @@ module _ (T : EnqueueTable) (p q : Request) (kept : IsKept T) (same : p.region �
       let r : p.resource ≡ q.resource = resource_exact p.resource q.resource hit in
       let its : is_at (holder_cmp (asker q)) (asker p) ≡ true = at_holder q.region q.resource (asker p) ∙ (λ i. both hit (eq-eqb p.region q.region same) i) in
       let has : mode_held q (with_hold p T.holds) ≡ Some (granted_mode p T.holds) = held_after p q.region q.resource T.holds ∙ ap (λ b. cond b (Some (granted_mode p T.holds)) (mode_held q T.holds)) its in
-      let had : mode_held p T.holds ≡ mode_held q T.holds = λ i. held (same i) (r i) T.holds in
+      let had : mode_held p T.holds ≡ mode_held q T.holds = λ i. held_mode (same i) (r i) T.holds in
       let now : Some (granted_mode p T.holds) ≡ Some (option_map_or (λ x. stronger x p.mode) (mode_held q T.holds) p.mode) = ap (λ o. Some (option_map_or (λ x. stronger x p.mode) o p.mode)) had in
       let ups : ahead p T.upgrades ≡ ahead q T.upgrades = ahead_alike r T.upgrades in
       let ws : ahead p T.waits ≡ ahead q T.waits = ahead_alike r T.waits in

@@ -13,38 +13,39 @@ use Rattle.tm_types.specs.declared.resource.Mode.{Mode}
 use Rattle.tm_types.specs.declared.resource.Mode.TheVariants.{Shared, Exclusive}
 use Rattle.model_data.specs.declared.request.Holder.{Holder}
 use Rattle.model_data.specs.declared.request.Request.{Request}
-use Rattle.model_data.specs.Modes.{same_resource, serves, stronger, holder_cmp}
-use Rattle.model_data.specs.Table.{mode_held, is_served}
-use Rattle.model_data.specs.Ask.{asker, granted_mode, with_hold}
+use Rattle.model_data.specs.Modes.{same_resource, mode_serves, stronger, holder_cmp}
+use Rattle.model_data.specs.Table.{mode_held, is_request_served}
+use Rattle.model_data.specs.EnqueueRequests.{asker, granted_mode, with_hold}
 use Rattle.pi_enqueue.specs.declared.holds.Change.{Change}
 use Rattle.pi_enqueue.specs.Lists.{IsUpTo, is_on, is_listed, AreListed, StayListed, with_mode, before_all, is_more}
-use Rattle.pi_enqueue.proofs.Keys.{holder_total, held_is, holder_exact, holder_ties, resource_same}
+use Rattle.pi_enqueue.proofs.Keys.{held_is}
 use Rattle.pi_enqueue.proofs.Ascending.{all_map, all_keys_inserted, insert_same, reset_inserted, remove_inserted, filter_removed, none_removed}
+use Rattle.model_data.proofs.Holders.{holder_total, holder_exact, holder_ties, resource_same}
 
 -- ---- the mode
-pub serves_keeps : (a b : Mode) → serves a b ≡ true → stronger a b ≡ a
+pub serves_keeps : (a b : Mode) → mode_serves a b ≡ true → stronger a b ≡ a
 serves_keeps Shared Shared h = refl
 serves_keeps Shared Exclusive h = absurd (cc)
 serves_keeps Exclusive b h = refl
 
-unserved_takes : (a b : Mode) → serves a b ≡ false → stronger a b ≡ b
+unserved_takes : (a b : Mode) → mode_serves a b ≡ false → stronger a b ≡ b
 unserved_takes Shared b h = refl
 unserved_takes Exclusive Shared h = absurd (cc)
 unserved_takes Exclusive Exclusive h = refl
 
-pub served_same : (q : Request) (es : List (Holder × Mode)) → IsStrictlySortedBy holder_cmp (keys_of es) → is_served q es ≡ true → es ≡ with_hold q es
+pub served_same : (q : Request) (es : List (Holder × Mode)) → IsStrictlySortedBy holder_cmp (keys_of es) → is_request_served q es ≡ true → es ≡ with_hold q es
 served_same q es s h = by (mode_held q es) (held_is q es) h
   where
-    by : (o : Option Mode) → lookup (is_at (holder_cmp (asker q))) es ≡ o → option_map_or (λ mode. serves mode q.mode) o false ≡ true
+    by : (o : Option Mode) → lookup (is_at (holder_cmp (asker q))) es ≡ o → option_map_or (λ mode. mode_serves mode q.mode) o false ≡ true
         → es ≡ insert_entry holder_cmp es (asker q) (option_map_or (λ mode. stronger mode q.mode) o q.mode)
     by None e g = absurd (cc)
     by (Some mode) e g =
         sym (ap (insert_entry holder_cmp es (asker q)) (serves_keeps mode q.mode g) ∙ insert_same holder_total (asker q) mode es s e)
 
-pub unserved_mode : (q : Request) (es : List (Holder × Mode)) → is_served q es ≡ false → granted_mode q es ≡ q.mode
+pub unserved_mode : (q : Request) (es : List (Holder × Mode)) → is_request_served q es ≡ false → granted_mode q es ≡ q.mode
 unserved_mode q es h = by (mode_held q es) h
   where
-    by : (o : Option Mode) → option_map_or (λ mode. serves mode q.mode) o false ≡ false → option_map_or (λ mode. stronger mode q.mode) o q.mode ≡ q.mode
+    by : (o : Option Mode) → option_map_or (λ mode. mode_serves mode q.mode) o false ≡ false → option_map_or (λ mode. stronger mode q.mode) o q.mode ≡ q.mode
     by None g = refl
     by (Some mode) g = unserved_takes mode q.mode g
 
@@ -83,7 +84,7 @@ more_mode (Some Shared) mode h = refl
 more_mode (Some Exclusive) Shared h = absurd (cc)
 more_mode (Some Exclusive) Exclusive h = refl
 
-more_serves : (o : Option Mode) (mode : Mode) → is_more o mode ≡ true → option_map_or (λ m. serves m mode) o false ≡ true
+more_serves : (o : Option Mode) (mode : Mode) → is_more o mode ≡ true → option_map_or (λ m. mode_serves m mode) o false ≡ true
 more_serves None mode h = absurd (cc)
 more_serves (Some Shared) mode h = absurd (cc)
 more_serves (Some Exclusive) Shared h = refl
@@ -99,7 +100,7 @@ module _ (q : Request) (k : Holder) (o : Option Mode) (es : List (Holder × Mode
   pub set_back : is_more o q.mode ≡ true → IsStrictlySortedBy holder_cmp (keys_of es) → with_mode o k (insert_entry holder_cmp es k q.mode) ≡ with_hold q es
   set_back h s =
       inserted_back o k q.mode es s (sym held)
-      ∙ served_same q es s (ap (λ x. option_map_or (λ m. serves m q.mode) x false) (sym told_held) ∙ more_serves o q.mode h)
+      ∙ served_same q es s (ap (λ x. option_map_or (λ m. mode_serves m q.mode) x false) (sym told_held) ∙ more_serves o q.mode h)
 
 pub reset_absent : (test : Holder → Bool) (mode : Mode) (es : List (Holder × Mode)) → lookup test es ≡ None → set_value test es mode ≡ es
 reset_absent test mode [] h = refl

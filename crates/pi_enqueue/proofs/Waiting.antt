@@ -5,48 +5,48 @@ use Rattle.std.specs.List.{position_from}
 use Rattle.std.proofs.lemmas.Iterator.Adapters.{position_from-zero}
 use Rattle.model_data.specs.declared.request.Request.{Request}
 use Rattle.model_data.specs.Table.{is_own}
-use Rattle.model_data.specs.Ask.{placed}
+use Rattle.model_data.specs.EnqueueRequests.{placed_request}
 
 -- ---- a place in a queue
 placed_from : (q : Request) (k : ℕ) (ws : List Request) (i : ℕ) → position_from (is_own q) k ws ≡ Some i
-    → (j : ℕ) × (i ≡ j + k) × (slice_set ws j q ≡ placed q ws)
+    → (j : ℕ) × (i ≡ j + k) × (slice_set ws j q ≡ placed_request q ws)
 placed_from q k [] i e = let clash : None ≡ Some i = e in absurd (cc)
 placed_from q k (w ∷ ws) i e = by (is_own q w) refl e (placed_from q (k + 1) ws i)
   where
     by : (b : Bool) → is_own q w ≡ b → cond b (Some k) (position_from (is_own q) (k + 1) ws) ≡ Some i
-        → (position_from (is_own q) (k + 1) ws ≡ Some i → (j : ℕ) × (i ≡ j + (k + 1)) × (slice_set ws j q ≡ placed q ws))
-        → (j : ℕ) × (i ≡ j + k) × (slice_set (w ∷ ws) j q ≡ cond (is_own q w) (q ∷ ws) (w ∷ placed q ws))
+        → (position_from (is_own q) (k + 1) ws ≡ Some i → (j : ℕ) × (i ≡ j + (k + 1)) × (slice_set ws j q ≡ placed_request q ws))
+        → (j : ℕ) × (i ≡ j + k) × (slice_set (w ∷ ws) j q ≡ cond (is_own q w) (q ∷ ws) (w ∷ placed_request q ws))
     by true t g rec =
         let some : Some k ≡ Some i = g in
         let same : k ≡ i = cc in (
           0,
           omega (arith, same),
-          ap (λ b. cond b (q ∷ ws) (w ∷ placed q ws)) (sym t),
+          ap (λ b. cond b (q ∷ ws) (w ∷ placed_request q ws)) (sym t),
         )
     by false t g rec =
         let r = rec g in (
           suc r.0,
           omega (arith, r.1),
-          ap (λ us. w ∷ us) r.2 ∙ ap (λ b. cond b (q ∷ ws) (w ∷ placed q ws)) (sym t),
+          ap (λ us. w ∷ us) r.2 ∙ ap (λ b. cond b (q ∷ ws) (w ∷ placed_request q ws)) (sym t),
         )
 
-pub placed_here : (q : Request) (ws us : List Request) (place : ℕ) → us ≡ ws → position (is_own q) us ≡ Some place → slice_set ws place q ≡ placed q ws
+pub placed_here : (q : Request) (ws us : List Request) (place : ℕ) → us ≡ ws → position (is_own q) us ≡ Some place → slice_set ws place q ≡ placed_request q ws
 placed_here q ws us place same h =
     let r = placed_from q 0 ws place (sym (position_from-zero (is_own q) ws) ∙ (ap (position (is_own q)) (sym same) ∙ h)) in
     let e : r.0 ≡ place = omega (arith, r.1) in
-    subst (λ j. slice_set ws j q ≡ placed q ws) e r.2
+    subst (λ j. slice_set ws j q ≡ placed_request q ws) e r.2
 
-behind_from : (q : Request) (k : ℕ) (ws : List Request) → position_from (is_own q) k ws ≡ None → ws ++ q ∷ [] ≡ placed q ws
+behind_from : (q : Request) (k : ℕ) (ws : List Request) → position_from (is_own q) k ws ≡ None → ws ++ q ∷ [] ≡ placed_request q ws
 behind_from q k [] e = refl
 behind_from q k (w ∷ ws) e = by (is_own q w) refl e (behind_from q (k + 1) ws)
   where
     by : (b : Bool) → is_own q w ≡ b → cond b (Some k) (position_from (is_own q) (k + 1) ws) ≡ None
-        → (position_from (is_own q) (k + 1) ws ≡ None → ws ++ q ∷ [] ≡ placed q ws)
-        → w ∷ ws ++ q ∷ [] ≡ cond (is_own q w) (q ∷ ws) (w ∷ placed q ws)
+        → (position_from (is_own q) (k + 1) ws ≡ None → ws ++ q ∷ [] ≡ placed_request q ws)
+        → w ∷ ws ++ q ∷ [] ≡ cond (is_own q w) (q ∷ ws) (w ∷ placed_request q ws)
     by true t g rec = let clash : Some k ≡ None = g in absurd (cc)
-    by false t g rec = ap (λ us. w ∷ us) (rec g) ∙ ap (λ b. cond b (q ∷ ws) (w ∷ placed q ws)) (sym t)
+    by false t g rec = ap (λ us. w ∷ us) (rec g) ∙ ap (λ b. cond b (q ∷ ws) (w ∷ placed_request q ws)) (sym t)
 
-pub placed_behind : (q : Request) (ws us vs : List Request) → us ≡ ws → position (is_own q) us ≡ None → vs ≡ ws ++ q ∷ [] → vs ≡ placed q ws
+pub placed_behind : (q : Request) (ws us vs : List Request) → us ≡ ws → position (is_own q) us ≡ None → vs ≡ ws ++ q ∷ [] → vs ≡ placed_request q ws
 placed_behind q ws us vs same h e =
     e ∙ behind_from q 0 ws (sym (position_from-zero (is_own q) ws) ∙ (ap (position (is_own q)) (sym same) ∙ h))
 

@@ -1,3 +1,3 @@
-pub mod Kept
+pub mod KeptTable
 pub mod Lists
-pub mod Grant
+pub mod Grants

@@ -12,11 +12,11 @@ use Rattle.model_data.specs.Modes.{same_resource, holder_cmp}
 use Rattle.model_data.specs.Table.{EnqueueTable}
 use Rattle.pi_enqueue.specs.declared.holds.Change.{Change}
 use Rattle.pi_enqueue.specs.declared.lists.Lists.{Lists}
-use Rattle.pi_enqueue.specs.Kept.{IsKept}
+use Rattle.pi_enqueue.specs.KeptTable.{IsTableKept}
 
 -- the table that the lists make
-abbrev pub seen : Lists → EnqueueTable
-seen l = record { regions = l.regions; holds = l.holds.entries; upgrades = l.upgrades.items; waits = l.waits.items }
+abbrev pub table_of_lists : Lists → EnqueueTable
+table_of_lists l = record { regions = l.regions; holds = l.holds.entries; upgrades = l.upgrades.items; waits = l.waits.items }
 
 -- regions go up to the last one
 abbrev pub IsUpTo : ℕ → Holder → Type 0
@@ -43,14 +43,14 @@ abbrev pub StayListed : List (List Resource) → List (List Resource) → Type 0
 StayListed old new = (holder : Holder) → is_listed old holder ≡ true → is_listed new holder ≡ true
 
 -- a table that is kept in lists, with a list of what it holds for each region
-pub record AreKept (l : Lists) : Type 0 where
-  pub kept : IsKept (seen l)
+pub record AreListsKept (l : Lists) : Type 0 where
+  pub kept : IsTableKept (table_of_lists l)
   pub listed : AreListed l.held.items l.holds.entries
   pub all : length l.held.items ≡ l.regions
 
 -- both queues have room for one more
-abbrev pub HasRoom : Lists → Type 0
-HasRoom l = (vec_len l.upgrades < vec_capacity l.upgrades) × (vec_len l.waits < vec_capacity l.waits)
+abbrev pub HasRoomInQueues : Lists → Type 0
+HasRoomInQueues l = (vec_len l.upgrades < vec_capacity l.upgrades) × (vec_len l.waits < vec_capacity l.waits)
 
 -- a holder that had this mode, or none, has it again
 abbrev pub with_mode : Option Mode → Holder → List (Holder × Mode) → List (Holder × Mode)

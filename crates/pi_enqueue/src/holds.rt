@@ -6,10 +6,10 @@ ghost use Rattle.std.specs.List.Sorted.{IsStrictlySortedBy};
 ghost use Rattle.std.specs.BTreeMap.{insert_entry, is_at};
 ghost use Rattle.std.specs.Vec.{vec_len, vec_capacity};
 ghost use Rattle.std.specs.Map.{keys_of, lookup, remove_entry, set_value};
-ghost use Rattle.model_data.specs.Modes.{excludes, serves, holder_cmp};
+ghost use Rattle.model_data.specs.Modes.{excludes, mode_serves, holder_cmp};
 ghost use Rattle.model_data.specs.Table.{mode_held, holders_against, holds_of};
-ghost use Rattle.model_data.specs.Ask.{asker, with_hold};
-ghost use Rattle.pi_enqueue.specs.Grant.{with_holds};
+ghost use Rattle.model_data.specs.EnqueueRequests.{asker, with_hold};
+ghost use Rattle.pi_enqueue.specs.Grants.{with_holds};
 ghost use Rattle.pi_enqueue.specs.Lists.{IsUpTo, is_on, is_listed, AreListed, StayListed, with_mode, before_all, is_more};
 
 use crate::held::{Held, list};
@@ -40,7 +40,7 @@ pub fn excludes(a: Mode, b: Mode) -> bool
 
 /// Whether who holds in the first mode needs not ask for the second.
 pub fn serves(held: Mode, mode: Mode) -> bool
-    ensures { result ≡ serves held mode }
+    ensures { result ≡ mode_serves held mode }
 {
     match (held, mode) {
         (Mode::Shared, Mode::Shared) => true,
@@ -189,7 +189,7 @@ fn strengthen(holds: &mut BTreeMap<Holder, Mode>, request: &Request) -> Result<O
 
 /// Whether this is the same mode as the one asked for, or a stronger one.
 pub fn is_served(held: Option<Mode>, mode: Mode) -> bool
-    ensures { result ≡ option_map_or (λ has. serves has mode) held false }
+    ensures { result ≡ option_map_or (λ has. mode_serves has mode) held false }
 {
     match held {
         Some(has) => serves(has, mode),

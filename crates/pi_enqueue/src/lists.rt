@@ -4,11 +4,11 @@ ghost use Rattle.std.specs.List.{AllByRecursion, list_any};
 ghost use Rattle.std.specs.Option.{option_and_then, option_copied, option_map};
 ghost use Rattle.std.specs.Map.{keys_of};
 ghost use Rattle.model_data.specs.Table.{empty_table, ahead, blockers, blocked_by, wait_of};
-ghost use Rattle.model_data.specs.Ask.{waiting, waits_only_for, waits_for_nothing, released, after_asks, first_blocked};
+ghost use Rattle.model_data.specs.EnqueueRequests.{with_waiter, waits_only_for, waits_for_nothing, released, after_asks, first_blocked};
 ghost use Rattle.model_data.specs.declared.request.Request.{Request};
-ghost use Rattle.model_data.specs.Cycle.{IsRegion};
-ghost use Rattle.pi_enqueue.specs.Lists.{seen, IsUpTo, AreKept, AreListed, HasRoom};
-ghost use Rattle.pi_enqueue.specs.Grant.{AreFree, granted_all, told};
+ghost use Rattle.model_data.specs.Cycle.{IsTableRegion};
+ghost use Rattle.pi_enqueue.specs.Lists.{table_of_lists, IsUpTo, AreListsKept, AreListed, HasRoomInQueues};
+ghost use Rattle.pi_enqueue.specs.Grants.{AreRequestsFree, granted_all, blocked_told};
 
 use crate::held::{Held, are_others_empty, empty_lists};
 use crate::holds::{first_against, hold_all, is_against, is_served, mode_held, release};
@@ -41,7 +41,7 @@ pub struct Stop {
 
 /// A blocked request as it is told.
 pub fn told(request: &Request, by: u32) -> Blocked
-    ensures { result ≡ told (request.now, by) }
+    ensures { result ≡ blocked_told (request.now, by) }
 {
     Blocked {
         resource: request.resource,
@@ -52,7 +52,7 @@ pub fn told(request: &Request, by: u32) -> Blocked
 impl Lists {
     /// Nobody holds anything or waits.
     pub fn new(alloc: Global, regions: u32) -> Result<Lists, Memory>
-        ensures value { IfOk result (λ lists. seen lists ≡ empty_table regions) }
+        ensures value { IfOk result (λ lists. table_of_lists lists ≡ empty_table regions) }
         ensures all { IfOk result (λ lists. length lists.held.items ≡ regions) }
     {
         Ok(Lists {
@@ -68,7 +68,7 @@ impl Lists {
     /// The region that blocks a request.
     pub fn blocked_by(&self, request: &Request) -> Option<u32>
         requires { AllByRecursion (IsUpTo self.now.regions) (keys_of self.now.holds.entries) }
-        ensures { result ≡ blocked_by request.now (seen self.now) }
+        ensures { result ≡ blocked_by request.now (table_of_lists self.now) }
     {
         let held = mode_held(&self.holds, request);
         if is_served(held, request.mode) {
@@ -98,7 +98,7 @@ impl Lists {
 
     /// What the region waits for.
     pub fn wait_of(&self, region: u32) -> Option<&Request>
-        ensures { option_copied result ≡ wait_of region (seen self.now) }
+        ensures { option_copied result ≡ wait_of region (table_of_lists self.now) }
     {
         match queue::wait_of(&self.upgrades, region) {
             Some(request) => Some(request),
@@ -109,7 +109,7 @@ impl Lists {
     /// Whether this region is among those that block a request.
     pub fn is_blocker(&self, request: &Request, region: u32) -> bool
         requires { AllByRecursion (IsUpTo self.now.regions) (keys_of self.now.holds.entries) }
-        ensures { result ≡ list_any (λ blocker. blocker == region) (blockers request.now (seen self.now)) }
+        ensures { result ≡ list_any (λ blocker. blocker == region) (blockers request.now (table_of_lists self.now)) }
     {
         let held = mode_held(&self.holds, request);
         if is_served(held, request.mode) {
@@ -131,7 +131,7 @@ impl Lists {
         requires last { region ≤ length self.now.held.items }
         requires small { AllByRecursion (IsUpTo self.now.regions) (keys_of self.now.holds.entries) }
         requires listed { AreListed self.now.held.items self.now.holds.entries }
-        ensures { result ≡ true → (request : Request) → request.region ≡ region → blocked_by request (seen self.now) ≡ None }
+        ensures { result ≡ true → (request : Request) → request.region ≡ region → blocked_by request (table_of_lists self.now) ≡ None }
     {
         if !self.upgrades.is_empty() {
             return false;
@@ -149,9 +149,9 @@ impl Lists {
         requires own { AllByRecursion (λ request. request.region ≡ region) requests.now }
         requires small { AllByRecursion (IsUpTo self.now.regions) (keys_of self.now.holds.entries) }
         requires listed { AreListed self.now.held.items self.now.holds.entries }
-        ensures before { IfSome result (λ stop. AreFree (take stop.place requests.now) (seen self.now)) }
-        ensures here { IfSome result (λ stop. option_and_then (λ request. blocked_by request (seen self.now)) (slice_get requests.now stop.place) ≡ Some stop.by) }
-        ensures none { IfNone result (AreFree requests.now (seen self.now)) }
+        ensures before { IfSome result (λ stop. AreRequestsFree (take stop.place requests.now) (table_of_lists self.now)) }
+        ensures here { IfSome result (λ stop. option_and_then (λ request. blocked_by request (table_of_lists self.now)) (slice_get requests.now stop.place) ≡ Some stop.by) }
+        ensures none { IfNone result (AreRequestsFree requests.now (table_of_lists self.now)) }
     {
         if self.is_alone(region) {
             return None;
@@ -171,11 +171,11 @@ impl Lists {
         requires last { region ≤ length self.old.held.items }
         requires own { AllByRecursion (λ request. request.region ≡ region) requests.now }
         requires listed { AreListed self.old.held.items self.old.holds.entries }
-        ensures ok { OnOk result (seen self.new ≡ granted_all requests.now (seen self.old)) }
-        ensures err { OnErr result (seen self.new ≡ seen self.old) }
+        ensures ok { OnOk result (table_of_lists self.new ≡ granted_all requests.now (table_of_lists self.old)) }
+        ensures err { OnErr result (table_of_lists self.new ≡ table_of_lists self.old) }
         ensures listed { AreListed self.new.held.items self.new.holds.entries }
         ensures all { length self.new.held.items ≡ length self.old.held.items }
-        ensures room { HasRoom self.old → HasRoom self.new }
+        ensures room { HasRoomInQueues self.old → HasRoomInQueues self.new }
     {
         hold_all(
             self.alloc,
@@ -191,9 +191,9 @@ impl Lists {
 
     /// Both queues get room for one more.
     fn make_room(&mut self) -> Result<(), Memory>
-        ensures seen { seen self.new ≡ seen self.old }
+        ensures seen { table_of_lists self.new ≡ table_of_lists self.old }
         ensures held { self.new.held.items ≡ self.old.held.items }
-        ensures room { OnOk result (HasRoom self.new) }
+        ensures room { OnOk result (HasRoomInQueues self.new) }
     {
         self.upgrades.reserve(1)?;
         self.waits.reserve(1)?;
@@ -202,8 +202,8 @@ impl Lists {
 
     /// The region of the request waits for it, and for nothing else.
     fn wait_only_for(&mut self, request: Request)
-        requires { HasRoom self.old }
-        ensures seen { seen self.new ≡ waiting request (waits_only_for request (seen self.old)) }
+        requires { HasRoomInQueues self.old }
+        ensures seen { table_of_lists self.new ≡ with_waiter request (waits_only_for request (table_of_lists self.old)) }
         ensures holds { self.new.holds.entries ≡ self.old.holds.entries }
         ensures held { self.new.held.items ≡ self.old.held.items }
     {
@@ -218,7 +218,7 @@ impl Lists {
 
     /// The region waits for nothing any longer.
     pub fn stop_waiting(&mut self, region: u32)
-        ensures seen { seen self.new ≡ waits_for_nothing region (seen self.old) }
+        ensures seen { table_of_lists self.new ≡ waits_for_nothing region (table_of_lists self.old) }
         ensures holds { self.new.holds.entries ≡ self.old.holds.entries }
         ensures held { self.new.held.items ≡ self.old.held.items }
     {
@@ -232,7 +232,7 @@ impl Lists {
         requires last { region ≤ length self.old.held.items }
         requires listed { AreListed self.old.held.items self.old.holds.entries }
         requires small { AllByRecursion (IsUpTo self.old.regions) (keys_of self.old.holds.entries) }
-        ensures seen { seen self.new ≡ released region (seen self.old) }
+        ensures seen { table_of_lists self.new ≡ released region (table_of_lists self.old) }
         ensures listed { AreListed self.new.held.items self.new.holds.entries }
         ensures all { length self.new.held.items ≡ length self.old.held.items }
     {
@@ -246,12 +246,12 @@ impl Lists {
 
     /// The region asks for all this, up to the first that is blocked, which is told.
     pub fn ask_all(&mut self, region: u32, requests: &[Request]) -> Result<Option<Blocked>, Memory>
-        requires kept { AreKept self.old }
-        requires region { IsRegion (seen self.old) region }
+        requires kept { AreListsKept self.old }
+        requires region { IsTableRegion (table_of_lists self.old) region }
         requires own { AllByRecursion (λ request. request.region ≡ region) requests.now }
-        ensures answer { IfOk result (λ blocked. blocked ≡ option_map told (first_blocked requests.now (seen self.old))) }
-        ensures ok { OnOk result (seen self.new ≡ after_asks region requests.now (seen self.old)) }
-        ensures err { OnErr result (seen self.new ≡ seen self.old) }
+        ensures answer { IfOk result (λ blocked. blocked ≡ option_map blocked_told (first_blocked requests.now (table_of_lists self.old))) }
+        ensures ok { OnOk result (table_of_lists self.new ≡ after_asks region requests.now (table_of_lists self.old)) }
+        ensures err { OnErr result (table_of_lists self.new ≡ table_of_lists self.old) }
         ensures listed { AreListed self.new.held.items self.new.holds.entries }
         ensures all { length self.new.held.items ≡ length self.old.held.items }
     {
@@ -272,14 +272,14 @@ impl Lists {
         requests: &[Request],
         stop: Stop,
     ) -> Result<Option<Blocked>, Memory>
-        requires kept { AreKept self.old }
-        requires region { IsRegion (seen self.old) region }
+        requires kept { AreListsKept self.old }
+        requires region { IsTableRegion (table_of_lists self.old) region }
         requires own { AllByRecursion (λ request. request.region ≡ region) requests.now }
-        requires before { AreFree (take stop.place requests.now) (seen self.old) }
-        requires here { option_and_then (λ request. blocked_by request (seen self.old)) (slice_get requests.now stop.place) ≡ Some stop.by }
-        ensures answer { IfOk result (λ blocked. blocked ≡ option_map told (first_blocked requests.now (seen self.old))) }
-        ensures ok { OnOk result (seen self.new ≡ after_asks region requests.now (seen self.old)) }
-        ensures err { OnErr result (seen self.new ≡ seen self.old) }
+        requires before { AreRequestsFree (take stop.place requests.now) (table_of_lists self.old) }
+        requires here { option_and_then (λ request. blocked_by request (table_of_lists self.old)) (slice_get requests.now stop.place) ≡ Some stop.by }
+        ensures answer { IfOk result (λ blocked. blocked ≡ option_map blocked_told (first_blocked requests.now (table_of_lists self.old))) }
+        ensures ok { OnOk result (table_of_lists self.new ≡ after_asks region requests.now (table_of_lists self.old)) }
+        ensures err { OnErr result (table_of_lists self.new ≡ table_of_lists self.old) }
         ensures listed { AreListed self.new.held.items self.new.holds.entries }
         ensures all { length self.new.held.items ≡ length self.old.held.items }
     {

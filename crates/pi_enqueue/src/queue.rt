@@ -5,8 +5,8 @@ ghost use Rattle.std.specs.Option.{option_copied};
 ghost use Rattle.std.specs.Vec.{vec_len, vec_capacity};
 ghost use Rattle.model_data.specs.Modes.{same_resource};
 ghost use Rattle.model_data.specs.Table.{is_own, ahead};
-ghost use Rattle.model_data.specs.Ask.{without_wait, placed};
-ghost use Rattle.pi_enqueue.specs.Grant.{without_waits};
+ghost use Rattle.model_data.specs.EnqueueRequests.{without_wait, placed_request};
+ghost use Rattle.pi_enqueue.specs.Grants.{without_waits};
 
 use model_data::Request;
 use tm_types::Resource;
@@ -104,7 +104,7 @@ pub fn end_waits(waiters: &mut Vec<Request>, region: u32)
 /// The request stands in the place that its region has, or else at the end, for which there is room.
 pub fn place(waiters: &mut Vec<Request>, request: Request)
     requires { vec_len waiters.old < vec_capacity waiters.old }
-    ensures { waiters.new.items ≡ placed request waiters.old.items }
+    ensures { waiters.new.items ≡ placed_request request waiters.old.items }
 {
     match place_of(waiters, &request) {
         Some(place) => waiters[place] = request,

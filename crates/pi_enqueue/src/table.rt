@@ -2,13 +2,13 @@
 ghost use Rattle.std.specs.Prelude.{◌≡◌, ◌<◌, ◌^◌, IfOk, OnOk, OnErr};
 ghost use Rattle.std.specs.List.{AllByRecursion};
 ghost use Rattle.std.specs.Option.{option_map};
-ghost use Rattle.model_data.specs.Table.{empty_table, is_served, blocked_by, lowest_holder, wait_of, waits_by, waits_for};
-ghost use Rattle.model_data.specs.Ask.{answer_to, after_ask, after_asks, first_blocked, released, waits_for_nothing};
-ghost use Rattle.model_data.specs.Cycle.{IsRegion};
-ghost use Rattle.pi_enqueue.specs.Kept.{IsKept, WaitsForNothingElse};
-ghost use Rattle.pi_enqueue.specs.Grant.{told};
+ghost use Rattle.model_data.specs.Table.{empty_table, blocked_by, lowest_holder, wait_of, waits_by, waits_for};
+ghost use Rattle.model_data.specs.EnqueueRequests.{answer_to, after_ask, after_asks, first_blocked, released, waits_for_nothing};
+ghost use Rattle.model_data.specs.Cycle.{IsTableRegion};
+ghost use Rattle.pi_enqueue.specs.KeptTable.{IsTableKept, WaitsForNothingElse};
+ghost use Rattle.pi_enqueue.specs.Grants.{blocked_told};
 
-use crate::holds::{is_served, lowest, mode_held};
+use crate::holds::lowest;
 use crate::lists::{Lists, told};
 use model_data::{Asked, Request};
 use std::alloc::Global;
@@ -35,13 +35,13 @@ pub struct Table {
 
 impl Model for Table {
     ghost use Rattle.model_data.specs.Table.{EnqueueTable};
-    ghost use Rattle.pi_enqueue.specs.Lists.{seen, AreKept};
+    ghost use Rattle.pi_enqueue.specs.Lists.{table_of_lists, AreListsKept};
 
     ghost Value = { EnqueueTable };
 
-    ghost view = { λ t. seen t.lists };
+    ghost view = { λ t. table_of_lists t.lists };
 
-    ghost invariant = { λ t. AreKept t.lists };
+    ghost invariant = { λ t. AreListsKept t.lists };
 }
 
 impl Table {
@@ -58,7 +58,7 @@ impl Table {
     pub fn regions(&self) -> u32
         ensures value { result ≡ self.now.regions }
         ensures small { self.now.regions < 2 ^ 32 }
-        ensures kept { IsKept self.now }
+        ensures kept { IsTableKept self.now }
     {
         self.lists.regions
     }
@@ -72,7 +72,7 @@ impl Table {
     /// A waiter that is still blocked keeps its place. `Waits` tells the lowest such holder, or else the
     /// earliest such waiter. At `Memory` nothing has changed.
     pub fn ask(&mut self, region: u32, resource: Resource, mode: Mode) -> Result<Asked, Memory>
-        requires region { IsRegion self.old region }
+        requires region { IsTableRegion self.old region }
         requires waits { WaitsForNothingElse (record { region = region; resource = resource; mode = mode }) self.old }
         ensures answer { IfOk result (λ asked. asked ≡ answer_to (blocked_by (record { region = region; resource = resource; mode = mode }) self.old)) }
         ensures ok { OnOk result (self.new ≡ after_ask (record { region = region; resource = resource; mode = mode }) self.old) }
@@ -96,12 +96,12 @@ impl Table {
     /// What is asked before it is granted and kept. For the blocked one alone the region then waits,
     /// and where none is blocked, for nothing. At `Memory` nothing has changed.
     pub fn ask_all(&mut self, region: u32, requests: &[Request]) -> Result<Option<Blocked>, Memory>
-        requires region { IsRegion self.old region }
+        requires region { IsTableRegion self.old region }
         requires own { AllByRecursion (λ request. request.region ≡ region) requests.now }
-        ensures answer { IfOk result (λ blocked. blocked ≡ option_map told (first_blocked requests.now self.old)) }
+        ensures answer { IfOk result (λ blocked. blocked ≡ option_map blocked_told (first_blocked requests.now self.old)) }
         ensures ok { OnOk result (self.new ≡ after_asks region requests.now self.old) }
         ensures err { OnErr result (self.new ≡ self.old) }
-        ensures kept { IsKept self.new }
+        ensures kept { IsTableKept self.new }
     {
         self.lists.ask_all(region, requests)
     }
@@ -109,9 +109,9 @@ impl Table {
     /// The first of these requests of the region that is blocked, where each before it is granted. Nothing
     /// changes.
     pub fn first_blocked(&self, region: u32, requests: &[Request]) -> Option<Blocked>
-        requires region { IsRegion self.now region }
+        requires region { IsTableRegion self.now region }
         requires own { AllByRecursion (λ request. request.region ≡ region) requests.now }
-        ensures { result ≡ option_map told (first_blocked requests.now self.now) }
+        ensures { result ≡ option_map blocked_told (first_blocked requests.now self.now) }
     {
         match self.lists.stop_of(region, requests) {
             Some(stop) => Some(told(&requests[stop.place], stop.by)),
@@ -128,22 +128,10 @@ impl Table {
 
     /// The region holds nothing any longer and waits for nothing. This takes no memory.
     pub fn release_all(&mut self, region: u32)
-        requires { IsRegion self.old region }
+        requires { IsTableRegion self.old region }
         ensures { self.new ≡ released region self.old }
     {
         self.lists.release_all(region);
-    }
-
-    /// Whether the region holds the resource in this or a stronger mode.
-    pub fn holds(&self, region: u32, resource: &Resource, mode: Mode) -> bool
-        ensures { result ≡ is_served (record { region = region; resource = resource.now; mode = mode }) self.now.holds }
-    {
-        let request = Request {
-            region,
-            resource: *resource,
-            mode,
-        };
-        is_served(mode_held(&self.lists.holds, &request), mode)
     }
 
     /// The lowest region that holds the resource; None where none does.

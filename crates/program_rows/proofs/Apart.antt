@@ -4,13 +4,13 @@ use Rattle.std.specs.List.{AllByRecursion}
 use Rattle.std.proofs.lemmas.Bool.{false≢true, eqb-true}
 use Rattle.model_data.specs.declared.row.Row.{Row}
 use Rattle.model_data.specs.Table.{EnqueueTable}
-use Rattle.pi_enqueue.specs.Kept.{IsKept}
+use Rattle.pi_enqueue.specs.KeptTable.{IsTableKept}
 use Rattle.seg_store.specs.Slots.{Stored, has_root}
 use Rattle.seg_store.proofs.SlotRows.{same_key}
 use Rattle.unit_work.specs.declared.change.Change.{Change}
-use Rattle.unit_work.specs.Changes.{is_of, is_changed}
+use Rattle.unit_work.specs.Changes.{is_change_of_record, is_record_changed}
 use Rattle.unit_work.specs.BackOut.{is_touched, was_in, cleared_slot}
-use Rattle.program_rows.specs.Open.{HoldsAlone, Sits, IsUnit, AreUnits, was_there}
+use Rattle.program_rows.specs.OpenUnits.{HoldsAlone, Sits, IsOpenUnit, AreUnits, was_there}
 use Rattle.unit_work.specs.Images.{image_at}
 use Rattle.program_rows.proofs.Beside.{IsIdle, AreRooted, AreOthers, AreBeside, touched_is}
 use Rattle.program_rows.proofs.Aside.{was_in_is, can_rooted, cleared_where}
@@ -20,20 +20,20 @@ use Rattle.program_rows.proofs.Bools.{left_of, right_of}
 
 -- the region has a record alone that its unit has changed
 pub holds_changed : (table : EnqueueTable) (region db : ℕ) (root : List ℕ) (records : List Change) → AllByRecursion (λ c. HoldsAlone table region (record { db = c.db; root = Some c.root })) records
-    → is_changed db root records ≡ true → HoldsAlone table region (record { db = db; root = Some root })
+    → is_record_changed db root records ≡ true → HoldsAlone table region (record { db = db; root = Some root })
 holds_changed table region db root [] h e = absurd (false≢true e)
-holds_changed table region db root (c ∷ records) h e = by (is_of db root c) refl (holds_changed table region db root records h.1)
+holds_changed table region db root (c ∷ records) h e = by (is_change_of_record db root c) refl (holds_changed table region db root records h.1)
   where
-    by : (b : Bool) → is_of db root c ≡ b → (is_changed db root records ≡ true → HoldsAlone table region (record { db = db; root = Some root })) → HoldsAlone table region (record { db = db; root = Some root })
+    by : (b : Bool) → is_change_of_record db root c ≡ b → (is_record_changed db root records ≡ true → HoldsAlone table region (record { db = db; root = Some root })) → HoldsAlone table region (record { db = db; root = Some root })
     by true q rec =
         let database : c.db ≡ db = eqb-true c.db db (left_of (eqb c.db db) _ q) in
         let key : c.root ≡ root = sym (same_key c.root root (right_of (eqb c.db db) _ q)) in
         subst (λ k. HoldsAlone table region (record { db = db; root = Some k })) key
         (subst (λ n. HoldsAlone table region (record { db = n; root = Some c.root })) database h.0)
-    by false q rec = rec (sym (ap (λ b. b || is_changed db root records) q) ∙ e)
+    by false q rec = rec (sym (ap (λ b. b || is_record_changed db root records) q) ∙ e)
 
 -- an image that a unit has touched is of a record that it has changed
-pub touched_root : (records : List Change) (db : ℕ) (image : List Row) → is_touched records db image ≡ true → (root : List ℕ) × (has_root root image ≡ true) × (is_changed db root records ≡ true)
+pub touched_root : (records : List Change) (db : ℕ) (image : List Row) → is_touched records db image ≡ true → (root : List ℕ) × (has_root root image ≡ true) × (is_record_changed db root records ≡ true)
 touched_root records db image e = by records (found records e)
   where
     found : (rs : List Change) → is_touched rs db image ≡ true → (root : List ℕ) × (has_root root image ≡ true)
@@ -44,7 +44,7 @@ touched_root records db image e = by records (found records e)
         each true t rec = (c.root, right_of (eqb c.db db) _ t)
         each false t rec = rec (sym (ap (λ b. b || is_touched rs db image) t) ∙ q)
 
-    by : (rs : List Change) → (root : List ℕ) × (has_root root image ≡ true) → (root : List ℕ) × (has_root root image ≡ true) × (is_changed db root records ≡ true)
+    by : (rs : List Change) → (root : List ℕ) × (has_root root image ≡ true) → (root : List ℕ) × (has_root root image ≡ true) × (is_record_changed db root records ≡ true)
     by rs f = (f.0, f.1, sym (touched_is records db f.0 image f.1) ∙ e)
 
 -- where the record of a unit was and nothing is, its region has the sequence alone
@@ -63,12 +63,12 @@ free_where table stores region (c ∷ records) db slot h e free = by (was_in db 
         absurd (false≢true (ap (has_root c.root) (sym none) ∙ st.is)))
         (λ seq. subst (λ n. HoldsAlone table region (record { db = n; root = None })) was.database seq) h.0
 
-module _ (table : EnqueueTable) (stores : List Stored) (compatible : IsKept table) (i k : ℕ) (a b : List Change)
-    (unit_a : IsUnit table stores i a) (unit_b : IsUnit table stores k b) (other : i ≢ k) where
+module _ (table : EnqueueTable) (stores : List Stored) (compatible : IsTableKept table) (i k : ℕ) (a b : List Change)
+    (unit_a : IsOpenUnit table stores i a) (unit_b : IsOpenUnit table stores k b) (other : i ≢ k) where
   pub others_apart : AreOthers a b
-  others_apart db root e = by (is_changed db root b) refl
+  others_apart db root e = by (is_record_changed db root b) refl
     where
-      by : (c : Bool) → is_changed db root b ≡ c → is_changed db root b ≡ false
+      by : (c : Bool) → is_record_changed db root b ≡ c → is_record_changed db root b ≡ false
       by false q = q
       by true q =
           absurd (other (compatible.alone _ i k _ (holds_changed table i db root a unit_a.alone e) (holds_changed table k db root b unit_b.alone q)))
@@ -87,7 +87,7 @@ module _ (table : EnqueueTable) (stores : List Stored) (compatible : IsKept tabl
           let same : cleared_slot b db (image_at db slot stores) ≡ image_at db slot stores = ap (λ t. cond t [] (image_at db slot stores)) u in
           absurd (false≢true (ap (has_root root) (sym (cleared_where b stores db slot unit_b.can q) ∙ same) ∙ h))
 
-pub units_beside : (table : EnqueueTable) (stores : List Stored) → IsKept table → (i k : ℕ) (a b : List Change) → IsUnit table stores i a → IsUnit table stores k b → i ≢ k → AreBeside stores a b
+pub units_beside : (table : EnqueueTable) (stores : List Stored) → IsTableKept table → (i k : ℕ) (a b : List Change) → IsOpenUnit table stores i a → IsOpenUnit table stores k b → i ≢ k → AreBeside stores a b
 units_beside table stores compatible i k a b unit_a unit_b other =
     record {
       others = others_apart table stores compatible i k a b unit_a unit_b other;

@@ -7,20 +7,20 @@ use Rattle.std.proofs.lemmas.List.{length-map}
 use Rattle.model_data.specs.declared.row.Row.{Row}
 use Rattle.model_data.specs.Record.{IsRecord}
 use Rattle.model_data.proofs.Lists.{all_then}
-use Rattle.seg_store.specs.Slots.{Stored, has_root, is_free, slot_of}
+use Rattle.seg_store.specs.Slots.{Stored, has_root, is_slot_free, slot_of_root}
 use Rattle.seg_store.proofs.Places as places
 use Rattle.seg_store.proofs.SlotRows.{record_has}
 use Rattle.unit_work.specs.declared.change.Change.{Change}
-use Rattle.unit_work.specs.Changes.{is_changed}
+use Rattle.unit_work.specs.Changes.{is_record_changed}
 use Rattle.unit_work.specs.BackOut.{is_touched, was_in, cleared_slot, cleared_slots, cleared_from, cleared, backed_out, IsStored, FitsStore, FitsOption, CanGoBack, CanBackOut}
-use Rattle.unit_work.specs.Images.{slots_at, image_at}
+use Rattle.unit_work.specs.Images.{slots_of_database, image_at}
 use Rattle.program_rows.proofs.Slotwise.{back, backed_is, image_at_each, slots_at_length, dbds_each}
 use Rattle.program_rows.proofs.Beside.{IsIdle, AreRooted, AreBeside, idle_back, idle_stays, touched_is, all_changed}
-use Rattle.program_rows.specs.Open.{was_there}
+use Rattle.program_rows.specs.OpenUnits.{was_there}
 use Rattle.program_rows.proofs.Bools.{left_of, right_of}
 
 -- the store of a number, among cleared stores
-at_cleared : (records : List Change) (n i m : ℕ) (stores : List Stored) (s : Stored) → m ≡ n + i → slice_get stores i ≡ Some s
+pub at_cleared : (records : List Change) (n i m : ℕ) (stores : List Stored) (s : Stored) → m ≡ n + i → slice_get stores i ≡ Some s
     → slice_get (cleared_from records n stores) i ≡ Some (record { dbd = s.dbd; slots = cleared_slots records m s.slots })
 at_cleared records n i m [] s e g = let clash : None ≡ Some s = g in absurd (cc)
 at_cleared records n zero m (x ∷ stores) s e g =
@@ -47,7 +47,7 @@ free_there records db (x ∷ xs) zero lt e = ap Some e
 free_there records db (x ∷ xs) (suc m) lt e = free_there records db xs m (omega arith) e
 
 -- no record of the unit is in slots that it has cleared
-pub cleared_new : (records : List Change) (db : ℕ) (root : List ℕ) (xs : List (List Row)) → is_changed db root records ≡ true → slot_of root (cleared_slots records db xs) ≡ None
+pub cleared_new : (records : List Change) (db : ℕ) (root : List ℕ) (xs : List (List Row)) → is_record_changed db root records ≡ true → slot_of_root root (cleared_slots records db xs) ≡ None
 cleared_new records db root [] e = refl
 cleared_new records db root (x ∷ xs) e =
     places.none_cons (has_root root) (cleared_slot records db x) (cleared_slots records db xs) (gone (has_root root x) refl) (cleared_new records db root xs e)
@@ -79,7 +79,7 @@ goes records stores c least h = ⊎_elim (λ e. inl e) (λ f. inr (by (slice_get
         let inside = free_within records c.db s.slots c.slot fits.free in
         record { s = s; at = e; valid = fits.valid; within = inside.0; free = inside.1 }
 
-pub can_go : (records : List Change) (stores : List Stored) (c : Change) → 1 ≤ c.db → is_changed c.db c.root records ≡ true → (c.before ≡ []) ⊎ Goes records stores c
+pub can_go : (records : List Change) (stores : List Stored) (c : Change) → 1 ≤ c.db → is_record_changed c.db c.root records ≡ true → (c.before ≡ []) ⊎ Goes records stores c
     → CanGoBack (cleared records stores) c
 can_go records stores c least own h = ⊎_elim (λ e. inl e) (λ g. inr (fits g)) h
   where
@@ -101,30 +101,30 @@ pub can_rooted : (records : List Change) (stores : List Stored) → CanBackOut r
 can_rooted records stores can = are_rooted records records stores can.fits can.stored
 
 -- the slots of a store that is there
-pub slots_there : (db : ℕ) (stores : List Stored) (s : Stored) → slice_get stores (db - 1) ≡ Some s → slots_at db stores ≡ s.slots
+pub slots_there : (db : ℕ) (stores : List Stored) (s : Stored) → slice_get stores (db - 1) ≡ Some s → slots_of_database db stores ≡ s.slots
 slots_there db stores s e = ap (λ o. option_map_or (λ (x : Stored). x.slots) o []) e
 
 -- what it takes to have been in a slot
 pub record WasIn (db slot : ℕ) (c : Change) : Type 0 where
   pub database : c.db ≡ db
   pub place : c.slot ≡ slot
-  pub some : is_free c.before ≡ false
+  pub some : is_slot_free c.before ≡ false
 
 pub was_in_is : (db slot : ℕ) (c : Change) → was_in db slot c ≡ true → WasIn db slot c
 was_in_is db slot c e =
-    let rest : (eqb c.slot slot && not (is_free c.before)) ≡ true = right_of (eqb c.db db) _ e in
+    let rest : (eqb c.slot slot && not (is_slot_free c.before)) ≡ true = right_of (eqb c.db db) _ e in
     record {
       database = eqb-true c.db db (left_of (eqb c.db db) _ e);
       place = eqb-true c.slot slot (left_of (eqb c.slot slot) _ rest);
-      some = turn (is_free c.before) (right_of (eqb c.slot slot) _ rest);
+      some = turn (is_slot_free c.before) (right_of (eqb c.slot slot) _ rest);
     }
   where
     turn : (b : Bool) → not b ≡ true → b ≡ false
     turn true h = absurd (false≢true h)
     turn false h = refl
 
-pub free_none : (image : List Row) → image ≡ [] → is_free image ≡ true
-free_none image e = ap is_free e
+pub free_none : (image : List Row) → image ≡ [] → is_slot_free image ≡ true
+free_none image e = ap is_slot_free e
 
 -- where the record of a change was, its unit leaves nothing once it is cleared
 pub cleared_where : (records : List Change) (stores : List Stored) (db slot : ℕ) → CanBackOut records stores → was_there records db slot ≡ true
@@ -152,8 +152,8 @@ cleared_where records stores db slot can h = by records can.fits can.stored h
 -- stores with the same databases and as many slots, in which only slots have changed where the unit is idle
 pub record ChangesAside (records : List Change) (old new : List Stored) : Type 0 where
   pub dbds : map (λ (s : Stored). s.dbd) new ≡ map (λ (s : Stored). s.dbd) old
-  pub lengths : (db : ℕ) → 1 ≤ db → length (slots_at db new) ≡ length (slots_at db old)
-  pub images : (db slot : ℕ) → 1 ≤ db → slot < length (slots_at db old)
+  pub lengths : (db : ℕ) → 1 ≤ db → length (slots_of_database db new) ≡ length (slots_of_database db old)
+  pub images : (db slot : ℕ) → 1 ≤ db → slot < length (slots_of_database db old)
       → (image_at db slot new ≡ image_at db slot old) ⊎ (IsIdle records db slot (image_at db slot old) × IsIdle records db slot (image_at db slot new))
 
 -- the store of a number in stores with the same databases
@@ -172,22 +172,22 @@ same_there (x ∷ old) (t ∷ new) (suc i) s e g =
     let tails : map (λ (y : Stored). y.dbd) new ≡ map (λ (y : Stored). y.dbd) old = cc in
     same_there old new i s tails g
 
-pub was_there_own : (records : List Change) → AllByRecursion (λ c. is_free c.before ≡ false → was_there records c.db c.slot ≡ true) records
+pub was_there_own : (records : List Change) → AllByRecursion (λ c. is_slot_free c.before ≡ false → was_there records c.db c.slot ≡ true) records
 was_there_own records = each records
   where
-    own : (c : Change) → is_free c.before ≡ false → was_in c.db c.slot c ≡ true
+    own : (c : Change) → is_slot_free c.before ≡ false → was_in c.db c.slot c ≡ true
     own c some = λ t. eq-eqb c.db c.db refl t && (eq-eqb c.slot c.slot refl t && not (some t))
 
     or_true : (b : Bool) → (b || true) ≡ true
     or_true true = refl
     or_true false = refl
 
-    shift : (x : Change) (rest cs : List Change) → AllByRecursion (λ c. is_free c.before ≡ false → was_there rest c.db c.slot ≡ true) cs
-        → AllByRecursion (λ c. is_free c.before ≡ false → was_there (x ∷ rest) c.db c.slot ≡ true) cs
+    shift : (x : Change) (rest cs : List Change) → AllByRecursion (λ c. is_slot_free c.before ≡ false → was_there rest c.db c.slot ≡ true) cs
+        → AllByRecursion (λ c. is_slot_free c.before ≡ false → was_there (x ∷ rest) c.db c.slot ≡ true) cs
     shift x rest [] h = tt
     shift x rest (c ∷ cs) h = (λ some. ap (λ b. was_in c.db c.slot x || b) (h.0 some) ∙ or_true (was_in c.db c.slot x), shift x rest cs h.1)
 
-    each : (rs : List Change) → AllByRecursion (λ c. is_free c.before ≡ false → was_there rs c.db c.slot ≡ true) rs
+    each : (rs : List Change) → AllByRecursion (λ c. is_slot_free c.before ≡ false → was_there rs c.db c.slot ≡ true) rs
     each [] = tt
     each (c ∷ rs) = (λ some. ap (λ b. b || was_there rs c.db c.slot) (own c some), shift c rs rs (each rs))
 
@@ -203,13 +203,13 @@ can_aside records old new can aside =
     count : length new ≡ length old
     count = sym (length-map new (λ (s : Stored). s.dbd)) ∙ (ap length aside.dbds ∙ length-map old (λ (s : Stored). s.dbd))
 
-    one : (c : Change) → 1 ≤ c.db → is_free c.before ≡ false → was_there records c.db c.slot ≡ true → Goes records old c → Goes records new c
+    one : (c : Change) → 1 ≤ c.db → is_slot_free c.before ≡ false → was_there records c.db c.slot ≡ true → Goes records old c → Goes records new c
     one c least some used g =
         let there = same_there old new (c.db - 1) g.s aside.dbds g.at in
-        let old_slots : slots_at c.db old ≡ g.s.slots = slots_there c.db old g.s g.at in
-        let new_slots : slots_at c.db new ≡ there.0.slots = slots_there c.db new there.0 there.1 in
-        let within_old : c.slot < length (slots_at c.db old) = subst (λ xs. c.slot < length xs) (sym old_slots) g.within in
-        let within_new : c.slot < length (slots_at c.db new) = subst (λ n. c.slot < n) (sym (aside.lengths c.db least)) within_old in
+        let old_slots : slots_of_database c.db old ≡ g.s.slots = slots_there c.db old g.s g.at in
+        let new_slots : slots_of_database c.db new ≡ there.0.slots = slots_there c.db new there.0 there.1 in
+        let within_old : c.slot < length (slots_of_database c.db old) = subst (λ xs. c.slot < length xs) (sym old_slots) g.within in
+        let within_new : c.slot < length (slots_of_database c.db new) = subst (λ n. c.slot < n) (sym (aside.lengths c.db least)) within_old in
         let same : image_at c.db c.slot new ≡ image_at c.db c.slot old =
         ⊎_elim (λ e. e) (λ idle. absurd (false≢true (sym idle.0.unused ∙ used))) (aside.images c.db c.slot least within_old) in
         record {
@@ -221,22 +221,22 @@ can_aside records old new can aside =
               ∙ (ap (cleared_slot records c.db) same ∙ (ap (λ xs. cleared_slot records c.db (get_or xs c.slot [])) old_slots ∙ g.free));
         }
 
-    either : (c : Change) → 1 ≤ c.db → (is_free c.before ≡ false → was_there records c.db c.slot ≡ true) → (b : Bool) → is_free c.before ≡ b → (c.before ≡ []) ⊎ Goes records old c
+    either : (c : Change) → 1 ≤ c.db → (is_slot_free c.before ≡ false → was_there records c.db c.slot ≡ true) → (b : Bool) → is_slot_free c.before ≡ b → (c.before ≡ []) ⊎ Goes records old c
         → (c.before ≡ []) ⊎ Goes records new c
     either c least used b q h = ⊎_elim (λ e. inl e) (λ g. inr (one c least (some g) (used (some g)) g)) h
       where
-        some : Goes records old c → is_free c.before ≡ false
+        some : Goes records old c → is_slot_free c.before ≡ false
         some g = by c.before refl
           where
-            by : (image : List Row) → c.before ≡ image → is_free c.before ≡ false
+            by : (image : List Row) → c.before ≡ image → is_slot_free c.before ≡ false
             by [] e = absurd (g.valid.whole.some e)
-            by (row ∷ image) e = ap is_free e
+            by (row ∷ image) e = ap is_slot_free e
 
-    fits : (rs : List Change) → AllByRecursion (CanGoBack (cleared records old)) rs → AllByRecursion (IsStored old) rs → AllByRecursion (λ c. is_changed c.db c.root records ≡ true) rs
-        → AllByRecursion (λ c. is_free c.before ≡ false → was_there records c.db c.slot ≡ true) rs → AllByRecursion (CanGoBack (cleared records new)) rs
+    fits : (rs : List Change) → AllByRecursion (CanGoBack (cleared records old)) rs → AllByRecursion (IsStored old) rs → AllByRecursion (λ c. is_record_changed c.db c.root records ≡ true) rs
+        → AllByRecursion (λ c. is_slot_free c.before ≡ false → was_there records c.db c.slot ≡ true) rs → AllByRecursion (CanGoBack (cleared records new)) rs
     fits [] f s o u = tt
     fits (c ∷ rs) f s o u = (
-      can_go records new c s.0.least o.0 (either c s.0.least u.0 (is_free c.before) refl (goes records old c s.0.least f.0)),
+      can_go records new c s.0.least o.0 (either c s.0.least u.0 (is_slot_free c.before) refl (goes records old c s.0.least f.0)),
       fits rs f.1 s.1 o.1 u.1,
     )
 
@@ -245,7 +245,7 @@ pub aside_back : (stores : List Stored) (a b : List Change) → AreBeside stores
 aside_back stores a b h =
     record {
       dbds = ap (map (λ (s : Stored). s.dbd)) (backed_is b stores) ∙ dbds_each (back b) 1 stores;
-      lengths = λ db least. ap (λ ss. length (slots_at db ss)) (backed_is b stores) ∙ slots_at_length (back b) db stores least;
+      lengths = λ db least. ap (λ ss. length (slots_of_database db ss)) (backed_is b stores) ∙ slots_at_length (back b) db stores least;
       images = λ db slot least lt.
           let new : image_at db slot (backed_out b stores) ≡ back b db slot (image_at db slot stores) =
           ap (image_at db slot) (backed_is b stores) ∙ image_at_each (back b) db slot stores least lt in

@@ -10,25 +10,25 @@ use Rattle.model_data.specs.declared.request.Holder.{Holder}
 use Rattle.model_data.specs.declared.request.Request.{Request}
 use Rattle.model_data.specs.Modes.{excludes}
 use Rattle.model_data.specs.Table.{EnqueueTable, holds_of, is_upgrade, is_against, blocked_by}
-use Rattle.model_data.specs.Ask.{placed, with_hold, granted, waiting, waits_only_for, after_asks, first_blocked}
-use Rattle.pi_enqueue.specs.Kept.{held}
-use Rattle.program_rows.specs.Open.{HoldsAlone}
+use Rattle.model_data.specs.EnqueueRequests.{placed_request, with_hold, granted, with_waiter, waits_only_for, after_asks, first_blocked}
+use Rattle.pi_enqueue.specs.KeptTable.{held_mode}
+use Rattle.program_rows.specs.OpenUnits.{HoldsAlone}
 use Rattle.program_rows.proofs.Holders.{alone_granted, alone_asked, found_any}
 
 -- waiting changes no holder
-pub waiting_holds : (q : Request) (table : EnqueueTable) → (waiting q table).holds ≡ table.holds
+pub waiting_holds : (q : Request) (table : EnqueueTable) → (with_waiter q table).holds ≡ table.holds
 waiting_holds q table = by (is_upgrade q table.holds) refl
   where
-    by : (b : Bool) → is_upgrade q table.holds ≡ b → (waiting q table).holds ≡ table.holds
-    by true e = ap (λ (t : EnqueueTable). t.holds) (ap (λ b. cond b (record table { upgrades = placed q table.upgrades }) (record table { waits = placed q table.waits })) e)
-    by false e = ap (λ (t : EnqueueTable). t.holds) (ap (λ b. cond b (record table { upgrades = placed q table.upgrades }) (record table { waits = placed q table.waits })) e)
+    by : (b : Bool) → is_upgrade q table.holds ≡ b → (with_waiter q table).holds ≡ table.holds
+    by true e = ap (λ (t : EnqueueTable). t.holds) (ap (λ b. cond b (record table { upgrades = placed_request q table.upgrades }) (record table { waits = placed_request q table.waits })) e)
+    by false e = ap (λ (t : EnqueueTable). t.holds) (ap (λ b. cond b (record table { upgrades = placed_request q table.upgrades }) (record table { waits = placed_request q table.waits })) e)
 
-waiting_regions : (q : Request) (table : EnqueueTable) → (waiting q table).regions ≡ table.regions
+waiting_regions : (q : Request) (table : EnqueueTable) → (with_waiter q table).regions ≡ table.regions
 waiting_regions q table = by (is_upgrade q table.holds) refl
   where
-    by : (b : Bool) → is_upgrade q table.holds ≡ b → (waiting q table).regions ≡ table.regions
-    by true e = ap (λ (t : EnqueueTable). t.regions) (ap (λ b. cond b (record table { upgrades = placed q table.upgrades }) (record table { waits = placed q table.waits })) e)
-    by false e = ap (λ (t : EnqueueTable). t.regions) (ap (λ b. cond b (record table { upgrades = placed q table.upgrades }) (record table { waits = placed q table.waits })) e)
+    by : (b : Bool) → is_upgrade q table.holds ≡ b → (with_waiter q table).regions ≡ table.regions
+    by true e = ap (λ (t : EnqueueTable). t.regions) (ap (λ b. cond b (record table { upgrades = placed_request q table.upgrades }) (record table { waits = placed_request q table.waits })) e)
+    by false e = ap (λ (t : EnqueueTable). t.regions) (ap (λ b. cond b (record table { upgrades = placed_request q table.upgrades }) (record table { waits = placed_request q table.waits })) e)
 
 -- what holds of the holders before, and stays where a request is granted, holds of them after all requests
 module _ (P : List (Holder × Mode) → Type 0) (region : ℕ) where
@@ -38,9 +38,9 @@ module _ (P : List (Holder × Mode) → Type 0) (region : ℕ) where
   after_has (q ∷ requests) table step h = by (blocked_by q table) refl (after_has requests (granted q table) step.1 (step.0 table.holds h))
     where
       by : (o : Option ℕ) → blocked_by q table ≡ o → P (after_asks region requests (granted q table)).holds → P (after_asks region (q ∷ requests) table).holds
-      by None e rec = subst (λ o. P (option_map_or (λ n. waiting q (waits_only_for q table)) o (after_asks region requests (granted q table))).holds) (sym e) rec
+      by None e rec = subst (λ o. P (option_map_or (λ n. with_waiter q (waits_only_for q table)) o (after_asks region requests (granted q table))).holds) (sym e) rec
       by (Some n) e rec =
-          subst (λ o. P (option_map_or (λ k. waiting q (waits_only_for q table)) o (after_asks region requests (granted q table))).holds) (sym e)
+          subst (λ o. P (option_map_or (λ k. with_waiter q (waits_only_for q table)) o (after_asks region requests (granted q table))).holds) (sym e)
           (subst P (sym (waiting_holds q (waits_only_for q table))) h)
 
 every : (P : Request → Type 0) → ((q : Request) → P q) → (requests : List Request) → AllByRecursion P requests
@@ -50,17 +50,17 @@ every P f (q ∷ requests) = (f q, every P f requests)
 -- what a region has alone it has alone after any requests
 pub alone_after : (region : ℕ) (requests : List Request) (table : EnqueueTable) (k : ℕ) (r : Resource) → HoldsAlone table k r → HoldsAlone (after_asks region requests table) k r
 alone_after region requests table k r h =
-    after_has (λ holds. held k r holds ≡ Some Exclusive) region requests table
-    (every (λ q. (holds : List (Holder × Mode)) → held k r holds ≡ Some Exclusive → held k r (with_hold q holds) ≡ Some Exclusive) (λ q holds g. alone_granted k r q holds g) requests) h
+    after_has (λ holds. held_mode k r holds ≡ Some Exclusive) region requests table
+    (every (λ q. (holds : List (Holder × Mode)) → held_mode k r holds ≡ Some Exclusive → held_mode k r (with_hold q holds) ≡ Some Exclusive) (λ q holds g. alone_granted k r q holds g) requests) h
 
 pub regions_after_asks : (region : ℕ) (requests : List Request) (table : EnqueueTable) → (after_asks region requests table).regions ≡ table.regions
 regions_after_asks region [] table = refl
 regions_after_asks region (q ∷ requests) table = by (blocked_by q table) refl (regions_after_asks region requests (granted q table))
   where
     by : (o : Option ℕ) → blocked_by q table ≡ o → (after_asks region requests (granted q table)).regions ≡ table.regions → (after_asks region (q ∷ requests) table).regions ≡ table.regions
-    by None e rec = ap (λ o. (option_map_or (λ n. waiting q (waits_only_for q table)) o (after_asks region requests (granted q table))).regions) e ∙ rec
+    by None e rec = ap (λ o. (option_map_or (λ n. with_waiter q (waits_only_for q table)) o (after_asks region requests (granted q table))).regions) e ∙ rec
     by (Some n) e rec =
-        ap (λ o. (option_map_or (λ k. waiting q (waits_only_for q table)) o (after_asks region requests (granted q table))).regions) e ∙ waiting_regions q (waits_only_for q table)
+        ap (λ o. (option_map_or (λ k. with_waiter q (waits_only_for q table)) o (after_asks region requests (granted q table))).regions) e ∙ waiting_regions q (waits_only_for q table)
 
 -- one of these requests
 abbrev pub IsAsked : Request → List Request → Type 0
@@ -80,9 +80,9 @@ asked_after region (first ∷ requests) table q none asked mode = by (blocked_by
         let clash : Some (first, n) ≡ (let none : Option (Request × ℕ) = None in none) = sym (ap (λ o. option_map_or (λ k. Some (first, k)) o (first_blocked requests (granted first table))) e) ∙ none in absurd (cc)
     by None e rec =
         let rest : first_blocked requests (granted first table) ≡ None = sym (ap (λ o. option_map_or (λ k. Some (first, k)) o (first_blocked requests (granted first table))) e) ∙ none in
-        subst (λ o. HoldsAlone (option_map_or (λ n. waiting first (waits_only_for first table)) o (after_asks region requests (granted first table))) q.region q.resource) (sym e)
+        subst (λ o. HoldsAlone (option_map_or (λ n. with_waiter first (waits_only_for first table)) o (after_asks region requests (granted first table))) q.region q.resource) (sym e)
         (⊎_elim
-        (λ same. alone_after region requests (granted first table) q.region q.resource (subst (λ (x : Request). held x.region x.resource (with_hold first table.holds) ≡ Some Exclusive) same
+        (λ same. alone_after region requests (granted first table) q.region q.resource (subst (λ (x : Request). held_mode x.region x.resource (with_hold first table.holds) ≡ Some Exclusive) same
         (alone_asked first table.holds (ap (λ (x : Request). x.mode) same ∙ mode))))
         (λ later. rec rest later mode) asked)
 
@@ -91,7 +91,7 @@ abbrev pub is_contested : Request → List (Holder × Mode) → Bool
 is_contested q holds = list_any (is_against q) holds
 
 -- whoever has it alone contests it
-pub alone_contests : (q : Request) (holds : List (Holder × Mode)) (k : ℕ) → k ≢ q.region → held k q.resource holds ≡ Some Exclusive → is_contested q holds ≡ true
+pub alone_contests : (q : Request) (holds : List (Holder × Mode)) (k : ℕ) → k ≢ q.region → held_mode k q.resource holds ≡ Some Exclusive → is_contested q holds ≡ true
 alone_contests q holds k other h =
     found_any (λ holder. holds_of q.resource holder && eqb holder.region k) (is_against q) Exclusive holds
     (λ e test mode. against e (left_of (holds_of q.resource e.0) _ test) (eqb-true e.0.region k (right_of (holds_of q.resource e.0) _ test)) mode) h
@@ -114,4 +114,4 @@ alone_contests q holds k other h =
 
 -- no two regions hold a resource, one of them alone
 abbrev pub AreCompatible : List (Holder × Mode) → Type 0
-AreCompatible holds = (resource : Resource) (a b : ℕ) (mode : Mode) → held a resource holds ≡ Some Exclusive → held b resource holds ≡ Some mode → a ≡ b
+AreCompatible holds = (resource : Resource) (a b : ℕ) (mode : Mode) → held_mode a resource holds ≡ Some Exclusive → held_mode b resource holds ≡ Some mode → a ≡ b

@@ -6,13 +6,13 @@ use Rattle.std.proofs.lemmas.List.{length-set}
 use Rattle.model_data.specs.declared.row.Row.{Row}
 use Rattle.model_data.proofs.Lists.{all_then, all_filter}
 use Rattle.model_data.specs.Table.{EnqueueTable}
-use Rattle.model_data.specs.Ask.{released}
-use Rattle.pi_enqueue.specs.Kept.{IsKept}
-use Rattle.seg_store.specs.Slots.{Stored, has_root, is_free}
+use Rattle.model_data.specs.EnqueueRequests.{released}
+use Rattle.pi_enqueue.specs.KeptTable.{IsTableKept}
+use Rattle.seg_store.specs.Slots.{Stored, has_root, is_slot_free}
 use Rattle.unit_work.specs.declared.change.Change.{Change}
 use Rattle.unit_work.specs.BackOut.{cleared, backed_out, IsStored, CanGoBack}
-use Rattle.program_rows.specs.Open.{HoldsAlone, StaysInSlot, Sits, IsUnit, AreUnits, backed_all, seen_by, was_there}
-use Rattle.unit_work.specs.Images.{slots_at}
+use Rattle.program_rows.specs.OpenUnits.{HoldsAlone, StaysInSlot, Sits, IsOpenUnit, AreUnits, backed_all, seen_by, was_there}
+use Rattle.unit_work.specs.Images.{slots_of_database}
 use Rattle.program_rows.proofs.Beside.{AreBeside}
 use Rattle.program_rows.proofs.Aside.{goes, can_aside, aside_back, slots_there, was_there_own}
 use Rattle.program_rows.proofs.Together.{pull, get_set, get_set_else, set_twice, set_apart}
@@ -22,30 +22,30 @@ use Rattle.program_rows.proofs.Holders.{held_released}
 use Rattle.program_rows.proofs.Seen.{others_beside}
 
 -- a unit that has changed nothing
-pub empty_unit : (table : EnqueueTable) (stores : List Stored) (region : ℕ) → IsUnit table stores region []
+pub empty_unit : (table : EnqueueTable) (stores : List Stored) (region : ℕ) → IsOpenUnit table stores region []
 empty_unit table stores region =
     record { can = record { stored = tt; fits = tt; apart = tt }; kept = record { once = tt; few = omega arith }; alone = tt; sits = tt }
 
-some_free : (image : List Row) → image ≢ [] → is_free image ≡ false
+pub some_free : (image : List Row) → image ≢ [] → is_slot_free image ≡ false
 some_free [] h = absurd (h refl)
 some_free (row ∷ image) h = refl
 
 -- where the records of a unit sit, once another beside it is backed out
-pub sits_back : (table : EnqueueTable) (stores : List Stored) (region : ℕ) (a b : List Change) → IsUnit table stores region a → AreBeside stores a b
+pub sits_back : (table : EnqueueTable) (stores : List Stored) (region : ℕ) (a b : List Change) → IsOpenUnit table stores region a → AreBeside stores a b
     → AllByRecursion (Sits table (backed_out b stores) region) a
 sits_back table stores region a b unit beside = each a unit.sits (was_there_own a) unit.can.fits unit.can.stored
   where
-    one : (c : Change) → (is_free c.before ≡ false → was_there a c.db c.slot ≡ true) → CanGoBack (cleared a stores) c → IsStored stores c → StaysInSlot stores c → StaysInSlot (backed_out b stores) c
+    one : (c : Change) → (is_slot_free c.before ≡ false → was_there a c.db c.slot ≡ true) → CanGoBack (cleared a stores) c → IsStored stores c → StaysInSlot stores c → StaysInSlot (backed_out b stores) c
     one c used goes_back stored st =
         ⊎_elim (λ none. absurd (st.was none))
         (λ g.
-        let within : c.slot < length (slots_at c.db stores) = subst (λ xs. c.slot < length xs) (sym (slots_there c.db stores g.s g.at)) g.within in
+        let within : c.slot < length (slots_of_database c.db stores) = subst (λ xs. c.slot < length xs) (sym (slots_there c.db stores g.s g.at)) g.within in
         record {
           was = st.was;
           is = ap (has_root c.root) (image_where stores a b c.db c.slot stored.least within beside (used (some_free c.before st.was))) ∙ st.is;
         }) (goes a stores c stored.least goes_back)
 
-    each : (rs : List Change) → AllByRecursion (Sits table stores region) rs → AllByRecursion (λ c. is_free c.before ≡ false → was_there a c.db c.slot ≡ true) rs
+    each : (rs : List Change) → AllByRecursion (Sits table stores region) rs → AllByRecursion (λ c. is_slot_free c.before ≡ false → was_there a c.db c.slot ≡ true) rs
         → AllByRecursion (CanGoBack (cleared a stores)) rs → AllByRecursion (IsStored stores) rs → AllByRecursion (Sits table (backed_out b stores) region) rs
     each [] s u f t = tt
     each (c ∷ rs) s u f t = (⊎_elim (λ st. inl (one c u.0 f.0 t.0 st)) (λ seq. inr seq) s.0, each rs s.1 u.1 f.1 t.1)
@@ -68,13 +68,13 @@ module _ (units : List (List Change)) (stores : List Stored) (table : EnqueueTab
             let within : k < length units = omega (arith, inside, length-set units place []) in
             ⊎_elim
             (λ same.
-            subst (IsUnit table (backed_out (get_or units place []) stores) (suc k)) (sym (ap (λ n. get_or (set units place []) n []) same ∙ get_set units place [] lt))
+            subst (IsOpenUnit table (backed_out (get_or units place []) stores) (suc k)) (sym (ap (λ n. get_or (set units place []) n []) same ∙ get_set units place [] lt))
             (empty_unit table (backed_out (get_or units place []) stores) (suc k)))
             (λ other.
-            subst (IsUnit table (backed_out (get_or units place []) stores) (suc k)) (sym (get_set_else units place k [] other)) (theirs k within other)) (cases_eq k place);
+            subst (IsOpenUnit table (backed_out (get_or units place []) stores) (suc k)) (sym (get_set_else units place k [] other)) (theirs k within other)) (cases_eq k place);
       }
     where
-      theirs : (k : ℕ) → k < length units → k ≢ place → IsUnit table (backed_out (get_or units place []) stores) (suc k) (get_or units k [])
+      theirs : (k : ℕ) → k < length units → k ≢ place → IsOpenUnit table (backed_out (get_or units place []) stores) (suc k) (get_or units k [])
       theirs k inside other =
           let unit = h.each k inside in
           record {
@@ -109,13 +109,13 @@ module _ (units : List (List Change)) (stores : List Stored) (table : EnqueueTab
         each = λ k inside.
             let within : k < length units = omega (arith, inside, length-set units place []) in
             ⊎_elim
-            (λ same. subst (IsUnit table stores (suc k)) (sym (ap (λ n. get_or (set units place []) n []) same ∙ get_set units place [] lt)) (empty_unit table stores (suc k)))
-            (λ other. subst (IsUnit table stores (suc k)) (sym (get_set_else units place k [] other)) (h.each k within)) (cases_eq k place);
+            (λ same. subst (IsOpenUnit table stores (suc k)) (sym (ap (λ n. get_or (set units place []) n []) same ∙ get_set units place [] lt)) (empty_unit table stores (suc k)))
+            (λ other. subst (IsOpenUnit table stores (suc k)) (sym (get_set_else units place k [] other)) (h.each k within)) (cases_eq k place);
       }
 
 -- its region has released all
 pub released_units : (units : List (List Change)) (stores : List Stored) (table : EnqueueTable) (place : ℕ) → AreUnits units stores table → get_or units place [] ≡ []
-    → IsKept (released (suc place) table) → AreUnits units stores (released (suc place) table)
+    → IsTableKept (released (suc place) table) → AreUnits units stores (released (suc place) table)
 released_units units stores table place h none kept =
     record {
       valid = h.valid;
@@ -124,11 +124,11 @@ released_units units stores table place h none kept =
       numbered = all_filter (λ hold. 1 ≤ hold.0.resource.db) (λ hold. not (eqb hold.0.region (suc place))) table.holds h.numbered;
       each = λ k inside.
           ⊎_elim
-          (λ same. subst (IsUnit (released (suc place) table) stores (suc k)) (sym (ap (λ n. get_or units n []) same ∙ none)) (empty_unit (released (suc place) table) stores (suc k)))
+          (λ same. subst (IsOpenUnit (released (suc place) table) stores (suc k)) (sym (ap (λ n. get_or units n []) same ∙ none)) (empty_unit (released (suc place) table) stores (suc k)))
           (λ other. theirs k inside other) (cases_eq k place);
     }
   where
-    theirs : (k : ℕ) → k < length units → k ≢ place → IsUnit (released (suc place) table) stores (suc k) (get_or units k [])
+    theirs : (k : ℕ) → k < length units → k ≢ place → IsOpenUnit (released (suc place) table) stores (suc k) (get_or units k [])
     theirs k inside other =
         let unit = h.each k inside in
         let apart : suc k ≢ suc place = λ e. other (omega (arith, e)) in

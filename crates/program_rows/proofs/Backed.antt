@@ -6,13 +6,13 @@ use Rattle.std.proofs.lemmas.Bool.{false≢true}
 use Rattle.model_data.specs.declared.row.Row.{Row}
 use Rattle.model_data.specs.Record.{IsRecord}
 use Rattle.model_data.specs.Rows.{record_of, roots}
-use Rattle.seg_store.specs.Slots.{Stored, has_root, is_free, AreSlots, rows_of_slots}
+use Rattle.seg_store.specs.Slots.{Stored, has_root, is_slot_free, AreSlots, rows_of_slots}
 use Rattle.unit_work.specs.declared.change.Change.{Change}
-use Rattle.unit_work.specs.Changes.{is_changed, AreOnce}
+use Rattle.unit_work.specs.Changes.{is_record_changed, AreRecordsOnce}
 use Rattle.unit_work.specs.BackOut.{cleared_slot, cleared, backed_out, IsStored, CanGoBack, CanBackOut}
-use Rattle.program_rows.specs.State.{rows_of, rows_in}
-use Rattle.program_rows.specs.Open.{backed_all, StaysInSlot, was_there}
-use Rattle.unit_work.specs.Images.{slots_at, image_at}
+use Rattle.program_rows.specs.DatabasesState.{rows_of_stores, database_rows_in}
+use Rattle.program_rows.specs.OpenUnits.{backed_all, StaysInSlot, was_there}
+use Rattle.unit_work.specs.Images.{slots_of_database, image_at}
 use Rattle.program_rows.proofs.Slotwise.{each_slot, each_store, back, backed_is, each_there, slots_at_each, slots_at_length, image_at_each, dbds_each}
 use Rattle.program_rows.proofs.Beside.{AreRooted, AreBeside, idle_back}
 use Rattle.program_rows.proofs.Aside.{goes, can_rooted, cleared_where, slots_there, was_there_own}
@@ -23,7 +23,7 @@ use Rattle.program_rows.proofs.RootsStay.{Stays, restored_roots}
 -- a unit that can be backed out, and keeps each record once
 pub record IsGood (stores : List Stored) (records : List Change) : Type 0 where
   pub can : CanBackOut records stores
-  pub once : AreOnce records
+  pub once : AreRecordsOnce records
 
 abbrev pub AreValid : List Stored → Type 0
 AreValid stores = AllByRecursion (λ s. AreSlots s.dbd s.slots) stores
@@ -34,12 +34,12 @@ all_there P (y ∷ xs) zero x h e = let same : Some y ≡ Some x = e in let part
 all_there P (y ∷ xs) (suc i) x h e = all_there P xs i x h.1 e
 
 -- the rows of the database of a number
-rows_get : (stores : List Stored) (i : ℕ) → get_or (rows_of stores) i [] ≡ rows_of_slots (option_map_or (λ (s : Stored). s.slots) (slice_get stores i) [])
+rows_get : (stores : List Stored) (i : ℕ) → get_or (rows_of_stores stores) i [] ≡ rows_of_slots (option_map_or (λ (s : Stored). s.slots) (slice_get stores i) [])
 rows_get [] i = refl
 rows_get (s ∷ stores) zero = refl
 rows_get (s ∷ stores) (suc i) = rows_get stores i
 
-pub rows_in_is : (db : ℕ) (stores : List Stored) → rows_in db (rows_of stores) ≡ rows_of_slots (slots_at db stores)
+pub rows_in_is : (db : ℕ) (stores : List Stored) → database_rows_in db (rows_of_stores stores) ≡ rows_of_slots (slots_of_database db stores)
 rows_in_is db stores = rows_get stores (db - 1)
 
 -- what backing out a unit needs of the store of a number
@@ -68,14 +68,14 @@ pub backed_there : (stores : List Stored) (records : List Change) (db : ℕ) (s 
     → slice_get (backed_out records stores) (db - 1) ≡ Some (record { dbd = s.dbd; slots = each_slot (back records) db 0 s.slots })
 backed_there stores records db s least at = ap (λ ss. slice_get ss (db - 1)) (backed_is records stores) ∙ each_there (back records) db stores s least at
 
-pub backed_slots_at : (stores : List Stored) (records : List Change) (db : ℕ) → 1 ≤ db → slots_at db (backed_out records stores) ≡ each_slot (back records) db 0 (slots_at db stores)
-backed_slots_at stores records db least = ap (slots_at db) (backed_is records stores) ∙ slots_at_each (back records) db stores least
+pub backed_slots_at : (stores : List Stored) (records : List Change) (db : ℕ) → 1 ≤ db → slots_of_database db (backed_out records stores) ≡ each_slot (back records) db 0 (slots_of_database db stores)
+backed_slots_at stores records db least = ap (slots_of_database db) (backed_is records stores) ∙ slots_at_each (back records) db stores least
 
 pub backed_dbds : (records : List Change) (stores : List Stored) → map (λ (s : Stored). s.dbd) (backed_out records stores) ≡ map (λ (s : Stored). s.dbd) stores
 backed_dbds records stores = ap (map (λ (s : Stored). s.dbd)) (backed_is records stores) ∙ dbds_each (back records) 1 stores
 
-pub backed_lengths : (stores : List Stored) (records : List Change) (db : ℕ) → 1 ≤ db → length (slots_at db (backed_out records stores)) ≡ length (slots_at db stores)
-backed_lengths stores records db least = ap (λ ss. length (slots_at db ss)) (backed_is records stores) ∙ slots_at_length (back records) db stores least
+pub backed_lengths : (stores : List Stored) (records : List Change) (db : ℕ) → 1 ≤ db → length (slots_of_database db (backed_out records stores)) ≡ length (slots_of_database db stores)
+backed_lengths stores records db least = ap (λ ss. length (slots_of_database db ss)) (backed_is records stores) ∙ slots_at_length (back records) db stores least
 
 -- the stores are slots of their databases again
 pub valid_back : (stores : List Stored) (records : List Change) → AreValid stores → IsGood stores records → AreValid (backed_out records stores)
@@ -95,16 +95,16 @@ valid_back stores records valid good =
         )
 
 -- a fact of the store of a number, or of none
-by_store : (P : List (List Row) → Type 0) (stores : List Stored) (db : ℕ) → P [] → ((s : Stored) → slice_get stores (db - 1) ≡ Some s → P s.slots) → P (slots_at db stores)
+by_store : (P : List (List Row) → Type 0) (stores : List Stored) (db : ℕ) → P [] → ((s : Stored) → slice_get stores (db - 1) ≡ Some s → P s.slots) → P (slots_of_database db stores)
 by_store P stores db none some = by (slice_get stores (db - 1)) refl
   where
-    by : (o : Option Stored) → slice_get stores (db - 1) ≡ o → P (slots_at db stores)
+    by : (o : Option Stored) → slice_get stores (db - 1) ≡ o → P (slots_of_database db stores)
     by None e = subst (λ o. P (option_map_or (λ (s : Stored). s.slots) o [])) (sym e) none
     by (Some s) e = subst (λ o. P (option_map_or (λ (x : Stored). x.slots) o [])) (sym e) (some s e)
 
 -- a record that the unit hasn't changed is as it was
-pub record_back : (stores : List Stored) (records : List Change) (db : ℕ) (key : List ℕ) → 1 ≤ db → AreValid stores → IsGood stores records → is_changed db key records ≡ false
-    → record_of key (rows_in db (rows_of (backed_out records stores))) ≡ record_of key (rows_in db (rows_of stores))
+pub record_back : (stores : List Stored) (records : List Change) (db : ℕ) (key : List ℕ) → 1 ≤ db → AreValid stores → IsGood stores records → is_record_changed db key records ≡ false
+    → record_of key (database_rows_in db (rows_of_stores (backed_out records stores))) ≡ record_of key (database_rows_in db (rows_of_stores stores))
 record_back stores records db key least valid good e =
     ap (record_of key) (rows_in_is db (backed_out records stores))
     ∙ (ap (λ xs. record_of key (rows_of_slots xs)) (backed_slots_at stores records db least)
@@ -112,13 +112,13 @@ record_back stores records db key least valid good e =
     (λ s at. restored_record s.dbd records db s.slots (restores stores records db s least good at) (all_there (λ (x : Stored). AreSlots x.dbd x.slots) stores (db - 1) s valid at) key e)
     ∙ ap (record_of key) (sym (rows_in_is db stores))))
 
-free_some : (image : List Row) → image ≢ [] → is_free image ≡ false
+free_some : (image : List Row) → image ≢ [] → is_slot_free image ≡ false
 free_some [] h = absurd (h refl)
 free_some (row ∷ image) h = refl
 
 -- and where each of its records stays in its slot, the roots are as they were
 pub roots_back : (stores : List Stored) (records : List Change) (db : ℕ) → 1 ≤ db → AreValid stores → IsGood stores records → AllByRecursion (λ c. c.db ≡ db → StaysInSlot stores c) records
-    → roots (rows_in db (rows_of (backed_out records stores))) ≡ roots (rows_in db (rows_of stores))
+    → roots (database_rows_in db (rows_of_stores (backed_out records stores))) ≡ roots (database_rows_in db (rows_of_stores stores))
 roots_back stores records db least valid good stay =
     ap roots (rows_in_is db (backed_out records stores))
     ∙ (ap (λ xs. roots (rows_of_slots xs)) (backed_slots_at stores records db least)
@@ -144,7 +144,7 @@ roots_back stores records db least valid good stay =
     rooted (c ∷ rs) h r = (λ d. ⊎_elim (λ none. absurd ((h.0 d).was none)) (λ has. has) r.0, rooted rs h.1 r.1)
 
 -- where a record of a unit was, one beside it leaves the image
-pub image_where : (stores : List Stored) (a b : List Change) (db slot : ℕ) → 1 ≤ db → slot < length (slots_at db stores) → AreBeside stores a b → was_there a db slot ≡ true
+pub image_where : (stores : List Stored) (a b : List Change) (db slot : ℕ) → 1 ≤ db → slot < length (slots_of_database db stores) → AreBeside stores a b → was_there a db slot ≡ true
     → image_at db slot (backed_out b stores) ≡ image_at db slot stores
 image_where stores a b db slot least lt beside used =
     ap (image_at db slot) (backed_is b stores)
@@ -152,7 +152,7 @@ image_where stores a b db slot least lt beside used =
     ∙ ⊎_elim (λ idle. absurd (false≢true (sym idle.unused ∙ used))) (λ idle. idle_back b db slot (image_at db slot stores) idle) (beside.apart db slot least lt))
 
 -- all of these units
-pub lengths_all : (stores : List Stored) (units : List (List Change)) (db : ℕ) → 1 ≤ db → length (slots_at db (backed_all units stores)) ≡ length (slots_at db stores)
+pub lengths_all : (stores : List Stored) (units : List (List Change)) (db : ℕ) → 1 ≤ db → length (slots_of_database db (backed_all units stores)) ≡ length (slots_of_database db stores)
 lengths_all stores [] db least = refl
 lengths_all stores (b ∷ units) db least = backed_lengths (backed_all units stores) b db least ∙ lengths_all stores units db least
 
@@ -160,7 +160,7 @@ pub dbds_all : (stores : List Stored) (units : List (List Change)) → map (λ (
 dbds_all stores [] = refl
 dbds_all stores (b ∷ units) = backed_dbds b (backed_all units stores) ∙ dbds_all stores units
 
-pub images_where : (stores : List Stored) (a : List Change) (units : List (List Change)) (db slot : ℕ) → 1 ≤ db → slot < length (slots_at db stores)
+pub images_where : (stores : List Stored) (a : List Change) (units : List (List Change)) (db slot : ℕ) → 1 ≤ db → slot < length (slots_of_database db stores)
     → AllByRecursion (AreBeside stores a) units → AreAllBeside stores units → was_there a db slot ≡ true → image_at db slot (backed_all units stores) ≡ image_at db slot stores
 images_where stores a [] db slot least lt h all used = refl
 images_where stores a (b ∷ units) db slot least lt h all used =
@@ -177,7 +177,7 @@ valid_all stores (b ∷ units) valid good all =
 
 -- a record that none has changed is as it was
 pub record_all : (stores : List Stored) (units : List (List Change)) (db : ℕ) (key : List ℕ) → 1 ≤ db → AreValid stores → AllByRecursion (IsGood stores) units → AreAllBeside stores units
-    → AllByRecursion (λ a. is_changed db key a ≡ false) units → record_of key (rows_in db (rows_of (backed_all units stores))) ≡ record_of key (rows_in db (rows_of stores))
+    → AllByRecursion (λ a. is_record_changed db key a ≡ false) units → record_of key (database_rows_in db (rows_of_stores (backed_all units stores))) ≡ record_of key (database_rows_in db (rows_of_stores stores))
 record_all stores [] db key least valid good all none = refl
 record_all stores (b ∷ units) db key least valid good all none =
     record_back (backed_all units stores) b db key least (valid_all stores units valid good.1 all.1) (good_all stores b units good.0 all.0 all.1) none.0
@@ -188,7 +188,7 @@ pub stay_all : (stores : List Stored) (a : List Change) (units : List (List Chan
     → AllByRecursion (λ c. c.db ≡ db → StaysInSlot stores c) a → AllByRecursion (λ c. c.db ≡ db → StaysInSlot (backed_all units stores) c) a
 stay_all stores a units db least good h all stay = each a stay (was_there_own a) good.can.fits good.can.stored
   where
-    each : (rs : List Change) → AllByRecursion (λ c. c.db ≡ db → StaysInSlot stores c) rs → AllByRecursion (λ c. is_free c.before ≡ false → was_there a c.db c.slot ≡ true) rs
+    each : (rs : List Change) → AllByRecursion (λ c. c.db ≡ db → StaysInSlot stores c) rs → AllByRecursion (λ c. is_slot_free c.before ≡ false → was_there a c.db c.slot ≡ true) rs
         → AllByRecursion (CanGoBack (cleared a stores)) rs → AllByRecursion (IsStored stores) rs → AllByRecursion (λ c. c.db ≡ db → StaysInSlot (backed_all units stores) c) rs
     each [] s u f t = tt
     each (c ∷ rs) s u f t = (
@@ -196,7 +196,7 @@ stay_all stores a units db least good h all stay = each a stay (was_there_own a)
           let st : StaysInSlot stores c = s.0 d in
           ⊎_elim (λ none. absurd (st.was none))
           (λ g.
-          let within : c.slot < length (slots_at c.db stores) = subst (λ xs. c.slot < length xs) (sym (slots_there c.db stores g.s g.at)) g.within in
+          let within : c.slot < length (slots_of_database c.db stores) = subst (λ xs. c.slot < length xs) (sym (slots_there c.db stores g.s g.at)) g.within in
           record {
             was = st.was;
             is = ap (has_root c.root) (images_where stores a units c.db c.slot t.0.least within h all (u.0 (free_some c.before st.was))) ∙ st.is;
@@ -205,7 +205,7 @@ stay_all stores a units db least good h all stay = each a stay (was_there_own a)
     )
 
 pub roots_all : (stores : List Stored) (units : List (List Change)) (db : ℕ) → 1 ≤ db → AreValid stores → AllByRecursion (IsGood stores) units → AreAllBeside stores units
-    → AllByRecursion (λ a. AllByRecursion (λ c. c.db ≡ db → StaysInSlot stores c) a) units → roots (rows_in db (rows_of (backed_all units stores))) ≡ roots (rows_in db (rows_of stores))
+    → AllByRecursion (λ a. AllByRecursion (λ c. c.db ≡ db → StaysInSlot stores c) a) units → roots (database_rows_in db (rows_of_stores (backed_all units stores))) ≡ roots (database_rows_in db (rows_of_stores stores))
 roots_all stores [] db least valid good all stay = refl
 roots_all stores (b ∷ units) db least valid good all stay =
     roots_back (backed_all units stores) b db least (valid_all stores units valid good.1 all.1) (good_all stores b units good.0 all.0 all.1) (stay_all stores b units db least good.0 all.0 all.1 stay.0)

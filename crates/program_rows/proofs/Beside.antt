@@ -9,10 +9,10 @@ use Rattle.model_data.proofs.Order.{key_total}
 use Rattle.seg_store.specs.Slots.{Stored, has_root}
 use Rattle.seg_store.proofs.SlotRows.{rooted}
 use Rattle.unit_work.specs.declared.change.Change.{Change}
-use Rattle.unit_work.specs.Changes.{is_of, is_changed}
+use Rattle.unit_work.specs.Changes.{is_change_of_record, is_record_changed}
 use Rattle.unit_work.specs.BackOut.{is_touched, was_in, backed_slot, cleared_slot, backed_out}
-use Rattle.unit_work.specs.Images.{slots_at, image_at}
-use Rattle.program_rows.specs.Open.{was_there}
+use Rattle.unit_work.specs.Images.{slots_of_database, image_at}
+use Rattle.program_rows.specs.OpenUnits.{was_there}
 use Rattle.program_rows.proofs.Slotwise.{back, each_store, backed_is, twice, alike}
 use Rattle.program_rows.proofs.Bools.{or_left, or_right}
 
@@ -27,12 +27,12 @@ AreRooted records = AllByRecursion (λ c. (c.before ≡ []) ⊎ (has_root c.root
 
 -- no record is changed by both
 abbrev pub AreOthers : List Change → List Change → Type 0
-AreOthers a b = (db : ℕ) (root : List ℕ) → is_changed db root a ≡ true → is_changed db root b ≡ false
+AreOthers a b = (db : ℕ) (root : List ℕ) → is_record_changed db root a ≡ true → is_record_changed db root b ≡ false
 
 -- in each slot one of both is idle
 abbrev pub AreApartIn : List Stored → List Change → List Change → Type 0
 AreApartIn stores a b =
-    (db slot : ℕ) → 1 ≤ db → slot < length (slots_at db stores) → IsIdle a db slot (image_at db slot stores) ⊎ IsIdle b db slot (image_at db slot stores)
+    (db slot : ℕ) → 1 ≤ db → slot < length (slots_of_database db stores) → IsIdle a db slot (image_at db slot stores) ⊎ IsIdle b db slot (image_at db slot stores)
 
 -- an idle unit leaves the image
 pub idle_back : (records : List Change) (db slot : ℕ) (image : List Row) → IsIdle records db slot image → back records db slot image ≡ image
@@ -67,7 +67,7 @@ cleared_has P records db image p none = by (is_touched records db image)
     by false = p
 
 -- an image is touched by the unit that has changed its record
-pub touched_is : (records : List Change) (db : ℕ) (root : List ℕ) (image : List Row) → has_root root image ≡ true → is_touched records db image ≡ is_changed db root records
+pub touched_is : (records : List Change) (db : ℕ) (root : List ℕ) (image : List Row) → has_root root image ≡ true → is_touched records db image ≡ is_record_changed db root records
 touched_is [] db root image h = refl
 touched_is (c ∷ records) db root image h = λ t. (eqb c.db db && rooted root image h c.root t) || touched_is records db root image h t
 
@@ -80,27 +80,27 @@ none_touched (c ∷ records) db = by (eqb c.db db) (none_touched records db)
     by false e = e
 
 -- each change is among them
-pub all_changed : (records : List Change) → AllByRecursion (λ c. is_changed c.db c.root records ≡ true) records
+pub all_changed : (records : List Change) → AllByRecursion (λ c. is_record_changed c.db c.root records ≡ true) records
 all_changed records = each records (λ c. or_here c)
   where
-    own : (c : Change) → is_of c.db c.root c ≡ true
+    own : (c : Change) → is_change_of_record c.db c.root c ≡ true
     own c = λ t. eq-eqb c.db c.db refl t && ap is_eq (tied_itself key_total c.root) t
 
-    or_here : (c : Change) → (rest : List Change) → is_changed c.db c.root (c ∷ rest) ≡ true
-    or_here c rest = ap (λ b. b || is_changed c.db c.root rest) (own c)
+    or_here : (c : Change) → (rest : List Change) → is_record_changed c.db c.root (c ∷ rest) ≡ true
+    or_here c rest = ap (λ b. b || is_record_changed c.db c.root rest) (own c)
 
-    later : (c x : Change) (rest : List Change) → is_changed c.db c.root rest ≡ true → is_changed c.db c.root (x ∷ rest) ≡ true
-    later c x rest e = ap (λ b. is_of c.db c.root x || b) e ∙ by (is_of c.db c.root x)
+    later : (c x : Change) (rest : List Change) → is_record_changed c.db c.root rest ≡ true → is_record_changed c.db c.root (x ∷ rest) ≡ true
+    later c x rest e = ap (λ b. is_change_of_record c.db c.root x || b) e ∙ by (is_change_of_record c.db c.root x)
       where
         by : (b : Bool) → (b || true) ≡ true
         by true = refl
         by false = refl
 
-    shift : (x : Change) (rest : List Change) (cs : List Change) → AllByRecursion (λ c. is_changed c.db c.root rest ≡ true) cs → AllByRecursion (λ c. is_changed c.db c.root (x ∷ rest) ≡ true) cs
+    shift : (x : Change) (rest : List Change) (cs : List Change) → AllByRecursion (λ c. is_record_changed c.db c.root rest ≡ true) cs → AllByRecursion (λ c. is_record_changed c.db c.root (x ∷ rest) ≡ true) cs
     shift x rest [] h = tt
     shift x rest (c ∷ cs) h = (later c x rest h.0, shift x rest cs h.1)
 
-    each : (rs : List Change) → ((c : Change) → (rest : List Change) → is_changed c.db c.root (c ∷ rest) ≡ true) → AllByRecursion (λ c. is_changed c.db c.root rs ≡ true) rs
+    each : (rs : List Change) → ((c : Change) → (rest : List Change) → is_record_changed c.db c.root (c ∷ rest) ≡ true) → AllByRecursion (λ c. is_record_changed c.db c.root rs ≡ true) rs
     each [] f = tt
     each (c ∷ rs) f = (f c rs, shift c rs rs (each rs f))
 
@@ -111,11 +111,11 @@ untouched_back a b db slot image others rooted_b e =
     (cleared_has (λ x. is_touched a db x ≡ false) b db image e (none_touched a db))
     (each b rooted_b (all_changed b))
   where
-    each : (rs : List Change) → AreRooted rs → AllByRecursion (λ c. is_changed c.db c.root b ≡ true) rs → AllByRecursion (λ c. c.db ≡ db → is_touched a db c.before ≡ false) rs
+    each : (rs : List Change) → AreRooted rs → AllByRecursion (λ c. is_record_changed c.db c.root b ≡ true) rs → AllByRecursion (λ c. c.db ≡ db → is_touched a db c.before ≡ false) rs
     each [] r h = tt
     each (c ∷ rs) r h = (
       λ d. ⊎_elim (λ none. ap (is_touched a db) none ∙ none_touched a db)
-          (λ has. touched_is a db c.root c.before has ∙ others db c.root (subst (λ n. is_changed n c.root b ≡ true) d h.0)) r.0,
+          (λ has. touched_is a db c.root c.before has ∙ others db c.root (subst (λ n. is_record_changed n c.root b ≡ true) d h.0)) r.0,
       each rs r.1 h.1,
     )
 

@@ -17,10 +17,10 @@ use Rattle.model_data.specs.declared.need.Need.{Need}
 use Rattle.model_data.specs.Footprint.{up_to_blocked}
 use Rattle.model_data.specs.declared.request.Holder.{Holder}
 use Rattle.model_data.specs.declared.request.Request.{Request}
-use Rattle.model_data.specs.Modes.{same_resource, excludes, serves, stronger, holder_cmp}
-use Rattle.model_data.specs.Table.{EnqueueTable, holds_of, mode_held, is_served, is_against, holders_against, waiters_ahead, blocked_by}
-use Rattle.model_data.specs.Ask.{asker, granted_mode, with_hold, granted, waiting, waits_only_for, after_asks, first_blocked}
-use Rattle.pi_enqueue.specs.Kept.{held, IsKept}
+use Rattle.model_data.specs.Modes.{same_resource, excludes, mode_serves, stronger, holder_cmp}
+use Rattle.model_data.specs.Table.{EnqueueTable, holds_of, mode_held, is_request_served, is_against, holders_against, waiters_ahead, blocked_by}
+use Rattle.model_data.specs.EnqueueRequests.{asker, granted_mode, with_hold, granted, with_waiter, waits_only_for, after_asks, first_blocked}
+use Rattle.pi_enqueue.specs.KeptTable.{held_mode, IsTableKept}
 use Rattle.model_data.proofs.Lists.{all_then}
 use Rattle.program_rows.specs.Isolation.{request_of}
 use Rattle.pi_enqueue.proofs.Keys.{asker_is}
@@ -71,58 +71,58 @@ contested_granted q first holds e =
 -- no other holder excludes what the region holds
 abbrev pub GoesTogether : ℕ → List (Holder × Mode) → List (Holder × Mode) → Type 0
 GoesTogether region holds entries =
-    AllByRecursion (λ e. (mode : Mode) → held region e.0.resource holds ≡ Some mode → e.0.region ≢ region → excludes e.1 mode ≡ false) entries
+    AllByRecursion (λ e. (mode : Mode) → held_mode region e.0.resource holds ≡ Some mode → e.0.region ≢ region → excludes e.1 mode ≡ false) entries
 
 -- each entry is found
-entries_found : (holds : List (Holder × Mode)) → IsStrictlySortedBy holder_cmp (keys_of holds) → AllByRecursion (λ e. held e.0.region e.0.resource holds ≡ Some e.1) holds
+entries_found : (holds : List (Holder × Mode)) → IsStrictlySortedBy holder_cmp (keys_of holds) → AllByRecursion (λ e. held_mode e.0.region e.0.resource holds ≡ Some e.1) holds
 entries_found [] s = tt
 entries_found (e ∷ holds) s = (
-  ap (λ b. cond b (Some e.1) (held e.0.region e.0.resource holds)) (λ i. resource_same e.0.resource i && eq-eqb e.0.region e.0.region refl i),
+  ap (λ b. cond b (Some e.1) (held_mode e.0.region e.0.resource holds)) (λ i. resource_same e.0.resource i && eq-eqb e.0.region e.0.region refl i),
   later holds (sorted_head holder_cmp e.0 (keys_of holds) s) (entries_found holds (sorted_tail holder_cmp e.0 (keys_of holds) s)),
 )
   where
     greater_eq : (o p : Ordering) → o ≡ Less → p ≡ ordering_reverse o → is_eq p ≡ false
     greater_eq o p q r = ap is_eq (r ∙ ap ordering_reverse q)
 
-    later : (fs : List (Holder × Mode)) → AllByRecursion (λ k. holder_cmp e.0 k ≡ Less) (keys_of fs) → AllByRecursion (λ f. held f.0.region f.0.resource holds ≡ Some f.1) fs
-        → AllByRecursion (λ f. held f.0.region f.0.resource (e ∷ holds) ≡ Some f.1) fs
+    later : (fs : List (Holder × Mode)) → AllByRecursion (λ k. holder_cmp e.0 k ≡ Less) (keys_of fs) → AllByRecursion (λ f. held_mode f.0.region f.0.resource holds ≡ Some f.1) fs
+        → AllByRecursion (λ f. held_mode f.0.region f.0.resource (e ∷ holds) ≡ Some f.1) fs
     later [] less h = tt
     later (f ∷ fs) less h =
         let other : (holds_of f.0.resource e.0 && eqb e.0.region f.0.region) ≡ false =
         sym (asker_is (record { region = f.0.region; resource = f.0.resource; mode = Exclusive }) e.0) ∙ greater_eq (holder_cmp e.0 f.0) (holder_cmp f.0 e.0) less.0 (holder_total.antisymm f.0 e.0) in
-        (ap (λ b. cond b (Some e.1) (held f.0.region f.0.resource holds)) other ∙ h.0, later fs less.1 h.1)
+        (ap (λ b. cond b (Some e.1) (held_mode f.0.region f.0.resource holds)) other ∙ h.0, later fs less.1 h.1)
 
-pub kept_together : (table : EnqueueTable) (region : ℕ) → IsKept table → GoesTogether region table.holds table.holds
+pub kept_together : (table : EnqueueTable) (region : ℕ) → IsTableKept table → GoesTogether region table.holds table.holds
 kept_together table region kept =
-    all_then (λ (e : Holder × Mode). held e.0.region e.0.resource table.holds ≡ Some e.1)
-    (λ (e : Holder × Mode). (mode : Mode) → held region e.0.resource table.holds ≡ Some mode → e.0.region ≢ region → excludes e.1 mode ≡ false) table.holds
+    all_then (λ (e : Holder × Mode). held_mode e.0.region e.0.resource table.holds ≡ Some e.1)
+    (λ (e : Holder × Mode). (mode : Mode) → held_mode region e.0.resource table.holds ≡ Some mode → e.0.region ≢ region → excludes e.1 mode ≡ false) table.holds
     (λ e found mode own other. by e e.1 mode found own other) (entries_found table.holds kept.ascending)
   where
-    by : (e : Holder × Mode) (m n : Mode) → held e.0.region e.0.resource table.holds ≡ Some m → held region e.0.resource table.holds ≡ Some n → e.0.region ≢ region → excludes m n ≡ false
+    by : (e : Holder × Mode) (m n : Mode) → held_mode e.0.region e.0.resource table.holds ≡ Some m → held_mode region e.0.resource table.holds ≡ Some n → e.0.region ≢ region → excludes m n ≡ false
     by e Shared Shared f o d = refl
     by e Shared Exclusive f o d = absurd (d (sym (kept.alone e.0.resource region e.0.region Shared o f)))
     by e Exclusive n f o d = absurd (d (kept.alone e.0.resource e.0.region region n f o))
 
 -- what is contested isn't served
-contested_unserved : (q : Request) (holds entries : List (Holder × Mode)) → GoesTogether q.region holds entries → is_contested q entries ≡ true → is_served q holds ≡ false
+contested_unserved : (q : Request) (holds entries : List (Holder × Mode)) → GoesTogether q.region holds entries → is_contested q entries ≡ true → is_request_served q holds ≡ false
 contested_unserved q holds [] g e = absurd (false≢true e)
 contested_unserved q holds (x ∷ entries) g e = by (is_against q x) refl (contested_unserved q holds entries g.1)
   where
-    modes : (a m n : Mode) → excludes a m ≡ false → excludes a n ≡ true → serves m n ≡ false
+    modes : (a m n : Mode) → excludes a m ≡ false → excludes a n ≡ true → mode_serves m n ≡ false
     modes a Shared Shared p r = absurd (false≢true (sym p ∙ r))
     modes a Shared Exclusive p r = refl
     modes Shared Exclusive n p r = absurd (false≢true (sym p))
     modes Exclusive Exclusive n p r = absurd (false≢true (sym p))
 
     unserved : (o : Option Mode) → mode_held q holds ≡ o → holds_of q.resource x.0 ≡ true → not (eqb x.0.region q.region) ≡ true → excludes x.1 q.mode ≡ true
-        → option_map_or (λ mode. serves mode q.mode) o false ≡ false
+        → option_map_or (λ mode. mode_serves mode q.mode) o false ≡ false
     unserved None own same other ex = refl
     unserved (Some m) own same other ex =
         let resource : x.0.resource ≡ q.resource = resource_exact x.0.resource q.resource same in
-        let here : held q.region x.0.resource holds ≡ Some m = ap (λ r. held q.region r holds) resource ∙ own in
+        let here : held_mode q.region x.0.resource holds ≡ Some m = ap (λ r. held_mode q.region r holds) resource ∙ own in
         modes x.1 m q.mode (g.0 m here (λ s. absurd (false≢true (sym (turn_true (eqb x.0.region q.region) other) ∙ eq-eqb x.0.region q.region s)))) ex
 
-    by : (b : Bool) → is_against q x ≡ b → (is_contested q entries ≡ true → is_served q holds ≡ false) → is_served q holds ≡ false
+    by : (b : Bool) → is_against q x ≡ b → (is_contested q entries ≡ true → is_request_served q holds ≡ false) → is_request_served q holds ≡ false
     by false p rec = rec (sym (ap (λ b. b || is_contested q entries) p) ∙ e)
     by true p rec =
         let rest : (not (eqb x.0.region q.region) && excludes x.1 q.mode) ≡ true = right_of (holds_of q.resource x.0) _ p in
@@ -139,7 +139,7 @@ filter_some p (x ∷ xs) e = by (p x) refl (filter_some p xs)
         let found = rec (sym (ap (λ b. b || list_any p xs) q) ∙ e) in
         (found.0, found.1, ap (λ b. cond b (x ∷ filter p xs) (filter p xs)) q ∙ found.2)
 
-contested_blocked : (q : Request) (table : EnqueueTable) → is_contested q table.holds ≡ true → is_served q table.holds ≡ false → (n : ℕ) × (blocked_by q table ≡ Some n)
+contested_blocked : (q : Request) (table : EnqueueTable) → is_contested q table.holds ≡ true → is_request_served q table.holds ≡ false → (n : ℕ) × (blocked_by q table ≡ Some n)
 contested_blocked q table e unserved =
     let found = filter_some (is_against q) table.holds e in (
       found.0.0.region,
@@ -177,7 +177,7 @@ module _ (q : Request) (table : EnqueueTable) (g : GoesTogether q.region table.h
 
   pub granted_together : GoesTogether q.region (with_hold q table.holds) (with_hold q table.holds)
   granted_together =
-      all_put (λ e. (mode : Mode) → held q.region e.0.resource (with_hold q table.holds) ≡ Some mode → e.0.region ≢ q.region → excludes e.1 mode ≡ false)
+      all_put (λ e. (mode : Mode) → held_mode q.region e.0.resource (with_hold q table.holds) ≡ Some mode → e.0.region ≢ q.region → excludes e.1 mode ≡ false)
       (asker q) (granted_mode q table.holds) table.holds
       (λ x same mode own other. absurd (other (sym (ap (λ (h : Holder). h.region) (holder_exact (asker q) x (ap is_eq same))))))
       (λ mode own other. absurd (other refl))
@@ -188,16 +188,16 @@ module _ (q : Request) (table : EnqueueTable) (g : GoesTogether q.region table.h
       modes a m (Some Shared) e f h = ap (excludes a) (sym e) ∙ h
       modes a m (Some Exclusive) e f h = ap (excludes a) (sym e) ∙ f Exclusive refl
 
-      one : (x : Holder × Mode) → ((mode : Mode) → held q.region x.0.resource table.holds ≡ Some mode → x.0.region ≢ q.region → excludes x.1 mode ≡ false)
-          → (x.0.region ≢ q.region → x.0.resource ≡ q.resource → excludes x.1 q.mode ≡ false) → (mode : Mode) → held q.region x.0.resource (with_hold q table.holds) ≡ Some mode
+      one : (x : Holder × Mode) → ((mode : Mode) → held_mode q.region x.0.resource table.holds ≡ Some mode → x.0.region ≢ q.region → excludes x.1 mode ≡ false)
+          → (x.0.region ≢ q.region → x.0.resource ≡ q.resource → excludes x.1 q.mode ≡ false) → (mode : Mode) → held_mode q.region x.0.resource (with_hold q table.holds) ≡ Some mode
           → x.0.region ≢ q.region → (b : Bool) → same_resource q.resource x.0.resource ≡ b → excludes x.1 mode ≡ false
       one x old new mode own other false e =
           old mode (sym (held_other q.region x.0.resource q table.holds (ap (λ b. b && eqb q.region q.region) e)) ∙ own) other
       one x old new mode own other true e =
           let same : q.resource ≡ x.0.resource = resource_exact q.resource x.0.resource e in
-          let both : Some (granted_mode q table.holds) ≡ Some mode = sym (ap (λ r. held q.region r (with_hold q table.holds)) (sym same) ∙ held_own q table.holds) ∙ own in
+          let both : Some (granted_mode q table.holds) ≡ Some mode = sym (ap (λ r. held_mode q.region r (with_hold q table.holds)) (sym same) ∙ held_own q table.holds) ∙ own in
           let is : granted_mode q table.holds ≡ mode = cc in
-          modes x.1 mode (mode_held q table.holds) is (λ n h. old n (ap (λ r. held q.region r table.holds) (sym same) ∙ h) other) (new other (sym same))
+          modes x.1 mode (mode_held q table.holds) is (λ n h. old n (ap (λ r. held_mode q.region r table.holds) (sym same) ∙ h) other) (new other (sym same))
 
       each : (entries : List (Holder × Mode)) → GoesTogether q.region table.holds entries → AllByRecursion (λ e. e.0.region ≢ q.region → e.0.resource ≡ q.resource → excludes e.1 q.mode ≡ false) entries
           → GoesTogether q.region (with_hold q table.holds) entries
@@ -225,7 +225,7 @@ module _ (region number : ℕ) (contested : Need → Bool) where
 
       after : Need → Option ℕ → List Need → EnqueueTable
       after need o rest =
-          option_map_or (λ k. waiting (request_of region number need) (waits_only_for (request_of region number need) table)) o
+          option_map_or (λ k. with_waiter (request_of region number need) (waits_only_for (request_of region number need) table)) o
           (after_asks region (map (request_of region number) rest) (granted (request_of region number need) table))
 
       by : (o : Option ℕ) → blocked_by (request_of region number n) table ≡ o → n ≡ m → cond (contested n) [] (up_to_blocked contested ns) ≡ cond (contested m) [] (up_to_blocked contested ms)
@@ -237,7 +237,7 @@ module _ (region number : ℕ) (contested : Need → Bool) where
       by (Some k) q head tail rec =
           let other : blocked_by (request_of region number m) table ≡ Some k = ap (λ x. blocked_by (request_of region number x) table) (sym head) ∙ q in (
             ap (λ o. first n o ns) q ∙ (ap (λ x. Some (request_of region number x, k)) head ∙ sym (ap (λ o. first m o ms) other)),
-            ap (λ o. after n o ns) q ∙ (ap (λ x. waiting (request_of region number x) (waits_only_for (request_of region number x) table)) head ∙ sym (ap (λ o. after m o ms) other)),
+            ap (λ o. after n o ns) q ∙ (ap (λ x. with_waiter (request_of region number x) (waits_only_for (request_of region number x) table)) head ∙ sym (ap (λ o. after m o ms) other)),
           )
       by None q head tail rec =
           let other : blocked_by (request_of region number m) table ≡ None = ap (λ x. blocked_by (request_of region number x) table) (sym head) ∙ q in

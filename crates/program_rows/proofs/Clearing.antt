@@ -4,16 +4,16 @@ use Rattle.std.specs.List.{slice_get}
 use Rattle.std.proofs.lemmas.List.{length-map}
 use Rattle.unit_work.specs.Changes.{Changes}
 use Rattle.program_rows.specs.declared.opened.Opened.{Opened}
-use Rattle.program_rows.specs.Open.{records_of}
-use Rattle.program_rows.specs.Making.{seen}
+use Rattle.program_rows.specs.OpenUnits.{unit_records_of}
+use Rattle.program_rows.specs.PlannedChanges.{databases_opened}
 use Rattle.program_rows.proofs.Seen.{regions_length}
 
 -- how many units there are
-pub units_count : (o : Opened) → length (records_of o.units.items) ≡ length o.units.items
+pub units_count : (o : Opened) → length (unit_records_of o.units.items) ≡ length o.units.items
 units_count o = length-map o.units.items (λ (x : Changes). x.records)
 
-pub regions_count : (o : Opened) → length (seen o).regions ≡ length o.units.items
-regions_count o = regions_length 0 (records_of o.units.items) (records_of o.units.items) o.stores.stores ∙ units_count o
+pub regions_count : (o : Opened) → length (databases_opened o).regions ≡ length o.units.items
+regions_count o = regions_length 0 (unit_records_of o.units.items) (unit_records_of o.units.items) o.stores.stores ∙ units_count o
 
 -- the slots of the unit at a place
 pub unit_slots : (units : List Changes) (k : ℕ) (u : Changes) → slice_get units k ≡ Some u → get_or (map (λ (x : Changes). x.slots) units) k [] ≡ u.slots

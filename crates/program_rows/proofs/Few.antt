@@ -5,14 +5,14 @@ use Rattle.std.proofs.lemmas.Bool.{false≢true, eqb-true}
 use Rattle.std.proofs.lemmas.List.Sums.{sum_by-cons}
 use Rattle.model_data.specs.declared.row.Row.{Row}
 use Rattle.model_data.specs.Table.{EnqueueTable}
-use Rattle.seg_store.specs.Slots.{Stored, AtMostOne, has_root, is_free, place_of}
+use Rattle.seg_store.specs.Slots.{Stored, AtMostOne, has_root, is_slot_free, place_of}
 use Rattle.seg_store.proofs.Places.{none_head, none_tail}
 use Rattle.unit_work.specs.declared.change.Change.{Change}
-use Rattle.unit_work.specs.Changes.{Pairs, Ascend, is_before}
+use Rattle.unit_work.specs.Changes.{Pairs, ChangesAscend, is_slot_before}
 use Rattle.unit_work.specs.BackOut.{is_touched, was_in, CanBackOut}
-use Rattle.unit_work.specs.Images.{slots_at, image_at}
-use Rattle.program_rows.specs.OnSlots.{records_in}
-use Rattle.program_rows.specs.Open.{was_there, IsTouched}
+use Rattle.unit_work.specs.Images.{slots_of_database, image_at}
+use Rattle.program_rows.specs.SlotsState.{image_records_in}
+use Rattle.program_rows.specs.OpenUnits.{was_there, IsRecordTouched}
 use Rattle.program_rows.proofs.Aside.{cleared_where}
 use Rattle.program_rows.proofs.Beside.{idle_back}
 use Rattle.program_rows.proofs.Bools.{left_of, right_of}
@@ -84,11 +84,11 @@ module _ (matches : Change → Change → Bool) where
               let same : lighter w r c ≡ w c = ap (λ b. cond b 0 (w c)) q in
               sym (ap (λ b. b || list_any (λ x. matches x c) records) q) ∙ g (omega (arith, heavy, same))
 
-small_image : (image : List Row) → records_in image ≤ 1
+small_image : (image : List Row) → image_records_in image ≤ 1
 small_image [] = omega arith
 small_image (row ∷ image) = omega arith
 
-some_image : (image : List Row) → 1 ≤ records_in image → is_free image ≡ false
+some_image : (image : List Row) → 1 ≤ image_records_in image → is_slot_free image ≡ false
 some_image [] h = absurd (omega (arith, h))
 some_image (row ∷ image) h = refl
 
@@ -97,11 +97,11 @@ some_image (row ∷ image) h = refl
 abbrev had : Change → Change → Bool
 had r c = was_in c.db c.slot r
 
-had_once : (r : Change) (slots : List Change) → Ascend slots → MatchOnce had r slots
+had_once : (r : Change) (slots : List Change) → ChangesAscend slots → MatchOnce had r slots
 had_once r [] h = tt
 had_once r (c ∷ slots) h = (each slots h.0, had_once r slots h.1)
   where
-    each : (ds : List Change) → AllByRecursion (λ d. is_before d.db d.slot c ≡ true) ds → AllByRecursion (λ d. had r c ≡ true → had r d ≡ true → ⊥) ds
+    each : (ds : List Change) → AllByRecursion (λ d. is_slot_before d.db d.slot c ≡ true) ds → AllByRecursion (λ d. had r c ≡ true → had r d ≡ true → ⊥) ds
     each [] g = tt
     each (d ∷ ds) g = (one, each ds g.1)
       where
@@ -132,14 +132,14 @@ only_one test (x ∷ xs) h (suc i) zero none e f = absurd (false≢true (sym (mi
 only_one test (x ∷ xs) h (suc i) (suc k) none e f = ap (λ n. suc n) (only_one test xs h.1 i k none e f)
 
 module _ (table : EnqueueTable) (stores : List Stored) (region : ℕ) (records : List Change) (can : CanBackOut records stores) where
-  had_all : (slots : List Change) → AllByRecursion (IsTouched table stores region records) slots → AllByRecursion (λ c. 1 ≤ records_in c.before → list_any (λ r. had r c) records ≡ true) slots
+  had_all : (slots : List Change) → AllByRecursion (IsRecordTouched table stores region records) slots → AllByRecursion (λ c. 1 ≤ image_records_in c.before → list_any (λ r. had r c) records ≡ true) slots
   had_all [] h = tt
   had_all (c ∷ slots) h =
-      (λ some. ⊎_elim (λ was. was) (λ p. absurd (false≢true (sym (some_image c.before some) ∙ ap is_free p.0))) h.0.sits, had_all slots h.1)
+      (λ some. ⊎_elim (λ was. was) (λ p. absurd (false≢true (sym (some_image c.before some) ∙ ap is_slot_free p.0))) h.0.sits, had_all slots h.1)
 
-  pub few_had : (slots : List Change) → Ascend slots → AllByRecursion (IsTouched table stores region records) slots → sum_by (λ c. records_in c.before) slots ≤ length records
+  pub few_had : (slots : List Change) → ChangesAscend slots → AllByRecursion (IsRecordTouched table stores region records) slots → sum_by (λ c. image_records_in c.before) slots ≤ length records
   few_had slots ascend h =
-      few_matches had records slots (λ c. records_in c.before) (λ c. small_image c.before) (had_all slots h) (all_once had slots (λ r. had_once r slots ascend) records)
+      few_matches had records slots (λ c. image_records_in c.before) (λ c. small_image c.before) (had_all slots h) (all_once had slots (λ r. had_once r slots ascend) records)
 
   -- ---- those that have one
 
@@ -147,11 +147,11 @@ module _ (table : EnqueueTable) (stores : List Stored) (region : ℕ) (records :
   has r c = eqb r.db c.db && has_root r.root (image_at c.db c.slot stores)
 
   -- a record in a touched slot is a changed one
-  own_record : (c : Change) → IsTouched table stores region records c → is_free (image_at c.db c.slot stores) ≡ false → is_touched records c.db (image_at c.db c.slot stores) ≡ true
+  own_record : (c : Change) → IsRecordTouched table stores region records c → is_slot_free (image_at c.db c.slot stores) ≡ false → is_touched records c.db (image_at c.db c.slot stores) ≡ true
   own_record c t some = by (is_touched records c.db (image_at c.db c.slot stores)) refl
     where
       gone : image_at c.db c.slot stores ≡ [] → ⊥
-      gone none = false≢true (sym some ∙ ap is_free none)
+      gone none = false≢true (sym some ∙ ap is_slot_free none)
 
       by : (b : Bool) → is_touched records c.db (image_at c.db c.slot stores) ≡ b → is_touched records c.db (image_at c.db c.slot stores) ≡ true
       by true q = q
@@ -166,17 +166,17 @@ module _ (table : EnqueueTable) (stores : List Stored) (region : ℕ) (records :
               (λ p. absurd (gone (sym (idle_back records c.db c.slot (image_at c.db c.slot stores) (record { untouched = q; unused = w }))
               ∙ (sym (back_at records stores c.db c.slot t.there.least t.there.within) ∙ (t.first ∙ p.0))))) t.sits
 
-  has_all : (slots : List Change) → AllByRecursion (IsTouched table stores region records) slots
-      → AllByRecursion (λ c. 1 ≤ records_in (image_at c.db c.slot stores) → list_any (λ r. has r c) records ≡ true) slots
+  has_all : (slots : List Change) → AllByRecursion (IsRecordTouched table stores region records) slots
+      → AllByRecursion (λ c. 1 ≤ image_records_in (image_at c.db c.slot stores) → list_any (λ r. has r c) records ≡ true) slots
   has_all [] h = tt
   has_all (c ∷ slots) h = (λ some. own_record c h.0 (some_image (image_at c.db c.slot stores) some), has_all slots h.1)
 
-  module _ (valid : (db : ℕ) (root : List ℕ) → 1 ≤ db → AtMostOne (has_root root) (slots_at db stores)) where
-    has_once : (r : Change) (slots : List Change) → AllByRecursion (IsTouched table stores region records) slots → Ascend slots → MatchOnce has r slots
+  module _ (valid : (db : ℕ) (root : List ℕ) → 1 ≤ db → AtMostOne (has_root root) (slots_of_database db stores)) where
+    has_once : (r : Change) (slots : List Change) → AllByRecursion (IsRecordTouched table stores region records) slots → ChangesAscend slots → MatchOnce has r slots
     has_once r [] t h = tt
     has_once r (c ∷ slots) t h = (each slots h.0, has_once r slots t.1 h.1)
       where
-        each : (ds : List Change) → AllByRecursion (λ d. is_before d.db d.slot c ≡ true) ds → AllByRecursion (λ d. has r c ≡ true → has r d ≡ true → ⊥) ds
+        each : (ds : List Change) → AllByRecursion (λ d. is_slot_before d.db d.slot c ≡ true) ds → AllByRecursion (λ d. has r c ≡ true → has r d ≡ true → ⊥) ds
         each [] g = tt
         each (d ∷ ds) g = (one, each ds g.1)
           where
@@ -184,14 +184,14 @@ module _ (table : EnqueueTable) (stores : List Stored) (region : ℕ) (records :
             one e f =
                 let db_c : r.db ≡ c.db = eqb-true r.db c.db (left_of (eqb r.db c.db) _ e) in
                 let db_d : r.db ≡ d.db = eqb-true r.db d.db (left_of (eqb r.db d.db) _ f) in
-                let root_c : has_root r.root (get_or (slots_at c.db stores) c.slot []) ≡ true = right_of (eqb r.db c.db) _ e in
-                let root_d : has_root r.root (get_or (slots_at c.db stores) d.slot []) ≡ true =
-                ap (λ n. has_root r.root (get_or (slots_at n stores) d.slot [])) (sym db_c ∙ db_d) ∙ right_of (eqb r.db d.db) _ f in
+                let root_c : has_root r.root (get_or (slots_of_database c.db stores) c.slot []) ≡ true = right_of (eqb r.db c.db) _ e in
+                let root_d : has_root r.root (get_or (slots_of_database c.db stores) d.slot []) ≡ true =
+                ap (λ n. has_root r.root (get_or (slots_of_database n stores) d.slot [])) (sym db_c ∙ db_d) ∙ right_of (eqb r.db d.db) _ f in
                 never_itself c.db c.slot d.db d.slot (less_is c.db c.slot d.db d.slot g.0) (sym db_c ∙ db_d)
-                (only_one (has_root r.root) (slots_at c.db stores) (valid c.db r.root t.0.there.least) c.slot d.slot refl root_c root_d)
+                (only_one (has_root r.root) (slots_of_database c.db stores) (valid c.db r.root t.0.there.least) c.slot d.slot refl root_c root_d)
 
-    pub few_have : (slots : List Change) → Ascend slots → AllByRecursion (IsTouched table stores region records) slots
-        → sum_by (λ c. records_in (image_at c.db c.slot stores)) slots ≤ length records
+    pub few_have : (slots : List Change) → ChangesAscend slots → AllByRecursion (IsRecordTouched table stores region records) slots
+        → sum_by (λ c. image_records_in (image_at c.db c.slot stores)) slots ≤ length records
     few_have slots ascend h =
-        few_matches has records slots (λ c. records_in (image_at c.db c.slot stores)) (λ c. small_image (image_at c.db c.slot stores)) (has_all slots h)
+        few_matches has records slots (λ c. image_records_in (image_at c.db c.slot stores)) (λ c. small_image (image_at c.db c.slot stores)) (has_all slots h)
         (all_once has slots (λ r. has_once r slots h ascend) records)

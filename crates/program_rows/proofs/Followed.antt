@@ -8,12 +8,12 @@ use Rattle.model_data.specs.declared.need.Need.{Need}
 use Rattle.model_data.specs.declared.request.Holder.{Holder}
 use Rattle.model_data.specs.declared.request.Request.{Request}
 use Rattle.model_data.specs.Table.{EnqueueTable}
-use Rattle.model_data.specs.Ask.{asker, granted_mode, with_hold, waits_for_nothing, after_asks}
-use Rattle.pi_enqueue.specs.Kept.{IsKept}
+use Rattle.model_data.specs.EnqueueRequests.{asker, granted_mode, with_hold, waits_for_nothing, after_asks}
+use Rattle.pi_enqueue.specs.KeptTable.{IsTableKept}
 use Rattle.seg_store.specs.Slots.{Stored}
 use Rattle.unit_work.specs.declared.change.Change.{Change}
 use Rattle.program_rows.specs.Isolation.{request_of}
-use Rattle.program_rows.specs.Open.{HoldsAlone, Sits, AreUnits}
+use Rattle.program_rows.specs.OpenUnits.{HoldsAlone, Sits, AreUnits}
 use Rattle.program_rows.proofs.Holders.{holder_exact}
 use Rattle.program_rows.proofs.Asking.{after_has, alone_after, regions_after_asks}
 use Rattle.program_rows.proofs.Blocking.{all_put}
@@ -32,7 +32,7 @@ numbered_asked region number least (need ∷ needs) = (
 
 -- the table after a region has asked for what it needs of a database
 pub follows : (region number : ℕ) (needs : List Need) (table after : EnqueueTable) → 1 ≤ number → AllByRecursion (λ hold. 1 ≤ hold.0.resource.db) table.holds
-    → after ≡ after_asks region (map (request_of region number) needs) table → IsKept after → Follows table after
+    → after ≡ after_asks region (map (request_of region number) needs) table → IsTableKept after → Follows table after
 follows region number needs table after least numbered is kept =
     record {
       kept = kept;
@@ -63,5 +63,5 @@ follow_units units stores table after h f =
     }
 
 -- the region waits for nothing
-pub waits_not : (region : ℕ) (table : EnqueueTable) → AllByRecursion (λ hold. 1 ≤ hold.0.resource.db) table.holds → IsKept (waits_for_nothing region table) → Follows table (waits_for_nothing region table)
+pub waits_not : (region : ℕ) (table : EnqueueTable) → AllByRecursion (λ hold. 1 ≤ hold.0.resource.db) table.holds → IsTableKept (waits_for_nothing region table) → Follows table (waits_for_nothing region table)
 waits_not region table numbered kept = record { kept = kept; regions = refl; numbered = numbered; alone = λ k r a. a }

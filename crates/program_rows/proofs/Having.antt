@@ -8,15 +8,15 @@ use Rattle.std.proofs.lemmas.Option.{slice_get_within}
 use Rattle.model_data.specs.declared.row.Row.{Row}
 use Rattle.model_data.proofs.Lists.{all_then}
 use Rattle.model_data.specs.Table.{EnqueueTable}
-use Rattle.seg_store.specs.Slots.{Stored, AreSlots, AtMostOne, has_root, is_free}
+use Rattle.seg_store.specs.Slots.{Stored, AreSlots, AtMostOne, has_root, is_slot_free}
 use Rattle.seg_store.proofs.SlotRows.{same_key}
 use Rattle.unit_work.specs.declared.change.Change.{Change}
 use Rattle.unit_work.specs.Changes.{Changes, is_seen}
 use Rattle.unit_work.specs.BackOut.{was_in, backed_slot, cleared_slot}
-use Rattle.unit_work.specs.Images.{slots_at, image_at, IsSlotOf}
-use Rattle.program_rows.specs.OnSlots.{slots_in as slots_seen, root_in, HoldsSlot, IsTouchedSlot, AreTouchedSlots, AreOnSlots}
-use Rattle.program_rows.specs.Open.{records_of, slots_of, HoldsAlone, IsUnit, was_there, IsTouched}
-use Rattle.program_rows.specs.Making.{seen, IsWhole}
+use Rattle.unit_work.specs.Images.{slots_of_database, image_at, IsSlotOf}
+use Rattle.program_rows.specs.SlotsState.{slots_state_of as slots_seen, root_in, HoldsSlot, IsTouchedSlot, AreTouchedSlots, AreOnSlots}
+use Rattle.program_rows.specs.OpenUnits.{unit_records_of, unit_slots_of, HoldsAlone, IsOpenUnit, was_there, IsRecordTouched}
+use Rattle.program_rows.specs.PlannedChanges.{databases_opened, IsUnitWhole}
 use Rattle.program_rows.specs.declared.opened.Opened.{Opened}
 use Rattle.program_rows.proofs.Apart.{all_beside, all_good}
 use Rattle.program_rows.proofs.Aside.{can_rooted, was_in_is}
@@ -34,7 +34,7 @@ known_slot stores db slot there = by (slice_get stores (db - 1)) refl
   where
     by : (o : Option Stored) → slice_get stores (db - 1) ≡ o → db ≤ length stores
     by None e =
-        let none : slots_at db stores ≡ [] = ap (λ x. option_map_or (λ (s : Stored). s.slots) x []) e in
+        let none : slots_of_database db stores ≡ [] = ap (λ x. option_map_or (λ (s : Stored). s.slots) x []) e in
         absurd (omega (arith, there.within, ap length none))
     by (Some s) e = omega (arith, slice_get_within stores (db - 1) s e, there.least)
 
@@ -51,11 +51,11 @@ back_there P (c ∷ records) db slot image w h = by (was_in db slot c) refl w (�
 -- a record that was in a slot has rows
 none_free : (db slot : ℕ) (c : Change) → was_in db slot c ≡ true → c.before ≡ [] → ⊥
 none_free db slot c w none =
-    let kept : not (is_free c.before) ≡ true = right_of (eqb c.slot slot) (not (is_free c.before)) (right_of (eqb c.db db) (eqb c.slot slot && not (is_free c.before)) w) in
-    false≢true (sym (ap (λ image. not (is_free image)) none) ∙ kept)
+    let kept : not (is_slot_free c.before) ≡ true = right_of (eqb c.slot slot) (not (is_slot_free c.before)) (right_of (eqb c.db db) (eqb c.slot slot && not (is_slot_free c.before)) w) in
+    false≢true (sym (ap (λ image. not (is_slot_free image)) none) ∙ kept)
 
 -- a region holds alone what its unit has touched
-module _ (table : EnqueueTable) (stores : List Stored) (region : ℕ) (records : List Change) (unit : IsUnit table stores region records) where
+module _ (table : EnqueueTable) (stores : List Stored) (region : ℕ) (records : List Change) (unit : IsOpenUnit table stores region records) where
   held_before : (c : Change) (db slot : ℕ) → was_in db slot c ≡ true → (c.before ≡ []) ⊎ (has_root c.root c.before ≡ true) → HoldsAlone table region (record { db = c.db; root = Some c.root })
       → HoldsAlone table region (record { db = db; root = root_in c.before })
   held_before c db slot w rooted alone =
@@ -80,7 +80,7 @@ module _ (table : EnqueueTable) (stores : List Stored) (region : ℕ) (records :
   all_before [] db slot rooted alone = tt
   all_before (c ∷ rs) db slot rooted alone = (λ w. held_before c db slot w rooted.0 alone.0, all_before rs db slot rooted.1 alone.1)
 
-  pub holds_touched : (c : Change) → IsTouched table stores region records c → HoldsSlot table region c
+  pub holds_touched : (c : Change) → IsRecordTouched table stores region records c → HoldsSlot table region c
   holds_touched c t =
       ⊎_elim
       (λ w.
@@ -89,12 +89,12 @@ module _ (table : EnqueueTable) (stores : List Stored) (region : ℕ) (records :
       (all_before records c.db c.slot (can_rooted records stores unit.can) unit.alone)))
       (λ p. subst (λ image. HoldsAlone table region (record { db = c.db; root = root_in image })) (sym p.0) p.1) t.sits
 
-module _ (o : Opened) (w : IsWhole o) where
+module _ (o : Opened) (w : IsUnitWhole o) where
   abbrev units : List (List Change)
-  units = records_of o.units.items
+  units = unit_records_of o.units.items
 
   abbrev slots : List (List Change)
-  slots = slots_of o.units.items
+  slots = unit_slots_of o.units.items
 
   abbrev stores : List Stored
   stores = o.stores.stores
@@ -114,21 +114,21 @@ module _ (o : Opened) (w : IsWhole o) where
       (λ (le : length units ≤ k).
       absurd (false≢true (sym (ap (is_seen db slot) (beyond slots k (omega (arith, le, same_count)))) ∙ e))) (cases_lt k (length units))
 
-  one_root : (db : ℕ) (root : List ℕ) → 1 ≤ db → AtMostOne (has_root root) (slots_at db stores)
+  one_root : (db : ℕ) (root : List ℕ) → 1 ≤ db → AtMostOne (has_root root) (slots_of_database db stores)
   one_root db root least = by (slice_get stores (db - 1)) refl
     where
-      by : (found : Option Stored) → slice_get stores (db - 1) ≡ found → AtMostOne (has_root root) (slots_at db stores)
+      by : (found : Option Stored) → slice_get stores (db - 1) ≡ found → AtMostOne (has_root root) (slots_of_database db stores)
       by None e = subst (λ x. AtMostOne (has_root root) (option_map_or (λ (s : Stored). s.slots) x [])) (sym e) tt
       by (Some s) e =
           subst (λ x. AtMostOne (has_root root) (option_map_or (λ (t : Stored). t.slots) x [])) (sym e)
           ((all_there (λ (x : Stored). AreSlots x.dbd x.slots) stores (db - 1) s w.units.valid e).apart root)
 
-  touched_there : (k : ℕ) → k < length units → AreTouchedSlots (slots_seen (seen o)) (get_or slots k [])
+  touched_there : (k : ℕ) → k < length units → AreTouchedSlots (slots_seen (databases_opened o)) (get_or slots k [])
   touched_there k lt =
       let t = w.touched k lt in
       let u = w.units.each k lt in
       record {
-        each = all_then (IsTouched o.table stores (suc k) (get_or units k [])) (IsTouchedSlot (slots_seen (seen o))) (get_or slots k [])
+        each = all_then (IsRecordTouched o.table stores (suc k) (get_or units k [])) (IsTouchedSlot (slots_seen (databases_opened o))) (get_or slots k [])
             (λ c x. record {
               there = x.there;
               known = known_slot stores c.db c.slot x.there;
@@ -140,14 +140,14 @@ module _ (o : Opened) (w : IsWhole o) where
         few_now = omega (arith, few_have o.table stores (suc k) (get_or units k []) u.can one_root (get_or slots k []) t.order.ascend t.each, u.kept.few);
       }
 
-  touched_all : (k : ℕ) → AreTouchedSlots (slots_seen (seen o)) (get_or slots k [])
+  touched_all : (k : ℕ) → AreTouchedSlots (slots_seen (databases_opened o)) (get_or slots k [])
   touched_all k =
       ⊎_elim (touched_there k)
       (λ (le : length units ≤ k).
-      subst (AreTouchedSlots (slots_seen (seen o))) (sym (beyond slots k (omega (arith, le, same_count))))
+      subst (AreTouchedSlots (slots_seen (databases_opened o))) (sym (beyond slots k (omega (arith, le, same_count))))
       (record { each = tt; ascend = tt; few = omega arith; few_before = omega arith; few_now = omega arith })) (cases_lt k (length units))
 
-  pub whole_slots : AreOnSlots (seen o)
+  pub whole_slots : AreOnSlots (databases_opened o)
   whole_slots =
       record {
         have = record {
@@ -176,7 +176,7 @@ module _ (o : Opened) (w : IsWhole o) where
           (λ (lt : region - 1 < length units).
           let up : suc (region - 1) ≡ region = omega (arith, least) in
           subst (λ r. AllByRecursion (HoldsSlot o.table r) (get_or slots (region - 1) [])) up
-          (all_then (IsTouched o.table stores (suc (region - 1)) (get_or units (region - 1) [])) (HoldsSlot o.table (suc (region - 1))) (get_or slots (region - 1) [])
+          (all_then (IsRecordTouched o.table stores (suc (region - 1)) (get_or units (region - 1) [])) (HoldsSlot o.table (suc (region - 1))) (get_or slots (region - 1) [])
           (holds_touched o.table stores (suc (region - 1)) (get_or units (region - 1) []) (w.units.each (region - 1) lt)) (w.touched (region - 1) lt).each))
           (λ (le : length units ≤ region - 1).
           subst (AllByRecursion (HoldsSlot o.table region)) (sym (beyond slots (region - 1) (omega (arith, le, same_count)))) tt) (cases_lt (region - 1) (length units))

@@ -10,8 +10,8 @@ use Rattle.seg_store.specs.Slots.{Stored}
 use Rattle.unit_work.specs.declared.change.Change.{Change}
 use Rattle.unit_work.specs.BackOut.{backed_out}
 use Rattle.unit_work.proofs.Backing.{get_set_same, get_set_other}
-use Rattle.program_rows.specs.Open.{backed_all}
-use Rattle.unit_work.specs.Images.{slots_at, image_at}
+use Rattle.program_rows.specs.OpenUnits.{backed_all}
+use Rattle.unit_work.specs.Images.{slots_of_database, image_at}
 use Rattle.program_rows.proofs.Slotwise.{back, backed_is, image_at_each}
 use Rattle.program_rows.proofs.Beside.{IsIdle, idle_back}
 use Rattle.program_rows.proofs.Aside.{ChangesAside, slots_there}
@@ -21,10 +21,10 @@ use Rattle.program_rows.proofs.Seen.{get_put, get_put_else}
 -- the same databases and as many slots; one slot of the database of this number has another image
 pub record OneSlot (number slot : ℕ) (was image : List Row) (old new : List Stored) : Type 0 where
   pub least : 1 ≤ number
-  pub within : slot < length (slots_at number old)
+  pub within : slot < length (slots_of_database number old)
   pub before : image_at number slot old ≡ was
   pub dbds : map (λ (s : Stored). s.dbd) new ≡ map (λ (s : Stored). s.dbd) old
-  pub lengths : (db : ℕ) → 1 ≤ db → length (slots_at db new) ≡ length (slots_at db old)
+  pub lengths : (db : ℕ) → 1 ≤ db → length (slots_of_database db new) ≡ length (slots_of_database db old)
   pub here : image_at number slot new ≡ image
   pub else : (db m : ℕ) → 1 ≤ db → (db ≡ number → m ≡ slot → ⊥) → image_at db m new ≡ image_at db m old
 
@@ -39,11 +39,11 @@ dbds_put (x ∷ stores) (suc i) s new e d = ap (λ ys. x.dbd ∷ ys) (dbds_put s
 
 module _ (number slot : ℕ) (was image : List Row) (stores : List Stored) (s new : Stored) (least : 1 ≤ number) (at : slice_get stores (number - 1) ≡ Some s)
     (there : slice_get s.slots slot ≡ Some was) (dbd : new.dbd ≡ s.dbd) (slots : new.slots ≡ set s.slots slot image) where
-  put_here : slots_at number (set stores (number - 1) new) ≡ set s.slots slot image
+  put_here : slots_of_database number (set stores (number - 1) new) ≡ set s.slots slot image
   put_here =
       ap (λ o. option_map_or (λ (x : Stored). x.slots) o []) (get_set_same stores (number - 1) new (slice_get_within stores (number - 1) s at)) ∙ slots
 
-  put_else : (db : ℕ) → 1 ≤ db → db ≢ number → slots_at db (set stores (number - 1) new) ≡ slots_at db stores
+  put_else : (db : ℕ) → 1 ≤ db → db ≢ number → slots_of_database db (set stores (number - 1) new) ≡ slots_of_database db stores
   put_else db some other =
       ap (λ o. option_map_or (λ (x : Stored). x.slots) o []) (get_set_other stores (number - 1) (db - 1) new (λ e. other (omega (arith, least, some, e))))
 
@@ -57,7 +57,7 @@ module _ (number slot : ℕ) (was image : List Row) (stores : List Stored) (s ne
         dbds = dbds_put stores (number - 1) s new at dbd;
         lengths = λ db some.
             ⊎_elim
-            (λ same. subst (λ n. length (slots_at n (set stores (number - 1) new)) ≡ length (slots_at n stores)) (sym same)
+            (λ same. subst (λ n. length (slots_of_database n (set stores (number - 1) new)) ≡ length (slots_of_database n stores)) (sym same)
             (ap length put_here ∙ (length-set s.slots slot image ∙ ap length (sym (slots_there number stores s at)))))
             (λ other. ap length (put_else db some other)) (cases_eq db number);
         here = ap (λ xs. get_or xs slot []) put_here ∙ get_put s.slots slot image [] inside;
@@ -119,8 +119,8 @@ module _ (number slot : ℕ) (was image : List Row) (old new : List Stored) (one
           ∙ (image_at_each (back records) db m new some (omega (arith, lt, one.lengths db some))
           ∙ (ap (back records db m) (one.else db m some apart) ∙ sym (ap (image_at db m) (backed_is records old) ∙ image_at_each (back records) db m old some lt))))
           (λ le.
-          past (slots_at db (backed_out records new)) m (omega (arith, le, one.lengths db some, backed_lengths new records db some))
-          ∙ sym (past (slots_at db (backed_out records old)) m (omega (arith, le, backed_lengths old records db some)))) (in_range m (length (slots_at db old)))
+          past (slots_of_database db (backed_out records new)) m (omega (arith, le, one.lengths db some, backed_lengths new records db some))
+          ∙ sym (past (slots_of_database db (backed_out records old)) m (omega (arith, le, backed_lengths old records db some)))) (in_range m (length (slots_of_database db old)))
 
 -- once all these units are backed out of both, that are idle there
 pub one_all : (number slot : ℕ) (was image : List Row) (old new : List Stored) (units : List (List Change)) → OneSlot number slot was image old new

@@ -12,9 +12,9 @@ use Rattle.dli_calls.specs.declared.planned.Edit.{Edit}
 use Rattle.log_records.specs.declared.record.Record.{Record}
 use Rattle.log_records.specs.declared.record.Record.TheVariants as told
 use Rattle.unit_work.specs.Images.{image_at}
-use Rattle.program_rows.specs.Making.{TakesSlot, edit_told}
-use Rattle.log_records.specs.Telling.{spelled, Tells}
-use Rattle.program_rows.specs.Telling.{set_told}
+use Rattle.program_rows.specs.PlannedChanges.{TakesSlot, edit_told}
+use Rattle.log_records.specs.ToldRecords.{spelled_records, TellsInRoom}
+use Rattle.program_rows.specs.ToldChanges.{set_told}
 use Rattle.program_rows.proofs.Aside.{slots_there}
 use Rattle.program_rows.proofs.Setting.{taken, dbd_there}
 use Rattle.program_rows.proofs.Stepping.{has_slot}
@@ -34,25 +34,25 @@ module _ (stores : List Stored) (number slot : ℕ) (e : Edit) (dbd : Dbd) (data
   pub slot_within : slot < length k.slots
   slot_within = slice_get_within k.slots slot (record_of e.root (rows_of_slots k.slots)) stands
 
-  pub short_before : (image : List Row) → slice_get k.slots slot ≡ Some image → length (rows.spelling image) ≤ 4000
+  pub short_before : (image : List Row) → slice_get k.slots slot ≡ Some image → length (rows.rows_spelling image) ≤ 4000
   short_before image there = short_image k.dbd k.slots slot image takes_it.valid one_sector there
 
-  pub short_after : length (rows.spelling e.image) ≤ 4000
+  pub short_after : length (rows.rows_spelling e.image) ≤ 4000
   short_after = short_edit k.dbd e.root e.image (rows_of_slots k.slots) one_sector takes_it.accepted
 
   pub told_is : (unit : ℕ) (image : List Row) → slice_get k.slots slot ≡ Some image
-      → told.Change unit number slot (rows.spelling image) (rows.spelling e.image) ∷ [] ≡ edit_told unit number (Some e) stores
+      → told.Change unit number slot (rows.rows_spelling image) (rows.rows_spelling e.image) ∷ [] ≡ edit_told unit number (Some e) stores
   told_is unit image there =
       let slots = slots_there number stores k at in
       let both : Some (get_or k.slots slot []) ≡ Some image = sym (slice_get-get_or k.slots slot [] slot_within) ∙ there in
       let same : get_or k.slots slot [] ≡ image = cc in
       let is : image_at number slot stores ≡ image = ap (λ (xs : List (List Row)). get_or xs slot []) slots ∙ same in
       sym (ap (set_told unit number e.image stores) (ap (slot_for e.root) slots ∙ takes_it.place)
-      ∙ ap (λ before. told.Change unit number slot (rows.spelling before) (rows.spelling e.image) ∷ []) is)
+      ∙ ap (λ before. told.Change unit number slot (rows.rows_spelling before) (rows.rows_spelling e.image) ∷ []) is)
 
 -- what is told is taken back by its length
-pub told_back : (old now : List ℕ) (records : List Record) (room n : ℕ) → Tells records room old now → n ≡ length old → take n now ≡ old
-told_back old now records room n t e = ap (λ m. take m now) e ∙ (ap (take (length old)) t.told ∙ front old (spelled records))
+pub told_back : (old now : List ℕ) (records : List Record) (room n : ℕ) → TellsInRoom records room old now → n ≡ length old → take n now ≡ old
+told_back old now records room n t e = ap (λ m. take m now) e ∙ (ap (take (length old)) t.told ∙ front old (spelled_records records))
   where
     front : (xs ys : List ℕ) → take (length xs) (xs ++ ys) ≡ xs
     front [] ys = refl

@@ -16,11 +16,11 @@ use Rattle.seg_store.specs.Slots.{has_root, place_of, AtMostOne, IsSlot, AreSlot
 use Rattle.seg_store.proofs.Places as places
 use Rattle.seg_store.proofs.SlotRows.{slots_record, rooted, same_key, record_has, record_image_root}
 use Rattle.unit_work.specs.declared.change.Change.{Change}
-use Rattle.unit_work.specs.Changes.{is_of, is_changed, AreOther, AreOnce}
+use Rattle.unit_work.specs.Changes.{is_change_of_record, is_record_changed, AreOther, AreRecordsOnce}
 use Rattle.unit_work.specs.BackOut.{is_touched, was_in, backed_slot, cleared_slot}
 use Rattle.program_rows.proofs.Slotwise.{each_slot, back, slots_length}
 use Rattle.program_rows.proofs.Beside.{back_has, cleared_has, touched_is}
-use Rattle.program_rows.specs.Open.{was_there}
+use Rattle.program_rows.specs.OpenUnits.{was_there}
 use Rattle.program_rows.proofs.Aside.{was_in_is}
 use Rattle.program_rows.proofs.Bools.{or_left, or_right}
 
@@ -28,7 +28,7 @@ use Rattle.program_rows.proofs.Bools.{or_left, or_right}
 pub record Restores (dbd : Dbd) (records : List Change) (db : ℕ) (slots : List (List Row)) : Type 0 where
   pub cleared : (m : ℕ) → m < length slots → was_there records db m ≡ true → cleared_slot records db (get_or slots m []) ≡ []
   pub before : AllByRecursion (λ c. c.db ≡ db → (c.before ≡ []) ⊎ IsRecord dbd c.root c.before) records
-  pub once : AreOnce records
+  pub once : AreRecordsOnce records
 
 -- an image of this root is of no other
 other_has : (root key : List ℕ) (image : List Row) → (image ≡ []) ⊎ (has_root root image ≡ true) → is_eq (key_cmp root key) ≡ false → has_root key image ≡ false
@@ -42,17 +42,17 @@ before_rooted : (dbd : Dbd) (c : Change) → (c.before ≡ []) ⊎ IsRecord dbd 
 before_rooted dbd c h = ⊎_elim (λ e. inl e) (λ r. inr (record_has dbd.types c.root c.before r.whole)) h
 
 -- what is put back for other records isn't of this root
-none_back : (dbd : Dbd) (records : List Change) (db m : ℕ) (key : List ℕ) (image : List Row) → is_changed db key records ≡ false
+none_back : (dbd : Dbd) (records : List Change) (db m : ℕ) (key : List ℕ) (image : List Row) → is_record_changed db key records ≡ false
     → AllByRecursion (λ c. c.db ≡ db → (c.before ≡ []) ⊎ IsRecord dbd c.root c.before) records → has_root key image ≡ false → has_root key (backed_slot records db m image) ≡ false
 none_back dbd records db m key image e before h = back_has (λ x. has_root key x ≡ false) records db m image h (each records e before)
   where
-    each : (rs : List Change) → is_changed db key rs ≡ false → AllByRecursion (λ c. c.db ≡ db → (c.before ≡ []) ⊎ IsRecord dbd c.root c.before) rs
+    each : (rs : List Change) → is_record_changed db key rs ≡ false → AllByRecursion (λ c. c.db ≡ db → (c.before ≡ []) ⊎ IsRecord dbd c.root c.before) rs
         → AllByRecursion (λ c. c.db ≡ db → has_root key c.before ≡ false) rs
     each [] q b = tt
     each (c ∷ rs) q b = (
       λ d. other_has c.root key c.before (before_rooted dbd c (b.0 d))
-          (sym (ap (λ t. t && is_eq (key_cmp c.root key)) (eq-eqb c.db db d)) ∙ or_left (is_of db key c) (is_changed db key rs) q),
-      each rs (or_right (is_of db key c) (is_changed db key rs) q) b.1,
+          (sym (ap (λ t. t && is_eq (key_cmp c.root key)) (eq-eqb c.db db d)) ∙ or_left (is_change_of_record db key c) (is_record_changed db key rs) q),
+      each rs (or_right (is_change_of_record db key c) (is_record_changed db key rs) q) b.1,
     )
 
 -- an image that is left alone for a root: the same, or of that root neither before nor after
@@ -137,7 +137,7 @@ all_each P f db n (x ∷ xs) h g = (h n x g.0, all_each P f db (suc n) xs h g.1)
 
 module _ (dbd : Dbd) (records : List Change) (db : ℕ) (slots : List (List Row)) (facts : Restores dbd records db slots) where
   -- an image isn't of a record that the unit hasn't changed and that is gone once it is cleared
-  gone_before : (key : List ℕ) (image : List Row) → is_changed db key records ≡ false → cleared_slot records db image ≡ [] → has_root key image ≡ false
+  gone_before : (key : List ℕ) (image : List Row) → is_record_changed db key records ≡ false → cleared_slot records db image ≡ [] → has_root key image ≡ false
   gone_before key image e gone = by (has_root key image) refl
     where
       by : (b : Bool) → has_root key image ≡ b → has_root key image ≡ false
@@ -147,7 +147,7 @@ module _ (dbd : Dbd) (records : List Change) (db : ℕ) (slots : List (List Row)
           absurd (false≢true (ap (has_root key) (sym gone ∙ same) ∙ q))
 
   -- each slot is left alone for a record that isn't changed
-  slot_left : (key : List ℕ) → is_changed db key records ≡ false → (m : ℕ) → m < length slots → IsLeft key (get_or slots m []) (back records db m (get_or slots m []))
+  slot_left : (key : List ℕ) → is_record_changed db key records ≡ false → (m : ℕ) → m < length slots → IsLeft key (get_or slots m []) (back records db m (get_or slots m []))
   slot_left key e m lt = by (was_there records db m) refl (is_touched records db (get_or slots m [])) refl
     where
       by : (b : Bool) → was_there records db m ≡ b → (c : Bool) → is_touched records db (get_or slots m []) ≡ c → IsLeft key (get_or slots m []) (back records db m (get_or slots m []))
@@ -165,7 +165,7 @@ module _ (dbd : Dbd) (records : List Change) (db : ℕ) (slots : List (List Row)
           )
       by false q false t = inl (none_put records db m (cleared_slot records db (get_or slots m [])) q ∙ ap (λ b. cond b [] (get_or slots m [])) t)
 
-  left_all : (key : List ℕ) → is_changed db key records ≡ false → (m : ℕ) → m < length slots → IsLeft key (get_or slots m []) (back records db (0 + m) (get_or slots m []))
+  left_all : (key : List ℕ) → is_record_changed db key records ≡ false → (m : ℕ) → m < length slots → IsLeft key (get_or slots m []) (back records db (0 + m) (get_or slots m []))
   left_all key e m lt = let here : m ≡ 0 + m = omega arith in subst (λ k. IsLeft key (get_or slots m []) (back records db k (get_or slots m []))) here (slot_left key e m lt)
 
   abbrev pub restored : List (List Row)
@@ -173,15 +173,15 @@ module _ (dbd : Dbd) (records : List Change) (db : ℕ) (slots : List (List Row)
 
   -- a slot that a record is put back into
   module _ (key : List ℕ) where
-    others_none : (c : Change) (rs : List Change) → c.db ≡ db → is_eq (key_cmp c.root key) ≡ true → AllByRecursion (AreOther c) rs → is_changed db key rs ≡ false
+    others_none : (c : Change) (rs : List Change) → c.db ≡ db → is_eq (key_cmp c.root key) ≡ true → AllByRecursion (AreOther c) rs → is_record_changed db key rs ≡ false
     others_none c [] d e h = refl
     others_none c (x ∷ rs) d e h = λ t. one t || others_none c rs d e h.1 t
       where
         same : c.root ≡ key
         same = sym (same_key c.root key e)
 
-        one : is_of db key x ≡ false
-        one = by (is_of db key x) refl
+        one : is_change_of_record db key x ≡ false
+        one = by (is_change_of_record db key x) refl
           where
             left : (a b : Bool) → (a && b) ≡ true → a ≡ true
             left true b q = refl
@@ -191,18 +191,18 @@ module _ (dbd : Dbd) (records : List Change) (db : ℕ) (slots : List (List Row)
             right true b q = q
             right false b q = absurd (false≢true q)
 
-            by : (b : Bool) → is_of db key x ≡ b → is_of db key x ≡ false
+            by : (b : Bool) → is_change_of_record db key x ≡ b → is_change_of_record db key x ≡ false
             by false q = q
             by true q =
                 let database : x.db ≡ db = eqb-true x.db db (left (eqb x.db db) _ q) in
                 let root : x.root ≡ key = sym (same_key x.root key (right (eqb x.db db) _ q)) in
-                let both : is_of x.db x.root c ≡ true = λ t. eq-eqb c.db x.db (d ∙ sym database) t && (ap (λ k. is_eq (key_cmp c.root k)) (root ∙ sym same) ∙ ap is_eq (tied_itself key_total c.root)) t in
+                let both : is_change_of_record x.db x.root c ≡ true = λ t. eq-eqb c.db x.db (d ∙ sym database) t && (ap (λ k. is_eq (key_cmp c.root k)) (root ∙ sym same) ∙ ap is_eq (tied_itself key_total c.root)) t in
                 absurd (false≢true (sym h.0 ∙ both))
 
     own_place : (rs : List Change) → Rattle.unit_work.specs.Changes.Pairs AreOther rs → AllByRecursion (λ c. c.db ≡ db → (c.before ≡ []) ⊎ IsRecord dbd c.root c.before) rs
         → (place : ℕ) × ((m : ℕ) (image : List Row) → has_root key image ≡ false → has_root key (backed_slot rs db m image) ≡ true → m ≡ place)
     own_place [] once before = (0, λ m image e q. absurd (false≢true (sym e ∙ q)))
-    own_place (c ∷ rs) once before = by (is_of db key c) refl (own_place rs once.1 before.1)
+    own_place (c ∷ rs) once before = by (is_change_of_record db key c) refl (own_place rs once.1 before.1)
       where
         Place : ℕ → Type 0
         Place place = (m : ℕ) (image : List Row) → has_root key image ≡ false → has_root key (backed_slot (c ∷ rs) db m image) ≡ true → m ≡ place
@@ -215,7 +215,7 @@ module _ (dbd : Dbd) (records : List Change) (db : ℕ) (slots : List (List Row)
         right true b q = q
         right false b q = absurd (false≢true q)
 
-        by : (b : Bool) → is_of db key c ≡ b
+        by : (b : Bool) → is_change_of_record db key c ≡ b
             → ((place : ℕ) × ((m : ℕ) (image : List Row) → has_root key image ≡ false → has_root key (backed_slot rs db m image) ≡ true → m ≡ place))
             → (place : ℕ) × ((m : ℕ) (image : List Row) → has_root key image ≡ false → has_root key (backed_slot (c ∷ rs) db m image) ≡ true → m ≡ place)
         by true q rec = (
@@ -223,7 +223,7 @@ module _ (dbd : Dbd) (records : List Change) (db : ℕ) (slots : List (List Row)
           λ m image e h. here m image e h (was_in db m c) refl,
         )
           where
-            rest : is_changed db key rs ≡ false
+            rest : is_record_changed db key rs ≡ false
             rest = others_none c rs (eqb-true c.db db (left (eqb c.db db) _ q)) (right (eqb c.db db) _ q) once.0
 
             here : (m : ℕ) (image : List Row) → has_root key image ≡ false → has_root key (backed_slot (c ∷ rs) db m image) ≡ true → (b : Bool) → was_in db m c ≡ b → m ≡ c.slot
@@ -259,10 +259,10 @@ module _ (dbd : Dbd) (records : List Change) (db : ℕ) (slots : List (List Row)
           types = valid.types;
           count = slots_length (back records) db 0 slots ∙ valid.count;
           each = restored_each;
-          apart = λ key. by key (is_changed db key records) refl;
+          apart = λ key. by key (is_record_changed db key records) refl;
         }
       where
-        by : (key : List ℕ) (b : Bool) → is_changed db key records ≡ b → AtMostOne (has_root key) restored
+        by : (key : List ℕ) (b : Bool) → is_record_changed db key records ≡ b → AtMostOne (has_root key) restored
         by key false e = one_left (back records) key db 0 slots (left_all key e) (valid.apart key)
         by key true e =
             let place = own_place key records facts.once facts.before in
@@ -282,7 +282,7 @@ module _ (dbd : Dbd) (records : List Change) (db : ℕ) (slots : List (List Row)
             gone image false q = either image (is_touched records db image) q
 
     -- a record that isn't changed is as it was
-    pub restored_record : (key : List ℕ) → is_changed db key records ≡ false → record_of key (rows_of_slots restored) ≡ record_of key (rows_of_slots slots)
+    pub restored_record : (key : List ℕ) → is_record_changed db key records ≡ false → record_of key (rows_of_slots restored) ≡ record_of key (rows_of_slots slots)
     restored_record key e =
         slots_record dbd restored key restored_each
         ∙ (ap (λ o. unwrap_or o []) (find_left (back records) key db 0 slots (left_all key e))

@@ -12,19 +12,19 @@ use Rattle.tm_types.specs.declared.dbd.Dbd.{Dbd}
 use Rattle.model_data.specs.declared.row.Row.{Row}
 use Rattle.model_data.specs.Path.{key_cmp, root_of}
 use Rattle.model_data.specs.Rows.{roots}
-use Rattle.seg_store.specs.Slots.{has_root, is_free, AtMostOne, AreSlots, rows_of_slots}
+use Rattle.seg_store.specs.Slots.{has_root, is_slot_free, AtMostOne, AreSlots, rows_of_slots}
 use Rattle.seg_store.proofs.Places as places
 use Rattle.seg_store.proofs.SlotRows.{entries_of, put_entry, slots_roots, same_key}
 use Rattle.unit_work.specs.declared.change.Change.{Change}
 use Rattle.unit_work.specs.BackOut.{is_touched, was_in, backed_slot, cleared_slot}
 use Rattle.program_rows.proofs.Slotwise.{each_slot, back}
-use Rattle.program_rows.specs.Open.{was_there}
+use Rattle.program_rows.specs.OpenUnits.{was_there}
 use Rattle.program_rows.proofs.Aside.{was_in_is}
 use Rattle.program_rows.proofs.Restored.{Restores, none_put, restored_slots}
 
 -- a record that was there and still is, in its slot of these
 pub record Stays (slots : List (List Row)) (c : Change) : Type 0 where
-  pub was : is_free c.before ≡ false
+  pub was : is_slot_free c.before ≡ false
   pub is : has_root c.root (get_or slots c.slot []) ≡ true
 
 -- two images are of one root, or one image

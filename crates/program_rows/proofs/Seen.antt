@@ -9,10 +9,10 @@ use Rattle.model_data.specs.Footprint.{AgreeAt}
 use Rattle.model_data.specs.Table.{EnqueueTable}
 use Rattle.seg_store.specs.Slots.{Stored}
 use Rattle.unit_work.specs.declared.change.Change.{Change}
-use Rattle.unit_work.specs.Changes.{is_changed}
-use Rattle.program_rows.specs.State.{no_rows, roots_of, rows_of, rows_in}
+use Rattle.unit_work.specs.Changes.{is_record_changed}
+use Rattle.program_rows.specs.DatabasesState.{no_rows, roots_of, rows_of_stores, database_rows_in}
 use Rattle.program_rows.specs.Isolation.{request_of}
-use Rattle.program_rows.specs.Open.{HoldsAlone, StaysInSlot, Sits, AreUnits, seen_by, regions_from}
+use Rattle.program_rows.specs.OpenUnits.{HoldsAlone, StaysInSlot, Sits, AreUnits, seen_by, regions_from}
 use Rattle.program_rows.proofs.Together.{AreAllBeside, beside_without, all_by, all_set, get_set, get_set_else}
 use Rattle.program_rows.proofs.Backed.{IsGood, AreValid, record_all, roots_all, valid_all}
 use Rattle.program_rows.proofs.Apart.{holds_changed, all_beside, all_good, all_rooted}
@@ -43,7 +43,7 @@ module _ (units : List (List Change)) (stores : List Stored) (table : EnqueueTab
 
   -- they agree at each need that is not contested
   pub agree : (number : ℕ) → 1 ≤ number → (need : Need) → is_contested (request_of (suc place) number need) table.holds ≡ false
-      → AgreeAt need.root (rows_in number (rows_of stores)) (rows_in number (rows_of (seen_by place units stores)))
+      → AgreeAt need.root (database_rows_in number (rows_of_stores stores)) (database_rows_in number (rows_of_stores (seen_by place units stores)))
   agree number least need free = by need.root (alone need)
     where
       alone : (n : Need) → is_contested (request_of (suc place) number n) table.holds ≡ false → (i : ℕ) → i ≢ place → HoldsAlone table (suc i) (record { db = number; root = n.root }) → ⊥
@@ -56,12 +56,12 @@ module _ (units : List (List Change)) (stores : List Stored) (table : EnqueueTab
           (λ c st d. ⊎_elim (λ x. x) (λ seq. absurd (never (subst (λ n. HoldsAlone table (suc i) (record { db = n; root = None })) d seq))) st) s
 
       by : (root : Option (List ℕ)) → ((f : is_contested (request_of (suc place) number need) table.holds ≡ false) (i : ℕ) → i ≢ place → HoldsAlone table (suc i) (record { db = number; root = root }) → ⊥)
-          → AgreeAt root (rows_in number (rows_of stores)) (rows_in number (rows_of (seen_by place units stores)))
+          → AgreeAt root (database_rows_in number (rows_of_stores stores)) (database_rows_in number (rows_of_stores (seen_by place units stores)))
       by (Some key) never =
           sym (record_all stores (set units place []) number key least h.valid others_good others_beside
-          (others_by (λ a. is_changed number key a ≡ false) refl (λ i lt other. unchanged i lt other (is_changed number key (get_or units i [])) refl)))
+          (others_by (λ a. is_record_changed number key a ≡ false) refl (λ i lt other. unchanged i lt other (is_record_changed number key (get_or units i [])) refl)))
         where
-          unchanged : (i : ℕ) → i < length units → i ≢ place → (b : Bool) → is_changed number key (get_or units i []) ≡ b → is_changed number key (get_or units i []) ≡ false
+          unchanged : (i : ℕ) → i < length units → i ≢ place → (b : Bool) → is_record_changed number key (get_or units i []) ≡ b → is_record_changed number key (get_or units i []) ≡ false
           unchanged i lt other false q = q
           unchanged i lt other true q = absurd (never free i other (holds_changed table (suc i) number key (get_or units i []) (h.each i lt).alone q))
       by None never =
@@ -74,18 +74,18 @@ regions_length n [] all stores = refl
 regions_length n (a ∷ units) all stores = ap (λ k. suc k) (regions_length (suc n) units all stores)
 
 pub region_get : (n k : ℕ) (units all : List (List Change)) (stores : List Stored) → k < length units
-    → get_or (regions_from n units all stores) k no_rows ≡ record { rows = rows_of (seen_by (n + k) all stores); changed = roots_of (get_or units k []) }
+    → get_or (regions_from n units all stores) k no_rows ≡ record { rows = rows_of_stores (seen_by (n + k) all stores); changed = roots_of (get_or units k []) }
 region_get n k [] all stores lt = absurd (omega arith)
-region_get n zero (a ∷ units) all stores lt = let here : n ≡ n + 0 = omega arith in ap (λ i. record { rows = rows_of (seen_by i all stores); changed = roots_of a }) here
+region_get n zero (a ∷ units) all stores lt = let here : n ≡ n + 0 = omega arith in ap (λ i. record { rows = rows_of_stores (seen_by i all stores); changed = roots_of a }) here
 region_get n (suc k) (a ∷ units) all stores lt =
     let next : suc n + k ≡ n + suc k = omega arith in
-    region_get (suc n) k units all stores (omega arith) ∙ ap (λ i. record { rows = rows_of (seen_by i all stores); changed = roots_of (get_or units k []) }) next
+    region_get (suc n) k units all stores (omega arith) ∙ ap (λ i. record { rows = rows_of_stores (seen_by i all stores); changed = roots_of (get_or units k []) }) next
 
 pub region_is : (k : ℕ) (units : List (List Change)) (stores : List Stored) → k < length units
-    → get_or (regions_from 0 units units stores) k no_rows ≡ record { rows = rows_of (seen_by k units stores); changed = roots_of (get_or units k []) }
+    → get_or (regions_from 0 units units stores) k no_rows ≡ record { rows = rows_of_stores (seen_by k units stores); changed = roots_of (get_or units k []) }
 region_is k units stores lt =
     let here : 0 + k ≡ k = omega arith in
-    region_get 0 k units units stores lt ∙ ap (λ i. record { rows = rows_of (seen_by i units stores); changed = roots_of (get_or units k []) }) here
+    region_get 0 k units units stores lt ∙ ap (λ i. record { rows = rows_of_stores (seen_by i units stores); changed = roots_of (get_or units k []) }) here
 
 -- lists with the same elements
 pub same_list : {A : Type 0} (d : A) (xs ys : List A) → length xs ≡ length ys → ((k : ℕ) → k < length xs → get_or xs k d ≡ get_or ys k d) → xs ≡ ys

@@ -8,16 +8,16 @@ use Rattle.model_data.specs.Record.{IsRecord}
 use Rattle.model_data.specs.Rows.{record_of, with_record}
 use Rattle.model_data.proofs.Lists.{all_then, all_append}
 use Rattle.model_data.specs.Table.{EnqueueTable}
-use Rattle.pi_enqueue.specs.Kept.{IsKept}
-use Rattle.seg_store.specs.Slots.{Stored, has_root, AreSlots, slot_of, slot_for, rows_of_slots}
+use Rattle.pi_enqueue.specs.KeptTable.{IsTableKept}
+use Rattle.seg_store.specs.Slots.{Stored, has_root, AreSlots, slot_of_root, slot_for, rows_of_slots}
 use Rattle.seg_store.proofs.SlotRows.{same_key, record_some}
 use Rattle.unit_work.specs.declared.change.Change.{Change}
-use Rattle.unit_work.specs.Changes.{is_changed, with_change, is_full}
+use Rattle.unit_work.specs.Changes.{is_record_changed, with_change, is_full}
 use Rattle.unit_work.specs.BackOut.{is_touched, cleared_slot, backed_out}
 use Rattle.unit_work.proofs.Keeping.{kept_touch}
-use Rattle.program_rows.specs.State.{rows_of, rows_in}
-use Rattle.program_rows.specs.Open.{HoldsAlone, StaysInSlot, Sits, IsUnit, AreUnits, backed_all, seen_by, was_there}
-use Rattle.unit_work.specs.Images.{slots_at, image_at}
+use Rattle.program_rows.specs.DatabasesState.{rows_of_stores, database_rows_in}
+use Rattle.program_rows.specs.OpenUnits.{HoldsAlone, StaysInSlot, Sits, IsOpenUnit, AreUnits, backed_all, seen_by, was_there}
+use Rattle.unit_work.specs.Images.{slots_of_database, image_at}
 use Rattle.program_rows.proofs.Stepping.{Own, HasSlot, Steps, steps, has_slot}
 use Rattle.program_rows.proofs.Beside.{IsIdle, touched_is, none_touched, all_changed}
 use Rattle.program_rows.proofs.Aside.{can_aside, cleared_where, slots_there}
@@ -30,7 +30,7 @@ use Rattle.program_rows.proofs.Seen.{others_beside, others_good, seen_valid}
 
 -- the table of a region that has what it asked for
 pub record Follows (old new : EnqueueTable) : Type 0 where
-  pub kept : IsKept new
+  pub kept : IsTableKept new
   pub regions : new.regions ≡ old.regions
   pub numbered : AllByRecursion (λ hold. 1 ≤ hold.0.resource.db) new.holds
   pub alone : (k : ℕ) (r : Rattle.tm_types.specs.declared.resource.Resource.Resource) → HoldsAlone old k r → HoldsAlone new k r
@@ -82,9 +82,9 @@ module _ (units : List (List Change)) (stores : List Stored) (table after : Enqu
   untouched : (k : ℕ) → k < length units → k ≢ place → (x : List Row) → Own c.root x → is_touched (get_or units k []) c.db x ≡ false
   untouched k inside other x own =
       ⊎_elim (λ none. ap (is_touched (get_or units k []) c.db) none ∙ none_touched (get_or units k []) c.db)
-      (λ has_it. touched_is (get_or units k []) c.db c.root x has_it ∙ unchanged (is_changed c.db c.root (get_or units k [])) refl) own
+      (λ has_it. touched_is (get_or units k []) c.db c.root x has_it ∙ unchanged (is_record_changed c.db c.root (get_or units k [])) refl) own
     where
-      unchanged : (b : Bool) → is_changed c.db c.root (get_or units k []) ≡ b → is_changed c.db c.root (get_or units k []) ≡ false
+      unchanged : (b : Bool) → is_record_changed c.db c.root (get_or units k []) ≡ b → is_record_changed c.db c.root (get_or units k []) ≡ false
       unchanged false q = q
       unchanged true q =
           let theirs = f.alone (suc k) (record { db = c.db; root = Some c.root }) (holds_changed table (suc k) c.db c.root (get_or units k []) (h.each k inside).alone q) in
@@ -120,7 +120,7 @@ module _ (units : List (List Change)) (stores : List Stored) (table after : Enqu
   elsewhere : (x : Change) → 1 ≤ x.db → (x.db ≡ c.db → x.slot ≡ c.slot → ⊥) → StaysInSlot stores x → StaysInSlot (set stores (c.db - 1) new) x
   elsewhere x least apart st = record { was = st.was; is = ap (has_root x.root) (one.else x.db x.slot least apart) ∙ st.is }
 
-  others_unit : (k : ℕ) → k < length units → k ≢ place → IsUnit after (set stores (c.db - 1) new) (suc k) (get_or units k [])
+  others_unit : (k : ℕ) → k < length units → k ≢ place → IsOpenUnit after (set stores (c.db - 1) new) (suc k) (get_or units k [])
   others_unit k inside other =
       let unit = h.each k inside in
       record {
@@ -131,19 +131,19 @@ module _ (units : List (List Change)) (stores : List Stored) (table after : Enqu
         sits = each (get_or units k []) unit.sits unit.can.stored (all_changed (get_or units k []));
       }
     where
-      one_sits : (x : Change) → 1 ≤ x.db → is_changed x.db x.root (get_or units k []) ≡ true → Sits table stores (suc k) x → Sits after (set stores (c.db - 1) new) (suc k) x
+      one_sits : (x : Change) → 1 ≤ x.db → is_record_changed x.db x.root (get_or units k []) ≡ true → Sits table stores (suc k) x → Sits after (set stores (c.db - 1) new) (suc k) x
       one_sits x least own sit =
           ⊎_elim
           (λ st. inl (elsewhere x least
           (λ d p.
           let there : has_root x.root c.before ≡ true = ap (has_root x.root) (sym ((λ t. image_at (d t) (p t) stores) ∙ one.before)) ∙ st.is in
           let touched : is_touched (get_or units k []) c.db c.before ≡ true =
-          touched_is (get_or units k []) c.db x.root c.before there ∙ (ap (λ n. is_changed n x.root (get_or units k [])) (sym d) ∙ own) in
+          touched_is (get_or units k []) c.db x.root c.before there ∙ (ap (λ n. is_record_changed n x.root (get_or units k [])) (sym d) ∙ own) in
           absurd (false≢true (sym (untouched k inside other c.before has.own) ∙ touched))) st))
           (λ seq. inr (f.alone (suc k) (record { db = x.db; root = None }) seq)) sit
 
       each : (rs : List Change) → AllByRecursion (Sits table stores (suc k)) rs → AllByRecursion (Rattle.unit_work.specs.BackOut.IsStored stores) rs
-          → AllByRecursion (λ x. is_changed x.db x.root (get_or units k []) ≡ true) rs → AllByRecursion (Sits after (set stores (c.db - 1) new) (suc k)) rs
+          → AllByRecursion (λ x. is_record_changed x.db x.root (get_or units k []) ≡ true) rs → AllByRecursion (Sits after (set stores (c.db - 1) new) (suc k)) rs
       each [] a b d = tt
       each (x ∷ rs) a b d = (one_sits x b.0.least d.0 a.0, each rs a.1 b.1 d.1)
 
@@ -188,13 +188,13 @@ module _ (units : List (List Change)) (stores : List Stored) (table after : Enqu
   all_old (x ∷ rs) a b = (old_sits x b.0.least a.0, all_old rs a.1 b.1)
 
   all_with : (P : Change → Type 0) → AllByRecursion P (get_or units place []) → P c → AllByRecursion P (with_change c (get_or units place []))
-  all_with P old fresh = by (is_changed c.db c.root (get_or units place []))
+  all_with P old fresh = by (is_record_changed c.db c.root (get_or units place []))
     where
       by : (b : Bool) → AllByRecursion P (cond b (get_or units place []) (get_or units place [] ++ c ∷ []))
       by true = old
       by false = all_append P (get_or units place []) (c ∷ []) old (fresh, tt)
 
-  own_unit : IsUnit after (set stores (c.db - 1) new) (suc place) (with_change c (get_or units place []))
+  own_unit : IsOpenUnit after (set stores (c.db - 1) new) (suc place) (with_change c (get_or units place []))
   own_unit =
       let unit = h.each place lt in
       record {
@@ -216,10 +216,10 @@ module _ (units : List (List Change)) (stores : List Stored) (table after : Enqu
             let within : k < length units = omega (arith, inside, length-set units place (with_change c (get_or units place []))) in
             ⊎_elim
             (λ same.
-            subst (IsUnit after (set stores (c.db - 1) new) (suc k)) (sym (ap (λ n. get_or (set units place (with_change c (get_or units place []))) n []) same ∙ get_set units place (with_change c (get_or units place [])) lt))
-            (subst (λ n. IsUnit after (set stores (c.db - 1) new) (suc n) (with_change c (get_or units place []))) (sym same) own_unit))
+            subst (IsOpenUnit after (set stores (c.db - 1) new) (suc k)) (sym (ap (λ n. get_or (set units place (with_change c (get_or units place []))) n []) same ∙ get_set units place (with_change c (get_or units place [])) lt))
+            (subst (λ n. IsOpenUnit after (set stores (c.db - 1) new) (suc n) (with_change c (get_or units place []))) (sym same) own_unit))
             (λ other.
-            subst (IsUnit after (set stores (c.db - 1) new) (suc k)) (sym (get_set_else units place k (with_change c (get_or units place [])) other)) (others_unit k within other)) (cases_eq k place);
+            subst (IsOpenUnit after (set stores (c.db - 1) new) (suc k)) (sym (get_set_else units place k (with_change c (get_or units place [])) other)) (others_unit k within other)) (cases_eq k place);
       }
 
   -- what is committed is as it was
@@ -265,10 +265,10 @@ module _ (units : List (List Change)) (stores : List Stored) (table after : Enqu
 
   -- what its own region sees has the record
   pub set_seen : (IsRecord s.dbd c.root image) ⊎ (image ≡ []) → ((c.before ≡ []) → image ≢ [])
-      → rows_of (seen_by place (set units place (with_change c (get_or units place []))) (set stores (c.db - 1) new))
-      ≡ set (rows_of (seen_by place units stores)) (c.db - 1) (with_record c.root image (rows_in c.db (rows_of (seen_by place units stores))))
+      → rows_of_stores (seen_by place (set units place (with_change c (get_or units place []))) (set stores (c.db - 1) new))
+      ≡ set (rows_of_stores (seen_by place units stores)) (c.db - 1) (with_record c.root image (database_rows_in c.db (rows_of_stores (seen_by place units stores))))
   set_seen whole some =
-      ap (λ us. rows_of (backed_all us (set stores (c.db - 1) new))) (set_twice units place (with_change c (get_or units place [])) [])
+      ap (λ us. rows_of_stores (backed_all us (set stores (c.db - 1) new))) (set_twice units place (with_change c (get_or units place [])) [])
       ∙ one_rows c.db c.slot c.before image (seen_by place units stores) (backed_all (set units place []) (set stores (c.db - 1) new))
       (one_all c.db c.slot c.before image stores (set stores (c.db - 1) new) (set units place []) one idle_others) s.dbd c.root slots_valid replaces
     where
@@ -279,41 +279,41 @@ module _ (units : List (List Change)) (stores : List Stored) (table after : Enqu
       found =
           Rattle.program_rows.proofs.Aside.same_there stores (seen_by place units stores) (c.db - 1) s (Rattle.program_rows.proofs.Backed.dbds_all stores (set units place [])) i.at
 
-      slots_valid : AreSlots s.dbd (slots_at c.db (seen_by place units stores))
+      slots_valid : AreSlots s.dbd (slots_of_database c.db (seen_by place units stores))
       slots_valid =
           subst (λ xs. AreSlots s.dbd xs) (sym (slots_there c.db (seen_by place units stores) found.0 found.1))
           (subst (λ d. AreSlots d found.0.slots) found.2 (all_there (λ (x : Stored). AreSlots x.dbd x.slots) (seen_by place units stores) (c.db - 1) found.0 (seen_valid units stores table h place) found.1))
 
-      absent : c.before ≡ [] → slot_of c.root (slots_at c.db (seen_by place units stores)) ≡ None
-      absent none = by (slot_of c.root (slots_at c.db (seen_by place units stores))) refl
+      absent : c.before ≡ [] → slot_of_root c.root (slots_of_database c.db (seen_by place units stores)) ≡ None
+      absent none = by (slot_of_root c.root (slots_of_database c.db (seen_by place units stores))) refl
         where
-          unchanged : AllByRecursion (λ a. is_changed c.db c.root a ≡ false) (set units place [])
+          unchanged : AllByRecursion (λ a. is_record_changed c.db c.root a ≡ false) (set units place [])
           unchanged =
-              all_by (λ a. is_changed c.db c.root a ≡ false) (set units place [])
+              all_by (λ a. is_record_changed c.db c.root a ≡ false) (set units place [])
               (λ k inside.
               let within : k < length units = omega (arith, inside, length-set units place []) in
               ⊎_elim
-              (λ same. ap (is_changed c.db c.root) (ap (λ n. get_or (set units n []) k []) (sym same) ∙ get_set units k [] within))
-              (λ other. ap (is_changed c.db c.root) (get_set_else units place k [] other) ∙ not_theirs k within other (is_changed c.db c.root (get_or units k [])) refl) (cases_eq k place))
+              (λ same. ap (is_record_changed c.db c.root) (ap (λ n. get_or (set units n []) k []) (sym same) ∙ get_set units k [] within))
+              (λ other. ap (is_record_changed c.db c.root) (get_set_else units place k [] other) ∙ not_theirs k within other (is_record_changed c.db c.root (get_or units k [])) refl) (cases_eq k place))
             where
-              not_theirs : (k : ℕ) → k < length units → k ≢ place → (b : Bool) → is_changed c.db c.root (get_or units k []) ≡ b → is_changed c.db c.root (get_or units k []) ≡ false
+              not_theirs : (k : ℕ) → k < length units → k ≢ place → (b : Bool) → is_record_changed c.db c.root (get_or units k []) ≡ b → is_record_changed c.db c.root (get_or units k []) ≡ false
               not_theirs k inside other false q = q
               not_theirs k inside other true q =
                   let theirs = f.alone (suc k) (record { db = c.db; root = Some c.root }) (holds_changed table (suc k) c.db c.root (get_or units k []) (h.each k inside).alone q) in
                   let same : suc k ≡ suc place = f.kept.alone _ (suc k) (suc place) _ theirs i.mine in
                   absurd (other (omega (arith, same)))
 
-          empty : record_of c.root (rows_of_slots (slots_at c.db (seen_by place units stores))) ≡ []
+          empty : record_of c.root (rows_of_slots (slots_of_database c.db (seen_by place units stores))) ≡ []
           empty =
               ap (record_of c.root) (sym (rows_in_is c.db (seen_by place units stores)))
               ∙ (record_all stores (set units place []) c.db c.root i.least h.valid (others_good units stores table h place) (others_beside units stores table h place) unchanged
               ∙ (ap (record_of c.root) (rows_in_is c.db stores ∙ ap rows_of_slots (slots_there c.db stores s i.at)) ∙ (sym i.before ∙ none)))
 
-          by : (o : Option ℕ) → slot_of c.root (slots_at c.db (seen_by place units stores)) ≡ o → slot_of c.root (slots_at c.db (seen_by place units stores)) ≡ None
+          by : (o : Option ℕ) → slot_of_root c.root (slots_of_database c.db (seen_by place units stores)) ≡ o → slot_of_root c.root (slots_of_database c.db (seen_by place units stores)) ≡ None
           by None q = q
-          by (Some n) q = absurd (record_some s.dbd (slots_at c.db (seen_by place units stores)) c.root n slots_valid q empty)
+          by (Some n) q = absurd (record_some s.dbd (slots_of_database c.db (seen_by place units stores)) c.root n slots_valid q empty)
 
-      replaces : Replaces s.dbd c.root (slots_at c.db (seen_by place units stores)) c.slot image
+      replaces : Replaces s.dbd c.root (slots_of_database c.db (seen_by place units stores)) c.slot image
       replaces =
           record {
             whole = ⊎_elim (λ r. inr r) (λ none. inl none) whole;

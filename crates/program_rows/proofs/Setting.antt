@@ -10,23 +10,23 @@ use Rattle.tm_types.specs.declared.dbd.Dbd.{Dbd}
 use Rattle.tm_types.specs.declared.abend.AbendCode.{AbendCode}
 use Rattle.model_data.specs.declared.call.RowsLimit.{RowsLimit}
 use Rattle.model_data.specs.Data as dat
-use Rattle.model_data.specs.Data.{with_changed, abend_by, limit_abend}
+use Rattle.model_data.specs.Data.{with_changed_root, limit_abend_by, limit_abend}
 use Rattle.seg_rows.specs.StoreRefused.{set_refusal}
 use Rattle.seg_store.specs.Slots.{Stored, rows_of_slots}
 use Rattle.unit_work.specs.declared.change.Change.{Change}
-use Rattle.unit_work.specs.Changes.{Changes, is_changed, with_change, is_full}
+use Rattle.unit_work.specs.Changes.{Changes, is_record_changed, with_change, is_full}
 use Rattle.dli_calls.specs.declared.planned.Edit.{Edit}
-use Rattle.dli_calls.specs.Plans.{limit_of}
-use Rattle.program_rows.specs.State.{roots_of, rows_of, rows_in}
-use Rattle.program_rows.specs.Open.{records_of, slots_of}
+use Rattle.dli_calls.specs.CallPlan.{limit_of}
+use Rattle.program_rows.specs.DatabasesState.{roots_of, rows_of_stores, database_rows_in}
+use Rattle.program_rows.specs.OpenUnits.{unit_records_of, unit_slots_of}
 
 -- the store of a number, its rows and its database
-rows_there : (stores : List Stored) (i : ℕ) (s : Stored) → slice_get stores i ≡ Some s → get_or (rows_of stores) i [] ≡ rows_of_slots s.slots
+rows_there : (stores : List Stored) (i : ℕ) (s : Stored) → slice_get stores i ≡ Some s → get_or (rows_of_stores stores) i [] ≡ rows_of_slots s.slots
 rows_there [] i s e = let clash : None ≡ Some s = e in absurd (cc)
 rows_there (x ∷ stores) zero s e = let same : Some x ≡ Some s = e in let parts : x ≡ s = cc in ap (λ (y : Stored). rows_of_slots y.slots) parts
 rows_there (x ∷ stores) (suc i) s e = rows_there stores i s e
 
-pub rows_at_is : (number : ℕ) (stores : List Stored) (s : Stored) → slice_get stores (number - 1) ≡ Some s → rows_in number (rows_of stores) ≡ rows_of_slots s.slots
+pub rows_at_is : (number : ℕ) (stores : List Stored) (s : Stored) → slice_get stores (number - 1) ≡ Some s → database_rows_in number (rows_of_stores stores) ≡ rows_of_slots s.slots
 rows_at_is number stores s e = rows_there stores (number - 1) s e
 
 pub dbd_there : (stores : List Stored) (i : ℕ) (s : Stored) (dbd : Dbd) → slice_get stores i ≡ Some s → slice_get (map (λ (x : Stored). x.dbd) stores) i ≡ Some dbd → s.dbd ≡ dbd
@@ -52,7 +52,7 @@ dbds_stay (x ∷ stores) zero s new e d =
 dbds_stay (x ∷ stores) (suc i) s new e d = ap (λ ys. x.dbd ∷ ys) (dbds_stay stores i s new e d)
 
 -- the changed records are those of the definition
-changed_same : (number : ℕ) (root : List ℕ) (records : List Change) → dat.is_changed number root (roots_of records) ≡ is_changed number root records
+changed_same : (number : ℕ) (root : List ℕ) (records : List Change) → dat.is_root_changed number root (roots_of records) ≡ is_record_changed number root records
 changed_same number root [] = refl
 changed_same number root (c ∷ records) = λ t. (eqb c.db number && sym (is_eq-slice_cmp c.root root) t) || changed_same number root records t
 
@@ -60,10 +60,10 @@ roots_push : (records : List Change) (c : Change) → roots_of (records ++ c ∷
 roots_push [] c = refl
 roots_push (x ∷ records) c = ap (λ ys. (x.db, x.root) ∷ ys) (roots_push records c)
 
-pub changed_push : (c : Change) (records : List Change) → roots_of (with_change c records) ≡ with_changed c.db (Some c.root) (roots_of records)
-changed_push c records = by (is_changed c.db c.root records) refl
+pub changed_push : (c : Change) (records : List Change) → roots_of (with_change c records) ≡ with_changed_root c.db (Some c.root) (roots_of records)
+changed_push c records = by (is_record_changed c.db c.root records) refl
   where
-    by : (b : Bool) → is_changed c.db c.root records ≡ b → roots_of (with_change c records) ≡ with_changed c.db (Some c.root) (roots_of records)
+    by : (b : Bool) → is_record_changed c.db c.root records ≡ b → roots_of (with_change c records) ≡ with_changed_root c.db (Some c.root) (roots_of records)
     by true q =
         ap (λ b. roots_of (cond b records (records ++ c ∷ []))) q
         ∙ sym (ap (λ b. cond b (roots_of records) (roots_of records ++ (c.db, c.root) ∷ [])) (changed_same c.db c.root records ∙ q))
@@ -77,10 +77,10 @@ taken P o x e h = subst (λ o. IfSome o P) e h
 
 -- one record too many, by the definition
 full_same : (number : ℕ) (root : List ℕ) (records : List Change)
-    → (not (dat.is_changed number root (roots_of records)) && leb 32 (length (roots_of records))) ≡ is_full number root records
+    → (not (dat.is_root_changed number root (roots_of records)) && leb 32 (length (roots_of records))) ≡ is_full number root records
 full_same number root records =
     (λ t. not (changed_same number root records t) && leb 32 (length-map {B = ℕ × List ℕ} records (λ (c : Change). (c.db, c.root)) t))
-    ∙ by (is_changed number root records) (leb 32 (length records))
+    ∙ by (is_record_changed number root records) (leb 32 (length records))
   where
     by : (a b : Bool) → (not a && b) ≡ cond a false b
     by true b = refl
@@ -88,12 +88,12 @@ full_same number root records =
 
 -- the abend of an edit, of a unit with these records over these stores
 abbrev pub abend_in : ℕ → Dbd → Edit → List Change → List Stored → Option AbendCode
-abend_in number dbd e records stores = abend_by number (roots_of records) (Some e.root) (limit_of (set_refusal dbd e.root e.image (rows_in number (rows_of stores))))
+abend_in number dbd e records stores = limit_abend_by number (roots_of records) (Some e.root) (limit_of (set_refusal dbd e.root e.image (database_rows_in number (rows_of_stores stores))))
 
 pub full_abend : (number : ℕ) (dbd : Dbd) (e : Edit) (records : List Change) (stores : List Stored) → is_full number e.root records ≡ true
     → abend_in number dbd e records stores ≡ Some (record { number = 900 })
 full_abend number dbd e records stores full =
-    ap (λ b. cond b (Some (record { number = 900 })) (option_map limit_abend (limit_of (set_refusal dbd e.root e.image (rows_in number (rows_of stores))))))
+    ap (λ b. cond b (Some (record { number = 900 })) (option_map limit_abend (limit_of (set_refusal dbd e.root e.image (database_rows_in number (rows_of_stores stores))))))
     (full_same number e.root records ∙ full)
 
 -- else the limit of the database
@@ -101,26 +101,26 @@ pub limit_is : (number : ℕ) (dbd : Dbd) (e : Edit) (records : List Change) (st
     → slice_get stores (number - 1) ≡ Some s → limit_of (set_refusal dbd e.root e.image (rows_of_slots s.slots)) ≡ o
     → abend_in number dbd e records stores ≡ option_map limit_abend o
 limit_is number dbd e records stores s o room at limit =
-    ap (λ b. cond b (Some (record { number = 900 })) (option_map limit_abend (limit_of (set_refusal dbd e.root e.image (rows_in number (rows_of stores))))))
+    ap (λ b. cond b (Some (record { number = 900 })) (option_map limit_abend (limit_of (set_refusal dbd e.root e.image (database_rows_in number (rows_of_stores stores))))))
     (full_same number e.root records ∙ room)
     ∙ ap (option_map limit_abend) (ap (λ rows. limit_of (set_refusal dbd e.root e.image rows)) (rows_at_is number stores s at) ∙ limit)
 
 -- the records of a unit that is there
-pub unit_records : (units : List Changes) (i : ℕ) (u : Changes) → slice_get units i ≡ Some u → get_or (records_of units) i [] ≡ u.records
+pub unit_records : (units : List Changes) (i : ℕ) (u : Changes) → slice_get units i ≡ Some u → get_or (unit_records_of units) i [] ≡ u.records
 unit_records [] i u e = let clash : None ≡ Some u = e in absurd (cc)
 unit_records (x ∷ units) zero u e = let same : Some x ≡ Some u = e in let parts : x ≡ u = cc in ap (λ (y : Changes). y.records) parts
 unit_records (x ∷ units) (suc i) u e = unit_records units i u e
 
-pub unit_slots : (units : List Changes) (i : ℕ) (u : Changes) → slice_get units i ≡ Some u → get_or (slots_of units) i [] ≡ u.slots
+pub unit_slots : (units : List Changes) (i : ℕ) (u : Changes) → slice_get units i ≡ Some u → get_or (unit_slots_of units) i [] ≡ u.slots
 unit_slots [] i u e = let clash : None ≡ Some u = e in absurd (cc)
 unit_slots (x ∷ units) zero u e = let same : Some x ≡ Some u = e in let parts : x ≡ u = cc in ap (λ (y : Changes). y.slots) parts
 unit_slots (x ∷ units) (suc i) u e = unit_slots units i u e
 
 -- the records after one unit is another
-pub records_put : (units : List Changes) (i : ℕ) (u : Changes) → records_of (set units i u) ≡ set (records_of units) i u.records
+pub records_put : (units : List Changes) (i : ℕ) (u : Changes) → unit_records_of (set units i u) ≡ set (unit_records_of units) i u.records
 records_put units i u = map-set (λ (x : Changes). x.records) units i u
 
-pub slots_put : (units : List Changes) (i : ℕ) (u : Changes) → slots_of (set units i u) ≡ set (slots_of units) i u.slots
+pub slots_put : (units : List Changes) (i : ℕ) (u : Changes) → unit_slots_of (set units i u) ≡ set (unit_slots_of units) i u.slots
 slots_put units i u = map-set (λ (x : Changes). x.slots) units i u
 
 -- a unit that is put back where it was

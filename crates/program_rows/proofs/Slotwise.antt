@@ -6,7 +6,7 @@ use Rattle.model_data.specs.declared.row.Row.{Row}
 use Rattle.seg_store.specs.Slots.{Stored}
 use Rattle.unit_work.specs.declared.change.Change.{Change}
 use Rattle.unit_work.specs.BackOut.{cleared_slot, backed_slot, cleared_slots, backed_slots, cleared_from, backed_from, backed_out}
-use Rattle.unit_work.specs.Images.{slots_at, image_at}
+use Rattle.unit_work.specs.Images.{slots_of_database, image_at}
 
 -- what a change makes of the image in a slot, by the number of the database and the slot
 abbrev pub SlotChange : Type 0
@@ -73,13 +73,13 @@ module _ (f g : SlotChange) where
       (λ i m x e lt. let next : n + suc i ≡ suc n + i = omega arith in subst (λ k. f k m (get_or x.slots m []) ≡ g k m (get_or x.slots m [])) next (h (suc i) m x e lt)) t
 
   -- by the images in the slots
-  pub alike : (stores : List Stored) → ((db slot : ℕ) → 1 ≤ db → slot < length (slots_at db stores) → f db slot (image_at db slot stores) ≡ g db slot (image_at db slot stores))
+  pub alike : (stores : List Stored) → ((db slot : ℕ) → 1 ≤ db → slot < length (slots_of_database db stores) → f db slot (image_at db slot stores) ≡ g db slot (image_at db slot stores))
       → each_store f 1 stores ≡ each_store g 1 stores
   alike stores h =
       alike_stores 1 stores
       (λ i m s e lt.
       let place : (1 + i) - 1 ≡ i = omega arith in
-      let at : slots_at (1 + i) stores ≡ s.slots = ap (λ k. option_map_or (λ (x : Stored). x.slots) (slice_get stores k) []) place ∙ ap (λ o. option_map_or (λ (x : Stored). x.slots) o []) e in
+      let at : slots_of_database (1 + i) stores ≡ s.slots = ap (λ k. option_map_or (λ (x : Stored). x.slots) (slice_get stores k) []) place ∙ ap (λ o. option_map_or (λ (x : Stored). x.slots) o []) e in
       subst (λ xs. f (1 + i) m (get_or xs m []) ≡ g (1 + i) m (get_or xs m [])) at
       (h (1 + i) m (omega arith) (subst (λ xs. m < length xs) (sym at) lt)))
 
@@ -119,10 +119,10 @@ module _ (f : SlotChange) where
   none_of_each n zero (x ∷ stores) g = let clash : Some x ≡ None = g in absurd (cc)
   none_of_each n (suc i) (x ∷ stores) g = none_of_each (suc n) i stores g
 
-  pub slots_at_each : (db : ℕ) (stores : List Stored) → 1 ≤ db → slots_at db (each_store f 1 stores) ≡ each_slot f db 0 (slots_at db stores)
+  pub slots_at_each : (db : ℕ) (stores : List Stored) → 1 ≤ db → slots_of_database db (each_store f 1 stores) ≡ each_slot f db 0 (slots_of_database db stores)
   slots_at_each db stores least = by (slice_get stores (db - 1)) refl
     where
-      by : (o : Option Stored) → slice_get stores (db - 1) ≡ o → slots_at db (each_store f 1 stores) ≡ each_slot f db 0 (slots_at db stores)
+      by : (o : Option Stored) → slice_get stores (db - 1) ≡ o → slots_of_database db (each_store f 1 stores) ≡ each_slot f db 0 (slots_of_database db stores)
       by None e =
           ap (λ o. option_map_or (λ (x : Stored). x.slots) o []) (none_of_each 1 (db - 1) stores e)
           ∙ sym (ap (λ o. each_slot f db 0 (option_map_or (λ (x : Stored). x.slots) o [])) e)
@@ -130,13 +130,13 @@ module _ (f : SlotChange) where
           ap (λ o. option_map_or (λ (x : Stored). x.slots) o []) (each_there db stores s least e)
           ∙ sym (ap (λ o. each_slot f db 0 (option_map_or (λ (x : Stored). x.slots) o [])) e)
 
-  pub image_at_each : (db slot : ℕ) (stores : List Stored) → 1 ≤ db → slot < length (slots_at db stores) → image_at db slot (each_store f 1 stores) ≡ f db slot (image_at db slot stores)
+  pub image_at_each : (db slot : ℕ) (stores : List Stored) → 1 ≤ db → slot < length (slots_of_database db stores) → image_at db slot (each_store f 1 stores) ≡ f db slot (image_at db slot stores)
   image_at_each db slot stores least lt =
       let zero_slot : 0 + slot ≡ slot = omega arith in
-      ap (λ xs. get_or xs slot []) (slots_at_each db stores least) ∙ (slot_of_each db 0 slot (slots_at db stores) lt ∙ ap (λ k. f db k (image_at db slot stores)) zero_slot)
+      ap (λ xs. get_or xs slot []) (slots_at_each db stores least) ∙ (slot_of_each db 0 slot (slots_of_database db stores) lt ∙ ap (λ k. f db k (image_at db slot stores)) zero_slot)
 
-  pub slots_at_length : (db : ℕ) (stores : List Stored) → 1 ≤ db → length (slots_at db (each_store f 1 stores)) ≡ length (slots_at db stores)
-  slots_at_length db stores least = ap length (slots_at_each db stores least) ∙ slots_length db 0 (slots_at db stores)
+  pub slots_at_length : (db : ℕ) (stores : List Stored) → 1 ≤ db → length (slots_of_database db (each_store f 1 stores)) ≡ length (slots_of_database db stores)
+  slots_at_length db stores least = ap length (slots_at_each db stores least) ∙ slots_length db 0 (slots_of_database db stores)
 
   pub dbds_each : (n : ℕ) (stores : List Stored) → map (λ (s : Stored). s.dbd) (each_store f n stores) ≡ map (λ (s : Stored). s.dbd) stores
   dbds_each n [] = refl

@@ -14,15 +14,17 @@ use Rattle.model_data.specs.Record.{IsRecord}
 use Rattle.model_data.specs.Rows.{record_of, IsImage}
 use Rattle.model_data.proofs.Lists.{all_then, all_append}
 use Rattle.model_data.proofs.Order.{key_total}
-use Rattle.seg_store.specs.Slots.{Stored, has_root, is_free, image_root, AtMostOne, IsSlot, AreSlots, slot_of, slot_for, lowest_free, first_of, rows_of_slots}
+use Rattle.seg_store.specs.Slots.{Stored, has_root, is_slot_free, image_root, AtMostOne, IsSlot, AreSlots, slot_of_root, slot_for, lowest_free, first_slot_of, rows_of_slots}
 use Rattle.seg_store.proofs.Places as places
-use Rattle.seg_store.proofs.SlotRows.{slots_record, rooted, record_has, same_key, set_itself, free_at, record_none}
+use Rattle.seg_store.proofs.SlotRows.{slots_record, record_has, same_key, set_itself, free_at, record_none}
 use Rattle.unit_work.specs.declared.change.Change.{Change}
-use Rattle.unit_work.specs.Changes.{is_of, is_changed, with_change, Pairs}
-use Rattle.unit_work.specs.BackOut.{is_touched, cleared_slot, cleared_slots, cleared_from, backed_from, cleared, backed_out, IsStored, FitsStore, FitsOption, CanGoBack, AreApart, CanBackOut, with_image_back, with_back, with_record_back}
+use Rattle.unit_work.specs.Changes.{is_change_of_record, is_record_changed, with_change, Pairs}
+use Rattle.unit_work.specs.BackOut.{is_touched, cleared_slot, cleared_slots, cleared_from, backed_from, cleared, backed_out, IsStored, FitsStore, FitsOption, CanGoBack, AreInOtherSlots, CanBackOut, with_image_back, with_back, with_record_back}
 use Rattle.unit_work.proofs.Keeping.{pairs_push}
 use Rattle.unit_work.proofs.Backing.{get_set_other, get_set_same, next_back}
 use Rattle.program_rows.proofs.Bools.{left_of, right_of, no_right}
+use Rattle.program_rows.proofs.Aside.{at_cleared}
+use Rattle.program_rows.proofs.Beside.{touched_is}
 
 -- no rows, or a record of this root
 abbrev pub Own : List ℕ → List Row → Type 0
@@ -53,42 +55,38 @@ all_get P (y ∷ xs) (suc i) x h e = all_get P xs i x h.1 e
 -- whether an image is touched, with one change more
 touched_apart : (c : Change) (records : List Change) (db : ℕ) (image : List Row) → (eqb c.db db && has_root c.root image) ≡ false
     → is_touched (with_change c records) db image ≡ is_touched records db image
-touched_apart c records db image e = by (is_changed c.db c.root records) refl
+touched_apart c records db image e = by (is_record_changed c.db c.root records) refl
   where
-    by : (b : Bool) → is_changed c.db c.root records ≡ b → is_touched (with_change c records) db image ≡ is_touched records db image
+    by : (b : Bool) → is_record_changed c.db c.root records ≡ b → is_touched (with_change c records) db image ≡ is_touched records db image
     by true q = ap (λ b. is_touched (cond b records (records ++ c ∷ [])) db image) q
     by false q =
         ap (λ b. is_touched (cond b records (records ++ c ∷ [])) db image) q
         ∙ (any_push (λ x. eqb x.db db && has_root x.root image) records c
         ∙ (ap (λ b. is_touched records db image || b) e ∙ or_none (is_touched records db image)))
 
-changed_now : (c : Change) (records : List Change) → is_changed c.db c.root (with_change c records) ≡ true
-changed_now c records = by (is_changed c.db c.root records) refl
+changed_now : (c : Change) (records : List Change) → is_record_changed c.db c.root (with_change c records) ≡ true
+changed_now c records = by (is_record_changed c.db c.root records) refl
   where
-    itself : is_of c.db c.root c ≡ true
+    itself : is_change_of_record c.db c.root c ≡ true
     itself = λ t. eq-eqb c.db c.db refl t && ap is_eq (tied_itself key_total c.root) t
 
     or_true : (b : Bool) → (b || true) ≡ true
     or_true true = refl
     or_true false = refl
 
-    by : (b : Bool) → is_changed c.db c.root records ≡ b → is_changed c.db c.root (with_change c records) ≡ true
-    by true q = ap (λ b. is_changed c.db c.root (cond b records (records ++ c ∷ []))) q ∙ q
+    by : (b : Bool) → is_record_changed c.db c.root records ≡ b → is_record_changed c.db c.root (with_change c records) ≡ true
+    by true q = ap (λ b. is_record_changed c.db c.root (cond b records (records ++ c ∷ []))) q ∙ q
     by false q =
-        ap (λ b. is_changed c.db c.root (cond b records (records ++ c ∷ []))) q
-        ∙ (any_push (is_of c.db c.root) records c
-        ∙ (ap (λ b. is_changed c.db c.root records || b) itself ∙ or_true (is_changed c.db c.root records)))
-
-touched_is : (records : List Change) (db : ℕ) (root : List ℕ) (image : List Row) → has_root root image ≡ true → is_touched records db image ≡ is_changed db root records
-touched_is [] db root image h = refl
-touched_is (c ∷ records) db root image h = λ t. (eqb c.db db && rooted root image h c.root t) || touched_is records db root image h t
+        ap (λ b. is_record_changed c.db c.root (cond b records (records ++ c ∷ []))) q
+        ∙ (any_push (is_change_of_record c.db c.root) records c
+        ∙ (ap (λ b. is_record_changed c.db c.root records || b) itself ∙ or_true (is_record_changed c.db c.root records)))
 
 -- the image of a changed record is cleared, and that of another isn't
-pub own_gone : (records : List Change) (db : ℕ) (root : List ℕ) (image : List Row) → is_changed db root records ≡ true → Own root image → cleared_slot records db image ≡ []
+pub own_gone : (records : List Change) (db : ℕ) (root : List ℕ) (image : List Row) → is_record_changed db root records ≡ true → Own root image → cleared_slot records db image ≡ []
 own_gone records db root image q own =
     ⊎_elim (λ e. either_none (is_touched records db image) image e) (λ h. ap (λ b. cond b [] image) (touched_is records db root image h ∙ q)) own
 
-own_stays : (records : List Change) (db : ℕ) (root : List ℕ) (image : List Row) → is_changed db root records ≡ false → Own root image → cleared_slot records db image ≡ image
+own_stays : (records : List Change) (db : ℕ) (root : List ℕ) (image : List Row) → is_record_changed db root records ≡ false → Own root image → cleared_slot records db image ≡ image
 own_stays records db root image q own =
     ⊎_elim (λ e. either_none (is_touched records db image) image e ∙ sym e) (λ h. ap (λ b. cond b [] image) (touched_is records db root image h ∙ q)) own
 
@@ -111,7 +109,7 @@ own_slots : (c : Change) (records : List Change) (db : ℕ) (xs : List (List Row
     → cleared_slots (with_change c records) db (set xs i image) ≡ set (cleared_slots records db xs) i []
 own_slots c records db [] i image d own lt h = absurd (omega arith)
 own_slots c records db (x ∷ xs) zero image d own lt h =
-    λ t. own_gone (with_change c records) db c.root image (subst (λ n. is_changed n c.root (with_change c records) ≡ true) d (changed_now c records)) own t
+    λ t. own_gone (with_change c records) db c.root image (subst (λ n. is_record_changed n c.root (with_change c records) ≡ true) d (changed_now c records)) own t
     ∷ apart_slots c records db xs (λ k y e. other_root c db y (h (suc k) y (λ q. absurd (omega arith)) e)) t
 own_slots c records db (x ∷ xs) (suc i) image d own lt h =
     λ t. cond (touched_apart c records db x (other_root c db x (h 0 x (λ q. absurd (omega arith)) refl)) t) [] x
@@ -148,16 +146,6 @@ step_cleared c records n (suc i) (x ∷ stores) s new image e g has d w own =
     λ k. record { dbd = x.dbd; slots = apart_slots c records n x.slots (λ m y q. other_db c n y (λ q. absurd (omega arith))) k }
     ∷ step_cleared c records (suc n) i stores s new image (omega arith) g has d w own k
 
-at_cleared : (records : List Change) (n i m : ℕ) (stores : List Stored) (s : Stored) → m ≡ n + i → slice_get stores i ≡ Some s
-    → slice_get (cleared_from records n stores) i ≡ Some (record { dbd = s.dbd; slots = cleared_slots records m s.slots })
-at_cleared records n i m [] s e g = let clash : None ≡ Some s = g in absurd (cc)
-at_cleared records n zero m (x ∷ stores) s e g =
-    let same : Some x ≡ Some s = g in
-    let parts : x ≡ s = cc in
-    let here : n ≡ m = omega arith in
-    λ t. Some (record { dbd = (parts t).dbd; slots = cleared_slots records (here t) (parts t).slots })
-at_cleared records n (suc i) m (x ∷ stores) s e g = at_cleared records (suc n) i m stores s (omega arith) g
-
 slot_cleared : (records : List Change) (db : ℕ) (xs : List (List Row)) (i : ℕ) (y : List Row) → slice_get xs i ≡ Some y → slice_get (cleared_slots records db xs) i ≡ Some (cleared_slot records db y)
 slot_cleared records db [] i y e = let clash : None ≡ Some y = e in absurd (cc)
 slot_cleared records db (x ∷ xs) zero y e = let same : Some x ≡ Some y = e in let parts : x ≡ y = cc in ap (λ z. Some (cleared_slot records db z)) parts
@@ -169,7 +157,7 @@ cleared_length records db (x ∷ xs) = ap (λ n. suc n) (cleared_length records 
 
 -- no slot has this root, once the one that may have it is free
 none_rooted : (records : List Change) (db : ℕ) (root : List ℕ) (xs : List (List Row)) (i : ℕ) → ((k : ℕ) (y : List Row) → k ≢ i → slice_get xs k ≡ Some y → has_root root y ≡ false)
-    → slot_of root (set (cleared_slots records db xs) i []) ≡ None
+    → slot_of_root root (set (cleared_slots records db xs) i []) ≡ None
 none_rooted records db root [] i h = refl
 none_rooted records db root (x ∷ xs) zero h = places.none_cons (has_root root) [] (cleared_slots records db xs) refl (rest xs (λ k y e. h (suc k) y (λ q. absurd (omega arith)) e))
   where
@@ -177,7 +165,7 @@ none_rooted records db root (x ∷ xs) zero h = places.none_cons (has_root root)
     gone true y e = refl
     gone false y e = e
 
-    rest : (ys : List (List Row)) → ((k : ℕ) (y : List Row) → slice_get ys k ≡ Some y → has_root root y ≡ false) → slot_of root (cleared_slots records db ys) ≡ None
+    rest : (ys : List (List Row)) → ((k : ℕ) (y : List Row) → slice_get ys k ≡ Some y → has_root root y ≡ false) → slot_of_root root (cleared_slots records db ys) ≡ None
     rest [] g = refl
     rest (y ∷ ys) g = places.none_cons (has_root root) (cleared_slot records db y) (cleared_slots records db ys) (gone (is_touched records db y) y (g 0 y refl)) (rest ys (λ k z e. g (suc k) z e))
 none_rooted records db root (x ∷ xs) (suc i) h =
@@ -189,7 +177,7 @@ none_rooted records db root (x ∷ xs) (suc i) h =
     gone false y e = e
 
 -- the other slots than the one with this root don't have it
-others_apart : (root : List ℕ) (xs : List (List Row)) (i : ℕ) → AtMostOne (has_root root) xs → slot_of root xs ≡ Some i → (k : ℕ) (y : List Row) → k ≢ i → slice_get xs k ≡ Some y → has_root root y ≡ false
+others_apart : (root : List ℕ) (xs : List (List Row)) (i : ℕ) → AtMostOne (has_root root) xs → slot_of_root root xs ≡ Some i → (k : ℕ) (y : List Row) → k ≢ i → slice_get xs k ≡ Some y → has_root root y ≡ false
 others_apart root [] i one e k y ne g = let clash : None ≡ Some y = g in absurd (cc)
 others_apart root (x ∷ xs) zero one e zero y ne g = absurd (ne refl)
 others_apart root (x ∷ xs) zero one e (suc k) y ne g = places.none_passes (has_root root) xs (one.0 (places.first_head (has_root root) x xs e)) k y g
@@ -206,11 +194,11 @@ rooted_is root (row ∷ image) e = same_key root (root_of row.path) e
 -- the slot that a record takes
 pub has_slot : (db : ℕ) (root : List ℕ) (slot : ℕ) (s : Stored) → AreSlots s.dbd s.slots → slot_for root s.slots ≡ Some slot
     → HasSlot (record { db = db; slot = slot; root = root; before = record_of root (rows_of_slots s.slots) }) s
-has_slot db root slot s valid e = by (slot_of root s.slots) refl
+has_slot db root slot s valid e = by (slot_of_root root s.slots) refl
   where
-    by : (o : Option ℕ) → slot_of root s.slots ≡ o → HasSlot (record { db = db; slot = slot; root = root; before = record_of root (rows_of_slots s.slots) }) s
+    by : (o : Option ℕ) → slot_of_root root s.slots ≡ o → HasSlot (record { db = db; slot = slot; root = root; before = record_of root (rows_of_slots s.slots) }) s
     by None q =
-        let low : lowest_free s.slots ≡ Some slot = sym (ap (λ o. first_of o (lowest_free s.slots)) q) ∙ e in
+        let low : lowest_free s.slots ≡ Some slot = sym (ap (λ o. first_slot_of o (lowest_free s.slots)) q) ∙ e in
         let none : record_of root (rows_of_slots s.slots) ≡ [] = record_none s.dbd s.slots root valid q in
         record {
           at = free_at s.slots slot low ∙ ap Some (sym none);
@@ -219,8 +207,8 @@ has_slot db root slot s valid e = by (slot_of root s.slots) refl
           whole = inl none;
         }
     by (Some j) q =
-        let same : Some j ≡ Some slot = sym (ap (λ o. first_of o (lowest_free s.slots)) q) ∙ e in
-        let there : slot_of root s.slots ≡ Some slot = q ∙ same in
+        let same : Some j ≡ Some slot = sym (ap (λ o. first_slot_of o (lowest_free s.slots)) q) ∙ e in
+        let there : slot_of_root root s.slots ≡ Some slot = q ∙ same in
         let found = places.place_passes (has_root root) s.slots slot there in
         let is : record_of root (rows_of_slots s.slots) ≡ found.0 =
         slots_record s.dbd s.slots root valid.each ∙ ap (λ o. unwrap_or o []) (places.find_at (has_root root) s.slots slot there ∙ found.1) in
@@ -276,24 +264,24 @@ module _ (c : Change) (records : List Change) (i : ℕ) (stores : List Stored) (
       (record { least = omega arith; most = omega (arith, same, slice_get_within stores i s g) }, tt)
 
   -- the record that is put back first
-  back_is : is_changed c.db c.root records ≡ false → with_record_back c (set (cleared records stores) i (freed c records s)) ≡ cleared records stores
+  back_is : is_record_changed c.db c.root records ≡ false → with_record_back c (set (cleared records stores) i (freed c records s)) ≡ cleared records stores
   back_is q =
       let all = cleared records stores in
       let ys = cleared_slots records c.db s.slots in
       let there : slice_get ys c.slot ≡ Some c.before = slot_at ∙ ap Some (own_stays records c.db c.root c.before q has.own) in
       let one : slice_get (set all i (freed c records s)) (c.db - 1) ≡ Some (freed c records s) = ap (slice_get (set all i (freed c records s))) place ∙ get_set_same all i (freed c records s) (slice_get_within all i _ old_at) in
-      let same : with_image_back c (freed c records s) ≡ record { dbd = s.dbd; slots = ys } = by (is_free c.before) refl there in
+      let same : with_image_back c (freed c records s) ≡ record { dbd = s.dbd; slots = ys } = by (is_slot_free c.before) refl there in
       ap (λ o. with_back c o (set all i (freed c records s))) one
       ∙ (ap (λ k. set (set all i (freed c records s)) k (with_image_back c (freed c records s))) place
       ∙ (ap (set (set all i (freed c records s)) i) same
       ∙ (set-set all i (freed c records s) (record { dbd = s.dbd; slots = ys })
       ∙ set_itself all i (record { dbd = s.dbd; slots = ys }) old_at)))
     where
-      free_none : (image : List Row) → is_free image ≡ true → image ≡ []
+      free_none : (image : List Row) → is_slot_free image ≡ true → image ≡ []
       free_none [] e = refl
       free_none (row ∷ image) e = absurd (false≢true e)
 
-      by : (b : Bool) → is_free c.before ≡ b → slice_get (cleared_slots records c.db s.slots) c.slot ≡ Some c.before
+      by : (b : Bool) → is_slot_free c.before ≡ b → slice_get (cleared_slots records c.db s.slots) c.slot ≡ Some c.before
           → with_image_back c (freed c records s) ≡ record { dbd = s.dbd; slots = cleared_slots records c.db s.slots }
       by true e there =
           ap (λ b. record { dbd = s.dbd; slots = cond b (set (cleared_slots records c.db s.slots) c.slot []) (set (set (cleared_slots records c.db s.slots) c.slot []) c.slot c.before) }) e
@@ -347,33 +335,33 @@ module _ (c : Change) (records : List Change) (i : ℕ) (stores : List Stored) (
           }
 
   -- and the records that were there were in other slots
-  apart_new : is_changed c.db c.root records ≡ false → (x : Change) → CanGoBack (cleared records stores) x → AreApart x c
+  apart_new : is_record_changed c.db c.root records ≡ false → (x : Change) → CanGoBack (cleared records stores) x → AreInOtherSlots x c
   apart_new q x h was = ⊎_elim (λ e. e) (λ f. absurd (clash f)) h
     where
-      parts : (eqb c.db x.db && (eqb c.slot x.slot && not (is_free c.before))) ≡ true
+      parts : (eqb c.db x.db && (eqb c.slot x.slot && not (is_slot_free c.before))) ≡ true
       parts = was
 
       clash : FitsOption (slice_get (cleared records stores) (x.db - 1)) x → ⊥
       clash f =
           let db : c.db ≡ x.db = eqb-true c.db x.db (left_of (eqb c.db x.db) _ parts) in
-          let both : (eqb c.slot x.slot && not (is_free c.before)) ≡ true = right_of (eqb c.db x.db) _ parts in
+          let both : (eqb c.slot x.slot && not (is_slot_free c.before)) ≡ true = right_of (eqb c.db x.db) _ parts in
           let slot : c.slot ≡ x.slot = eqb-true c.slot x.slot (left_of (eqb c.slot x.slot) _ both) in
-          let some : not (is_free c.before) ≡ true = right_of (eqb c.slot x.slot) _ both in
+          let some : not (is_slot_free c.before) ≡ true = right_of (eqb c.slot x.slot) _ both in
           let one : FitsOption (Some (record { dbd = s.dbd; slots = cleared_slots records c.db s.slots })) x =
           subst (λ (o : Option Stored). FitsOption o x) (ap (λ n. slice_get (cleared records stores) (n - 1)) (sym db) ∙ (ap (slice_get (cleared records stores)) place ∙ old_at)) f in
           let fits : FitsStore (record { dbd = s.dbd; slots = cleared_slots records c.db s.slots }) x = one in
           let there : slice_get (cleared_slots records c.db s.slots) c.slot ≡ Some c.before = slot_at ∙ ap Some (own_stays records c.db c.root c.before q has.own) in
           let both' : Some c.before ≡ Some [] = sym there ∙ (ap (slice_get (cleared_slots records c.db s.slots)) slot ∙ fits.free) in
           let none : c.before ≡ [] = cc in
-          false≢true (sym (ap (λ b. not (is_free b)) none) ∙ some)
+          false≢true (sym (ap (λ b. not (is_slot_free b)) none) ∙ some)
 
   pub steps : (new : Stored) (image : List Row) → new.dbd ≡ s.dbd → new.slots ≡ set s.slots c.slot image → Own c.root image → Steps c records stores (set stores i new)
-  steps new image d w own = by (is_changed c.db c.root records) refl
+  steps new image d w own = by (is_record_changed c.db c.root records) refl
     where
       whole : cleared (with_change c records) (set stores i new) ≡ set (cleared records stores) i (freed c records s)
       whole = step_cleared c records 1 i stores s new image at g has d w own
 
-      by : (b : Bool) → is_changed c.db c.root records ≡ b → Steps c records stores (set stores i new)
+      by : (b : Bool) → is_record_changed c.db c.root records ≡ b → Steps c records stores (set stores i new)
       by true q =
           let same : with_change c records ≡ records = ap (λ b. cond b records (records ++ c ∷ [])) q in
           let all : cleared (with_change c records) (set stores i new) ≡ cleared records stores = whole ∙ freed_already (own_gone records c.db c.root c.before q has.own) in
@@ -382,7 +370,7 @@ module _ (c : Change) (records : List Change) (i : ℕ) (stores : List Stored) (
             can = record {
               stored = subst (λ rs. AllByRecursion (IsStored (set stores i new)) rs) (sym same) (stored_push (set stores i new) (length-set stores i new) true);
               fits = subst (λ ks. AllByRecursion (CanGoBack ks) (with_change c records)) (sym all) (subst (λ rs. AllByRecursion (CanGoBack (cleared records stores)) rs) (sym same) can.fits);
-              apart = subst (Pairs AreApart) (sym same) can.apart;
+              apart = subst (Pairs AreInOtherSlots) (sym same) can.apart;
             };
           }
       by false q =
@@ -392,7 +380,7 @@ module _ (c : Change) (records : List Change) (i : ℕ) (stores : List Stored) (
           record { least = omega arith; most = omega (arith, length-set (cleared records stores) i (freed c records s), slice_get_within (cleared records stores) i _ old_at) } in
           record {
             committed = (λ t. backed_from (same t) 1 (whole t))
-                ∙ (next_back records c (set (cleared records stores) i (freed c records s)) stored goes_new (is_free c.before) refl
+                ∙ (next_back records c (set (cleared records stores) i (freed c records s)) stored goes_new (is_slot_free c.before) refl
                 ∙ ap (backed_from records 1) (back_is q));
             can = record {
               stored = subst (λ rs. AllByRecursion (IsStored (set stores i new)) rs) (sym same) (stored_push (set stores i new) (length-set stores i new) false);
@@ -400,6 +388,6 @@ module _ (c : Change) (records : List Change) (i : ℕ) (stores : List Stored) (
                   (subst (λ rs. AllByRecursion (CanGoBack (set (cleared records stores) i (freed c records s))) rs) (sym same)
                   (all_append (CanGoBack (set (cleared records stores) i (freed c records s))) records (c ∷ [])
                   (all_then (CanGoBack (cleared records stores)) (CanGoBack (set (cleared records stores) i (freed c records s))) records go_still can.fits) (goes_new, tt)));
-              apart = subst (Pairs AreApart) (sym same) (pairs_push AreApart records c can.apart (all_then (CanGoBack (cleared records stores)) (λ x. AreApart x c) records (apart_new q) can.fits));
+              apart = subst (Pairs AreInOtherSlots) (sym same) (pairs_push AreInOtherSlots records c can.apart (all_then (CanGoBack (cleared records stores)) (λ x. AreInOtherSlots x c) records (apart_new q) can.fits));
             };
           }

@@ -7,8 +7,8 @@ use Rattle.seg_store.specs.Slots.{Stored}
 use Rattle.unit_work.specs.declared.change.Change.{Change}
 use Rattle.unit_work.specs.BackOut.{backed_from, backed_out, CanBackOut}
 use Rattle.unit_work.proofs.Backing.{none_cleared, none_backed}
-use Rattle.program_rows.specs.Open.{backed_all}
-use Rattle.unit_work.specs.Images.{slots_at, image_at}
+use Rattle.program_rows.specs.OpenUnits.{backed_all}
+use Rattle.unit_work.specs.Images.{slots_of_database, image_at}
 use Rattle.program_rows.proofs.Slotwise.{back, backed_is, image_at_each, slots_at_length}
 use Rattle.program_rows.proofs.Beside.{IsIdle, AreRooted, AreBeside, idle_stays, swap}
 use Rattle.program_rows.proofs.Aside.{can_aside, aside_back}
@@ -47,8 +47,8 @@ beside_back stores a b c h ac bc =
       rooted_a = h.rooted_a;
       rooted_b = h.rooted_b;
       apart = λ db slot least lt.
-          let within : slot < length (slots_at db stores) =
-          subst (λ n. slot < n) (ap (λ ss. length (slots_at db ss)) (backed_is c stores) ∙ slots_at_length (back c) db stores least) lt in
+          let within : slot < length (slots_of_database db stores) =
+          subst (λ n. slot < n) (ap (λ ss. length (slots_of_database db ss)) (backed_is c stores) ∙ slots_at_length (back c) db stores least) lt in
           let new : image_at db slot (backed_out c stores) ≡ back c db slot (image_at db slot stores) =
           ap (image_at db slot) (backed_is c stores) ∙ image_at_each (back c) db slot stores least within in
           ⊎_elim

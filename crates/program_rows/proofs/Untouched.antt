@@ -4,13 +4,13 @@ use Rattle.std.specs.List.{AllByRecursion}
 use Rattle.std.proofs.lemmas.Bool.{false≢true, cases_eq, cases_lt}
 use Rattle.std.proofs.lemmas.List.{length-set}
 use Rattle.model_data.specs.Table.{EnqueueTable}
-use Rattle.pi_enqueue.specs.Kept.{IsKept}
+use Rattle.pi_enqueue.specs.KeptTable.{IsTableKept}
 use Rattle.seg_store.specs.Slots.{Stored}
 use Rattle.unit_work.specs.declared.change.Change.{Change}
-use Rattle.unit_work.specs.Changes.{is_before, is_slot, is_seen}
+use Rattle.unit_work.specs.Changes.{is_slot_before, is_slot, is_seen}
 use Rattle.unit_work.specs.BackOut.{is_touched, backed_out, backs}
-use Rattle.unit_work.specs.Images.{slots_at, image_at}
-use Rattle.program_rows.specs.Open.{HoldsAlone, backed_all, IsUnit, AreUnits, was_there, IsTouched, AllTouch}
+use Rattle.unit_work.specs.Images.{slots_of_database, image_at}
+use Rattle.program_rows.specs.OpenUnits.{HoldsAlone, backed_all, IsOpenUnit, AreUnits, was_there, IsRecordTouched, AllTouch}
 use Rattle.program_rows.proofs.Slotwise.{back}
 use Rattle.program_rows.proofs.Beside.{IsIdle, idle_back, none_touched}
 use Rattle.program_rows.proofs.Backed.{backed_lengths, lengths_all}
@@ -22,7 +22,7 @@ use Rattle.program_rows.proofs.Bools.{or_left, or_right}
 use Rattle.program_rows.proofs.Touching.{back_at, past}
 
 -- where all units are idle, backing them out leaves the image
-pub images_idle : (stores : List Stored) (units : List (List Change)) (db slot : ℕ) → 1 ≤ db → slot < length (slots_at db stores)
+pub images_idle : (stores : List Stored) (units : List (List Change)) (db slot : ℕ) → 1 ≤ db → slot < length (slots_of_database db stores)
     → AllByRecursion (λ u. IsIdle u db slot (image_at db slot stores)) units → image_at db slot (backed_all units stores) ≡ image_at db slot stores
 images_idle stores [] db slot least lt h = refl
 images_idle stores (u ∷ units) db slot least lt h =
@@ -30,26 +30,26 @@ images_idle stores (u ∷ units) db slot least lt h =
     ∙ (ap (back u db slot) (images_idle stores units db slot least lt h.1) ∙ idle_back u db slot (image_at db slot stores) h.0)
 
 -- stores that are alike in a slot are so once units are backed out
-pub images_same : (one other : List Stored) (units : List (List Change)) (db slot : ℕ) → 1 ≤ db → length (slots_at db one) ≡ length (slots_at db other)
+pub images_same : (one other : List Stored) (units : List (List Change)) (db slot : ℕ) → 1 ≤ db → length (slots_of_database db one) ≡ length (slots_of_database db other)
     → image_at db slot one ≡ image_at db slot other → image_at db slot (backed_all units one) ≡ image_at db slot (backed_all units other)
 images_same one other [] db slot least lengths e = e
 images_same one other (u ∷ units) db slot least lengths e =
-    let first : length (slots_at db (backed_all units one)) ≡ length (slots_at db one) = lengths_all one units db least in
-    let second : length (slots_at db (backed_all units other)) ≡ length (slots_at db other) = lengths_all other units db least in
+    let first : length (slots_of_database db (backed_all units one)) ≡ length (slots_of_database db one) = lengths_all one units db least in
+    let second : length (slots_of_database db (backed_all units other)) ≡ length (slots_of_database db other) = lengths_all other units db least in
     ⊎_elim
-    (λ (lt : slot < length (slots_at db one)).
+    (λ (lt : slot < length (slots_of_database db one)).
     back_at u (backed_all units one) db slot least (omega (arith, lt, first))
     ∙ (ap (back u db slot) (images_same one other units db slot least lengths e)
     ∙ sym (back_at u (backed_all units other) db slot least (omega (arith, lt, second, lengths)))))
-    (λ (le : length (slots_at db one) ≤ slot).
-    past (slots_at db (backed_out u (backed_all units one))) slot (omega (arith, le, first, backed_lengths (backed_all units one) u db least))
-    ∙ sym (past (slots_at db (backed_out u (backed_all units other))) slot (omega (arith, le, second, lengths, backed_lengths (backed_all units other) u db least))))
-    (cases_lt slot (length (slots_at db one)))
+    (λ (le : length (slots_of_database db one) ≤ slot).
+    past (slots_of_database db (backed_out u (backed_all units one))) slot (omega (arith, le, first, backed_lengths (backed_all units one) u db least))
+    ∙ sym (past (slots_of_database db (backed_out u (backed_all units other))) slot (omega (arith, le, second, lengths, backed_lengths (backed_all units other) u db least))))
+    (cases_lt slot (length (slots_of_database db one)))
 
 -- another unit is idle in a slot that this one has touched
-module _ (table : EnqueueTable) (stores : List Stored) (compatible : IsKept table) (i k : ℕ) (a b : List Change)
-    (unit_a : IsUnit table stores i a) (unit_b : IsUnit table stores k b) (other : i ≢ k) where
-  pub idle_beside : (c : Change) → IsTouched table stores i a c → IsIdle b c.db c.slot (image_at c.db c.slot stores)
+module _ (table : EnqueueTable) (stores : List Stored) (compatible : IsTableKept table) (i k : ℕ) (a b : List Change)
+    (unit_a : IsOpenUnit table stores i a) (unit_b : IsOpenUnit table stores k b) (other : i ≢ k) where
+  pub idle_beside : (c : Change) → IsRecordTouched table stores i a c → IsIdle b c.db c.slot (image_at c.db c.slot stores)
   idle_beside c t =
       ⊎_elim mine (λ theirs. theirs) ((units_beside table stores compatible i k a b unit_a unit_b other).apart c.db c.slot t.there.least t.there.within)
     where
@@ -67,7 +67,7 @@ module _ (table : EnqueueTable) (stores : List Stored) (compatible : IsKept tabl
           record { untouched = ap (is_touched b c.db) none ∙ none_touched b c.db; unused = unused none p.1 (was_there b c.db c.slot) refl }) t.sits
 
   -- so both haven't touched one
-  pub touched_apart : (c d : Change) → IsTouched table stores i a c → IsTouched table stores k b d → c.db ≡ d.db → c.slot ≡ d.slot → ⊥
+  pub touched_apart : (c d : Change) → IsRecordTouched table stores i a c → IsRecordTouched table stores k b d → c.db ≡ d.db → c.slot ≡ d.slot → ⊥
   touched_apart c d t u same_db same_slot =
       let idle_b : IsIdle b d.db d.slot (image_at d.db d.slot stores) =
       subst (λ n. IsIdle b n d.slot (image_at n d.slot stores)) same_db (subst (λ n. IsIdle b c.db n (image_at c.db n stores)) same_slot (idle_beside c t)) in
@@ -80,7 +80,7 @@ module _ (table : EnqueueTable) (stores : List Stored) (compatible : IsKept tabl
       clash d u used theirs)
       (λ ours. absurd (other (compatible.alone _ i k _ (subst (λ n. HoldsAlone table i (record { db = n; root = None })) same_db ours.1) theirs.1))) t.sits) u.sits
     where
-      clash : (d : Change) → IsTouched table stores k b d → was_there a d.db d.slot ≡ true → (d.before ≡ []) × HoldsAlone table k (record { db = d.db; root = None }) → ⊥
+      clash : (d : Change) → IsRecordTouched table stores k b d → was_there a d.db d.slot ≡ true → (d.before ≡ []) × HoldsAlone table k (record { db = d.db; root = None }) → ⊥
       clash d u used theirs =
           ⊎_elim
           (λ (idle : IsIdle a d.db d.slot (image_at d.db d.slot stores)). false≢true (sym idle.unused ∙ used))
@@ -99,9 +99,9 @@ pub record IsAmong (P : Change → Type 0) (db slot : ℕ) : Type 0 where
 
 pub seen_among : (P : Change → Type 0) (db slot : ℕ) (slots : List Change) → AllByRecursion P slots → is_seen db slot slots ≡ true → IsAmong P db slot
 seen_among P db slot [] h e = absurd (false≢true e)
-seen_among P db slot (s ∷ slots) h e = by (is_before db slot s) refl (seen_among P db slot slots h.1)
+seen_among P db slot (s ∷ slots) h e = by (is_slot_before db slot s) refl (seen_among P db slot slots h.1)
   where
-    by : (b : Bool) → is_before db slot s ≡ b → (is_seen db slot slots ≡ true → IsAmong P db slot) → IsAmong P db slot
+    by : (b : Bool) → is_slot_before db slot s ≡ b → (is_seen db slot slots ≡ true → IsAmong P db slot) → IsAmong P db slot
     by true q rec = rec (sym (ap (λ b. cond b (is_seen db slot slots) (is_slot db slot s)) q) ∙ e)
     by false q rec =
         let here = same_is s.db s.slot db slot (sym (ap (λ b. cond b (is_seen db slot slots) (is_slot db slot s)) q) ∙ e) in
@@ -110,7 +110,7 @@ seen_among P db slot (s ∷ slots) h e = by (is_before db slot s) refl (seen_amo
 -- the units of the regions
 module _ (units slots : List (List Change)) (stores : List Stored) (table : EnqueueTable) (h : AreUnits units stores table) (touched : AllTouch units slots stores table) where
   module _ (place : ℕ) (lt : place < length units) where
-    others_idle : (c : Change) → IsTouched table stores (suc place) (get_or units place []) c → AllByRecursion (λ u. IsIdle u c.db c.slot (image_at c.db c.slot stores)) (set units place [])
+    others_idle : (c : Change) → IsRecordTouched table stores (suc place) (get_or units place []) c → AllByRecursion (λ u. IsIdle u c.db c.slot (image_at c.db c.slot stores)) (set units place [])
     others_idle c t =
         all_by (λ u. IsIdle u c.db c.slot (image_at c.db c.slot stores)) (set units place [])
         (λ k inside.
@@ -123,7 +123,7 @@ module _ (units slots : List (List Change)) (stores : List Stored) (table : Enqu
         (λ e. other (omega (arith, e))) c t)) (cases_eq k place))
 
     -- what the unit has touched stands as it is once the others are backed out
-    pub stands_here : (c : Change) → IsTouched table stores (suc place) (get_or units place []) c → image_at c.db c.slot (backed_all (set units place []) stores) ≡ image_at c.db c.slot stores
+    pub stands_here : (c : Change) → IsRecordTouched table stores (suc place) (get_or units place []) c → image_at c.db c.slot (backed_all (set units place []) stores) ≡ image_at c.db c.slot stores
     stands_here c t = images_idle stores (set units place []) c.db c.slot t.there.least t.there.within (others_idle c t)
 
     -- all else as it is committed
@@ -134,9 +134,9 @@ module _ (units slots : List (List Change)) (stores : List Stored) (table : Enqu
         ∙ ap (image_at db slot) (back_committed units stores table h place lt)
 
     -- the first image is the committed one
-    pub first_here : (c : Change) → IsTouched table stores (suc place) (get_or units place []) c → c.before ≡ image_at c.db c.slot (backed_all units stores)
+    pub first_here : (c : Change) → IsRecordTouched table stores (suc place) (get_or units place []) c → c.before ≡ image_at c.db c.slot (backed_all units stores)
     first_here c t =
-        let within : c.slot < length (slots_at c.db (backed_all (set units place []) stores)) = omega (arith, lengths_all stores (set units place []) c.db t.there.least, t.there.within) in
+        let within : c.slot < length (slots_of_database c.db (backed_all (set units place []) stores)) = omega (arith, lengths_all stores (set units place []) c.db t.there.least, t.there.within) in
         sym (ap (image_at c.db c.slot) (push stores units place lt (all_rooted units stores table h) (all_beside units stores table h))
         ∙ (back_at (get_or units place []) (backed_all (set units place []) stores) c.db c.slot t.there.least within
         ∙ (ap (back (get_or units place []) c.db c.slot) (stands_here c t)
@@ -147,8 +147,8 @@ module _ (units slots : List (List Change)) (stores : List Stored) (table : Enqu
   units_apart i k first second db slot e f =
       ⊎_elim (λ same. same)
       (λ other.
-      let a : IsAmong (IsTouched table stores (suc i) (get_or units i [])) db slot = seen_among (IsTouched table stores (suc i) (get_or units i [])) db slot (get_or slots i []) (touched i first).each e in
-      let b : IsAmong (IsTouched table stores (suc k) (get_or units k [])) db slot = seen_among (IsTouched table stores (suc k) (get_or units k [])) db slot (get_or slots k []) (touched k second).each f in
+      let a : IsAmong (IsRecordTouched table stores (suc i) (get_or units i [])) db slot = seen_among (IsRecordTouched table stores (suc i) (get_or units i [])) db slot (get_or slots i []) (touched i first).each e in
+      let b : IsAmong (IsRecordTouched table stores (suc k) (get_or units k [])) db slot = seen_among (IsRecordTouched table stores (suc k) (get_or units k [])) db slot (get_or slots k []) (touched k second).each f in
       absurd (touched_apart table stores h.compatible (suc i) (suc k) (get_or units i []) (get_or units k []) (h.each i first) (h.each k second) (λ q. other (omega (arith, q)))
       a.change b.change a.is b.is (a.same_db ∙ sym b.same_db) (a.same_slot ∙ sym b.same_slot))) (cases_eq i k)
 
@@ -156,7 +156,7 @@ module _ (units slots : List (List Change)) (stores : List Stored) (table : Enqu
   pub stands_untouched : (db slot : ℕ) → 1 ≤ db → ((k : ℕ) → k < length units → is_seen db slot (get_or slots k []) ≡ false) → image_at db slot (backed_all units stores) ≡ image_at db slot stores
   stands_untouched db slot least none =
       ⊎_elim
-      (λ (lt : slot < length (slots_at db stores)).
+      (λ (lt : slot < length (slots_of_database db stores)).
       images_idle stores units db slot least lt
       (all_by (λ u. IsIdle u db slot (image_at db slot stores)) units
       (λ k inside.
@@ -165,5 +165,5 @@ module _ (units slots : List (List Change)) (stores : List Stored) (table : Enqu
         untouched = or_left (is_touched (get_or units k []) db (image_at db slot stores)) (was_there (get_or units k []) db slot) idle;
         unused = or_right (is_touched (get_or units k []) db (image_at db slot stores)) (was_there (get_or units k []) db slot) idle;
       })))
-      (λ (le : length (slots_at db stores) ≤ slot).
-      past (slots_at db (backed_all units stores)) slot (omega (arith, le, lengths_all stores units db least)) ∙ sym (past (slots_at db stores) slot le)) (cases_lt slot (length (slots_at db stores)))
+      (λ (le : length (slots_of_database db stores) ≤ slot).
+      past (slots_of_database db (backed_all units stores)) slot (omega (arith, le, lengths_all stores units db least)) ∙ sym (past (slots_of_database db stores) slot le)) (cases_lt slot (length (slots_of_database db stores)))

@@ -11,7 +11,7 @@ use Rattle.model_data.specs.Footprint.{footprint, AgreeAt}
 use Rattle.model_data.specs.declared.request.Request.{Request}
 use Rattle.model_data.specs.Modes.{same_resource}
 use Rattle.model_data.specs.Table.{EnqueueTable}
-use Rattle.program_rows.specs.State.{DatabasesState, rows_in, rows_numbered}
+use Rattle.program_rows.specs.DatabasesState.{DatabasesState, database_rows_in, rows_numbered}
 
 -- what a region asks for to have what is needed of the database of this number
 abbrev pub request_of : ℕ → ℕ → Need → Request
@@ -23,12 +23,12 @@ requests_of_call region number dbd call at databases =
     map (request_of region number) (footprint dbd call at (rows_numbered region number databases))
 
 -- the region holds the resource, in whatever mode
-abbrev pub holds : EnqueueTable → ℕ → Resource → Bool
-holds table region resource = list_any (λ hold. same_resource hold.0.resource resource && (hold.0.region == region)) table.holds
+abbrev pub region_holds : EnqueueTable → ℕ → Resource → Bool
+region_holds table region resource = list_any (λ hold. same_resource hold.0.resource resource && (hold.0.region == region)) table.holds
 
 -- In two states of the rows all that a region holds is the same: each record, and where it holds the sequence
 -- of a database, the roots.
 abbrev pub AgreeOnHeld : EnqueueTable → ℕ → List (List Row) → List (List Row) → Type 0
 AgreeOnHeld table region before after =
-    (number : ℕ) (root : Option (List ℕ)) → IsTrue (holds table region (record { db = number; root = root }))
-    → AgreeAt root (rows_in number before) (rows_in number after)
+    (number : ℕ) (root : Option (List ℕ)) → IsTrue (region_holds table region (record { db = number; root = root }))
+    → AgreeAt root (database_rows_in number before) (database_rows_in number after)

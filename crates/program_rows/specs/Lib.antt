@@ -1,8 +1,8 @@
-pub mod State
+pub mod DatabasesState
 pub mod Isolation
-pub mod Answering
-pub mod Open
-pub mod Making
-pub mod Telling
-pub mod Calling
-pub mod OnSlots
+pub mod CallAnswers
+pub mod OpenUnits
+pub mod PlannedChanges
+pub mod ToldChanges
+pub mod MadeCall
+pub mod SlotsState

@@ -2,11 +2,11 @@
 ghost use Rattle.std.specs.Prelude.{◌≡◌, ◌≢◌, ◌≤◌, None, IfOk, IfErr, OnOk, OnErr, map};
 ghost use Rattle.log_records.specs.declared.untold.Untold.TheVariants.{Memory as NoMemory};
 ghost use Rattle.std.specs.List.{AllByRecursion};
-ghost use Rattle.model_data.specs.Ask.{after_asks, first_blocked};
-ghost use Rattle.model_data.specs.Cycle.{IsRegion};
-ghost use Rattle.pi_enqueue.specs.Kept.{IsKept};
+ghost use Rattle.model_data.specs.EnqueueRequests.{after_asks, first_blocked};
+ghost use Rattle.model_data.specs.Cycle.{IsTableRegion};
+ghost use Rattle.pi_enqueue.specs.KeptTable.{IsTableKept};
 ghost use Rattle.program_rows.specs.Isolation.{request_of};
-ghost use Rattle.program_rows.specs.Making.{Reads, WaitsAt};
+ghost use Rattle.program_rows.specs.PlannedChanges.{Reads, WaitsAt};
 
 use crate::{Answered, Blocked, DataAnswer};
 use dli_calls::Planned;
@@ -70,12 +70,12 @@ fn request_of(region: u32, number: u8, need: &Need) -> Request
 /// A call that changes no record is answered as planned; where what it asks for is blocked, the region
 /// waits.
 pub fn read(asked: &Asked, planned: Planned, table: &mut Table) -> Result<DataAnswer, Untold>
-    requires region { IsRegion table.old asked.now.region }
+    requires region { IsTableRegion table.old asked.now.region }
     requires own { AllByRecursion (λ request. request.region ≡ asked.now.region) asked.now.requests.items }
     ensures reads { IfOk result (Reads asked.now.requests.items table.old planned) }
     ensures memory { IfErr result (λ e. e ≡ NoMemory) }
     ensures table { OnOk result (table.new ≡ after_asks asked.now.region asked.now.requests.items table.old) }
-    ensures held { IsKept table.new }
+    ensures held { IsTableKept table.new }
     ensures kept { OnErr result (table.new ≡ table.old) }
 {
     match table.ask_all(asked.region, &asked.requests) {
@@ -94,13 +94,13 @@ pub fn read(asked: &Asked, planned: Planned, table: &mut Table) -> Result<DataAn
 
 /// The region waits at the first request that is blocked.
 pub fn wait(asked: &Asked, table: &mut Table) -> Result<DataAnswer, Untold>
-    requires region { IsRegion table.old asked.now.region }
+    requires region { IsTableRegion table.old asked.now.region }
     requires own { AllByRecursion (λ request. request.region ≡ asked.now.region) asked.now.requests.items }
     requires blocked { first_blocked asked.now.requests.items table.old ≢ None }
     ensures waits { IfOk result (WaitsAt asked.now.requests.items table.old) }
     ensures memory { IfErr result (λ e. e ≡ NoMemory) }
     ensures table { OnOk result (table.new ≡ after_asks asked.now.region asked.now.requests.items table.old) }
-    ensures held { IsKept table.new }
+    ensures held { IsTableKept table.new }
     ensures kept { OnErr result (table.new ≡ table.old) }
 {
     match table.ask_all(asked.region, &asked.requests) {
@@ -115,11 +115,11 @@ pub fn wait(asked: &Asked, table: &mut Table) -> Result<DataAnswer, Untold>
 
 /// The region gets all that it asks for, of which nothing is blocked.
 pub fn ask(asked: &Asked, table: &mut Table) -> Result<(), Memory>
-    requires region { IsRegion table.old asked.now.region }
+    requires region { IsTableRegion table.old asked.now.region }
     requires own { AllByRecursion (λ request. request.region ≡ asked.now.region) asked.now.requests.items }
     requires free { first_blocked asked.now.requests.items table.old ≡ None }
     ensures table { OnOk result (table.new ≡ after_asks asked.now.region asked.now.requests.items table.old) }
-    ensures held { IsKept table.new }
+    ensures held { IsTableKept table.new }
     ensures kept { OnErr result (table.new ≡ table.old) }
 {
     match table.ask_all(asked.region, &asked.requests) {

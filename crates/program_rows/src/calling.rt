@@ -1,14 +1,14 @@
 //! A call of a region on a database.
 ghost use Rattle.std.specs.Prelude.{◌≡◌, ◌≤◌, ◌-◌, Some, All, IfOk, IfErr, OnOk, OnErr, length, map, slice_get};
 ghost use Rattle.model_data.specs.Conditions.{IsDbCall, IsPosition};
-ghost use Rattle.program_rows.specs.Calling.{IsDone};
-ghost use Rattle.model_data.specs.Dli.{dli};
-ghost use Rattle.program_rows.specs.OnSlots.{slots_in, CallsSo};
-ghost use Rattle.program_rows.specs.State.{rows_numbered};
-ghost use Rattle.program_rows.specs.Open.{slots_of};
-ghost use Rattle.log_records.specs.Telling.{Tells, IsUntold};
-ghost use Rattle.program_rows.specs.Telling.{call_told, touched_after};
-ghost use Rattle.program_rows.specs.Making.{seen, IsOpen, HasTouched, IsSame};
+ghost use Rattle.program_rows.specs.MadeCall.{IsCallDone};
+ghost use Rattle.model_data.specs.DatabaseCalls.{dli};
+ghost use Rattle.program_rows.specs.SlotsState.{slots_state_of, CallsSo};
+ghost use Rattle.program_rows.specs.DatabasesState.{rows_numbered};
+ghost use Rattle.program_rows.specs.OpenUnits.{unit_slots_of};
+ghost use Rattle.log_records.specs.ToldRecords.{TellsInRoom, AreRecordsUntold};
+ghost use Rattle.program_rows.specs.ToldChanges.{call_told, touched_after};
+ghost use Rattle.program_rows.specs.PlannedChanges.{databases_opened, IsOpenedWhole, HasTouched, IsSame};
 
 use crate::DataAnswer;
 use crate::asked::{asked_for, read, wait};
@@ -37,7 +37,7 @@ pub fn call(
     room: usize,
     told: &mut Vec<u8>,
 ) -> Result<DataAnswer, Untold>
-    requires open { IsOpen opened.old }
+    requires open { IsOpenedWhole opened.old }
     requires touched { HasTouched opened.old }
     requires first { 1 ≤ region }
     requires last { region ≤ length opened.old.units.items }
@@ -48,14 +48,14 @@ pub fn call(
     requires sectors { dbd.now.sectors ≤ 1 }
     requires position { IsPosition dbd.now.types at.now }
     requires call { IsDbCall dbd.now.types call.now }
-    ensures done { IfOk result (IsDone region number dbd.now call.now at.now opened.old opened.new) }
-    ensures tells { OnOk result (Tells (call_told unit region number dbd.now call.now at.now (seen opened.old)) room told.old.items told.new.items) }
-    ensures slots { OnOk result (CallsSo unit region (slots_in (seen opened.old)) (slots_in (seen opened.new)) (call_told unit region number dbd.now call.now at.now (seen opened.old))) }
-    ensures touched { IfOk result (λ a. slots_of opened.new.units.items ≡ touched_after region number (dli dbd.now call.now at.now (rows_numbered region number (seen opened.old))) (seen opened.old) a) }
+    ensures done { IfOk result (IsCallDone region number dbd.now call.now at.now opened.old opened.new) }
+    ensures tells { OnOk result (TellsInRoom (call_told unit region number dbd.now call.now at.now (databases_opened opened.old)) room told.old.items told.new.items) }
+    ensures slots { OnOk result (CallsSo unit region (slots_state_of (databases_opened opened.old)) (slots_state_of (databases_opened opened.new)) (call_told unit region number dbd.now call.now at.now (databases_opened opened.old))) }
+    ensures touched { IfOk result (λ a. unit_slots_of opened.new.units.items ≡ touched_after region number (dli dbd.now call.now at.now (rows_numbered region number (databases_opened opened.old))) (databases_opened opened.old) a) }
     ensures touch { OnOk result (HasTouched opened.new) }
     ensures kept { OnErr result (IsSame opened.old opened.new) }
     ensures untold { OnErr result (told.new.items ≡ told.old.items) }
-    ensures full { IfErr result (IsUntold (call_told unit region number dbd.now call.now at.now (seen opened.old)) room) }
+    ensures full { IfErr result (AreRecordsUntold (call_told unit region number dbd.now call.now at.now (databases_opened opened.old)) room) }
 {
     let needed = plan_needed(alloc, dbd, call, at, opened.stores.store(number))?;
     let asked = asked_for(alloc, region, number, needed.needs.as_slice())?;

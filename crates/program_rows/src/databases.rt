@@ -2,25 +2,25 @@
 ghost use Rattle.std.specs.Prelude.{◌≡◌, ◌≤◌, ◌-◌, ℕ, [], Some, All, IfOk, IfErr, OnOk, OnErr, length, map, replicate, slice_get, slice_set};
 ghost use Rattle.model_data.specs.Conditions.{IsDbCall, IsPosition};
 ghost use Rattle.model_data.specs.Data.{data_abend};
-ghost use Rattle.model_data.specs.Dli.{dli};
+ghost use Rattle.model_data.specs.DatabaseCalls.{dli};
 ghost use Rattle.model_data.specs.Table.{empty_table};
-ghost use Rattle.model_data.specs.Ask.{first_blocked, released, waits_for_nothing};
+ghost use Rattle.model_data.specs.EnqueueRequests.{first_blocked, released, waits_for_nothing};
 ghost use Rattle.std.specs.List.{AllByRecursion};
 ghost use Rattle.tm_types.specs.SegTypes.{IsHierarchy};
-ghost use Rattle.model_data.specs.Cycle.{IsRegion};
-ghost use Rattle.pi_enqueue.specs.Kept.{IsKept};
+ghost use Rattle.model_data.specs.Cycle.{IsTableRegion};
+ghost use Rattle.pi_enqueue.specs.KeptTable.{IsTableKept};
 ghost use Rattle.unit_work.specs.BackOut.{CanBackOut, backed_out, backs};
-ghost use Rattle.program_rows.specs.Open.{records_of, slots_of};
+ghost use Rattle.program_rows.specs.OpenUnits.{unit_records_of, unit_slots_of};
 ghost use Rattle.unit_work.specs.Images.{image_at};
 ghost use Rattle.unit_work.specs.Marks.{AreMarked, AreAllMarked};
-ghost use Rattle.program_rows.specs.OnSlots.{slots_in, all_stores, AreOnSlots, CallsSo};
-ghost use Rattle.log_records.specs.Telling.{Tells, IsUntold};
-ghost use Rattle.program_rows.specs.Telling.{back_told, call_told, touched_after};
-ghost use Rattle.program_rows.specs.Making.{changed_in, AreThere};
+ghost use Rattle.program_rows.specs.SlotsState.{slots_state_of, slots_stores, AreOnSlots, CallsSo};
+ghost use Rattle.log_records.specs.ToldRecords.{TellsInRoom, AreRecordsUntold};
+ghost use Rattle.program_rows.specs.ToldChanges.{back_told, call_told, touched_after};
+ghost use Rattle.program_rows.specs.PlannedChanges.{changed_in, AreThere};
 ghost use Rattle.seg_store.specs.Stores.{empty_stores, no_changed};
-ghost use Rattle.program_rows.specs.State.{clean_region, committed_rows, data_of, dbds_of, region_at, rows_numbered, rows_of, settled, touched_by, with_marks, AreRowsOf, IsClean, IsRegionOf};
+ghost use Rattle.program_rows.specs.DatabasesState.{clean_region, committed_rows, data_of, dbds_of, region_at, rows_numbered, rows_of_stores, with_all_settled, touched_by, with_marks, AreRowsOf, IsClean, IsRegionOf};
 ghost use Rattle.program_rows.specs.Isolation.{requests_of_call};
-ghost use Rattle.program_rows.specs.Answering.{blocked_of, told_blocked, regions_after, regions_backed, Gives, IsCommitted, IsGivenUp, LeadsToAbend, Stands, StaysUnlessMade, table_left};
+ghost use Rattle.program_rows.specs.CallAnswers.{blocked_of, told_blocked, regions_after, regions_backed, GivesAnswer, IsCommitted, IsGivenUp, LeadsToAbend, StandsInDatabase, StaysUnlessMade, table_left};
 
 use crate::opened::{Opened, clear_units, put_unit, take_unit, unit_of, units_of};
 use crate::telling::tell_slots;
@@ -46,14 +46,14 @@ pub struct Databases {
 }
 
 impl Model for Databases {
-    ghost use Rattle.program_rows.specs.State.{DatabasesState};
-    ghost use Rattle.program_rows.specs.Making.{seen, IsWhole};
+    ghost use Rattle.program_rows.specs.DatabasesState.{DatabasesState};
+    ghost use Rattle.program_rows.specs.PlannedChanges.{databases_opened, IsUnitWhole};
 
     ghost Value = { DatabasesState };
 
-    ghost view = { λ d. seen d.opened };
+    ghost view = { λ d. databases_opened d.opened };
 
-    ghost invariant = { λ d. IsWhole d.opened };
+    ghost invariant = { λ d. IsUnitWhole d.opened };
 }
 
 impl Databases {
@@ -63,7 +63,7 @@ impl Databases {
         ensures stores { IfOk result (λ d. d.stores ≡ empty_stores dbds.now) }
         ensures changed { IfOk result (λ d. d.changed ≡ no_changed dbds.now) }
         ensures committed { IfOk result (λ d. d.committed ≡ empty_stores dbds.now) }
-        ensures regions { IfOk result (λ d. d.regions ≡ replicate regions (clean_region (rows_of (empty_stores dbds.now)))) }
+        ensures regions { IfOk result (λ d. d.regions ≡ replicate regions (clean_region (rows_of_stores (empty_stores dbds.now)))) }
         ensures touched { IfOk result (λ d. d.touched ≡ replicate regions []) }
         ensures table { IfOk result (λ d. d.table ≡ empty_table regions) }
         ensures rows { IfOk result (λ d. AreRowsOf (dbds_of d) (committed_rows d)) }
@@ -84,7 +84,7 @@ impl Databases {
 
     /// The stores, as they are, with the slots that were changed since they were written.
     pub fn stores(&self) -> &Stores
-        ensures value { result.now ≡ all_stores (slots_in self.now) }
+        ensures value { result.now ≡ slots_stores (slots_state_of self.now) }
         ensures on_slots { AreOnSlots self.now }
     {
         &self.opened.stores
@@ -92,7 +92,7 @@ impl Databases {
 
     /// No slot counts as changed any more: what stands in the sectors is the caller's.
     pub fn settle(&mut self)
-        ensures { self.new ≡ settled self.old }
+        ensures { self.new ≡ with_all_settled self.old }
     {
         self.opened.stores.settle();
     }
@@ -110,8 +110,8 @@ impl Databases {
     /// takes no memory.
     pub fn open(&mut self, stores: Stores)
         requires { stores.changed ≡ no_changed (map (λ s. s.dbd) stores.stores) }
-        ensures slots { slots_in self.new ≡ record { stores = stores.stores; changed = stores.changed; committed = stores.stores; touched = replicate (length self.old.regions) [] } }
-        ensures regions { self.new.regions ≡ replicate (length self.old.regions) (clean_region (rows_of stores.stores)) }
+        ensures slots { slots_state_of self.new ≡ record { stores = stores.stores; changed = stores.changed; committed = stores.stores; touched = replicate (length self.old.regions) [] } }
+        ensures regions { self.new.regions ≡ replicate (length self.old.regions) (clean_region (rows_of_stores stores.stores)) }
         ensures table { self.new.table ≡ self.old.table }
         ensures rows { AreRowsOf (dbds_of self.new) (committed_rows self.new) }
     {
@@ -174,19 +174,19 @@ impl Databases {
         requires call { IsDbCall dbd.now.types call.now }
         ensures blocked { IfOk result (λ a. blocked_of a ≡ told_blocked (first_blocked (requests_of_call region number dbd.now call.now at.now self.old) self.old.table)) }
         ensures abend { let d = dli dbd.now call.now at.now (rows_numbered region number self.old) in IfOk result (LeadsToAbend (data_abend number (data_of region self.old []) d)) }
-        ensures gives { IfOk result (Gives (dli dbd.now call.now at.now (rows_numbered region number self.old))) }
-        ensures stands { IfOk result (Stands dbd.now.types) }
+        ensures gives { IfOk result (GivesAnswer (dli dbd.now call.now at.now (rows_numbered region number self.old))) }
+        ensures stands { IfOk result (StandsInDatabase dbd.now.types) }
         ensures leaves { IfOk result (λ a. self.new.regions ≡ regions_after region number (dli dbd.now call.now at.now (rows_numbered region number self.old)) self.old a) }
         ensures asks { IfOk result (λ a. self.new.table ≡ table_left region (requests_of_call region number dbd.now call.now at.now self.old) self.old.table a) }
         ensures stays { IfOk result (StaysUnlessMade self.old self.new) }
         ensures committed { self.new.committed ≡ self.old.committed }
         ensures databases { dbds_of self.new ≡ dbds_of self.old }
-        ensures tells { OnOk result (Tells (call_told unit region number dbd.now call.now at.now self.old) room told.old.items told.new.items) }
-        ensures slots { OnOk result (CallsSo unit region (slots_in self.old) (slots_in self.new) (call_told unit region number dbd.now call.now at.now self.old)) }
+        ensures tells { OnOk result (TellsInRoom (call_told unit region number dbd.now call.now at.now self.old) room told.old.items told.new.items) }
+        ensures slots { OnOk result (CallsSo unit region (slots_state_of self.old) (slots_state_of self.new) (call_told unit region number dbd.now call.now at.now self.old)) }
         ensures touched { IfOk result (λ a. self.new.touched ≡ touched_after region number (dli dbd.now call.now at.now (rows_numbered region number self.old)) self.old a) }
         ensures kept { OnErr result (self.new ≡ self.old) }
         ensures untold { OnErr result (told.new.items ≡ told.old.items) }
-        ensures full { IfErr result (IsUntold (call_told unit region number dbd.now call.now at.now self.old) room) }
+        ensures full { IfErr result (AreRecordsUntold (call_told unit region number dbd.now call.now at.now self.old) room) }
     {
         calling::call(
             self.alloc,
@@ -223,9 +223,9 @@ impl Databases {
     ) -> Result<(), Untold>
         requires region { IsRegionOf self.now region }
         requires sectors { AllByRecursion (λ s. s.dbd.sectors ≤ 1) self.now.stores }
-        ensures tells { OnOk result (Tells (back_told unit region self.now) room told.old.items told.new.items) }
+        ensures tells { OnOk result (TellsInRoom (back_told unit region self.now) room told.old.items told.new.items) }
         ensures untold { OnErr result (told.new.items ≡ told.old.items) }
-        ensures full { IfErr result (IsUntold (back_told unit region self.now) room) }
+        ensures full { IfErr result (AreRecordsUntold (back_told unit region self.now) room) }
     {
         tell_slots(
             unit,
@@ -246,7 +246,7 @@ impl Databases {
         ensures databases { dbds_of self.new ≡ dbds_of self.old }
         ensures touched { self.new.touched ≡ slice_set self.old.touched (region - 1) [] }
         // `tell_back` tells what this makes of the slots.
-        ensures slots { (unit : ℕ) → CallsSo unit region (slots_in self.old) (slots_in self.new) (back_told unit region self.old) }
+        ensures slots { (unit : ℕ) → CallsSo unit region (slots_state_of self.old) (slots_state_of self.new) (back_told unit region self.old) }
     {
         take_back(self.alloc, region, &mut self.opened);
     }
@@ -290,8 +290,8 @@ fn take_back(alloc: Global, region: u32, opened: &mut Opened)
     requires least { 1 ≤ region }
     requires most { region ≤ length opened.old.units.items }
     requires can { CanBackOut (changed_in region opened.old) opened.old.stores.stores }
-    ensures units { records_of opened.new.units.items ≡ slice_set (records_of opened.old.units.items) (region - 1) [] }
-    ensures slots { slots_of opened.new.units.items ≡ slice_set (slots_of opened.old.units.items) (region - 1) [] }
+    ensures units { unit_records_of opened.new.units.items ≡ slice_set (unit_records_of opened.old.units.items) (region - 1) [] }
+    ensures slots { unit_slots_of opened.new.units.items ≡ slice_set (unit_slots_of opened.old.units.items) (region - 1) [] }
     ensures stores { opened.new.stores.stores ≡ backed_out (changed_in region opened.old) opened.old.stores.stores }
     ensures marks { AreMarked (λ db slot. backs (changed_in region opened.old) db slot (image_at db slot opened.old.stores.stores)) opened.old.stores opened.new.stores }
     ensures all_marked { AreAllMarked (λ db slot. backs (changed_in region opened.old) db slot (image_at db slot opened.old.stores.stores)) opened.new.stores }
@@ -303,9 +303,9 @@ fn take_back(alloc: Global, region: u32, opened: &mut Opened)
 
 // The region gives up all that it holds and waits for.
 fn release(region: u32, table: &mut Table)
-    requires { IsRegion table.old region }
+    requires { IsTableRegion table.old region }
     ensures table { table.new ≡ released region table.old }
-    ensures kept { IsKept table.new }
+    ensures kept { IsTableKept table.new }
 {
     table.release_all(region);
     let _regions = table.regions();

@@ -3,15 +3,15 @@ ghost use Rattle.std.specs.Prelude.{◌≡◌, ◌≤◌, ◌-◌, Some, None, I
 ghost use Rattle.std.specs.List.{AllByRecursion};
 ghost use Rattle.model_data.specs.Rows.{IsImage, record_of};
 ghost use Rattle.model_data.specs.Data.{limit_abend};
-ghost use Rattle.model_data.specs.Ask.{first_blocked};
-ghost use Rattle.model_data.specs.Cycle.{IsRegion};
+ghost use Rattle.model_data.specs.EnqueueRequests.{first_blocked};
+ghost use Rattle.model_data.specs.Cycle.{IsTableRegion};
 ghost use Rattle.seg_rows.specs.StoreRefused.{set_refusal};
 ghost use Rattle.seg_store.specs.Slots.{AreSlots, rows_of_slots, slot_for};
-ghost use Rattle.unit_work.specs.Changes.{is_full, no_changes, with_touch, AreInOrder};
-ghost use Rattle.dli_calls.specs.Plans.{IsThere, limit_of};
-ghost use Rattle.program_rows.specs.State.{rows_in, rows_of};
-ghost use Rattle.log_records.specs.Telling.{Tells, IsUntold};
-ghost use Rattle.program_rows.specs.Making.{IsPut, IsSame, IsSet, EditMade, HasAskedIn, Makes, MarksEdit, TakesSlot, IsUntoldEdit, changed_in, edit_abend, edit_told, kept_of, made_told, told_unless};
+ghost use Rattle.unit_work.specs.Changes.{is_full, no_changes, with_touch, AreSlotsInOrder};
+ghost use Rattle.dli_calls.specs.CallPlan.{IsThere, limit_of};
+ghost use Rattle.program_rows.specs.DatabasesState.{database_rows_in, rows_of_stores};
+ghost use Rattle.log_records.specs.ToldRecords.{TellsInRoom, AreRecordsUntold};
+ghost use Rattle.program_rows.specs.PlannedChanges.{IsPut, IsSame, IsSet, EditMade, HasAskedIn, Makes, MarksEdit, TakesSlot, IsUntoldEdit, changed_in, edit_abend, edit_told, change_kept, made_told, told_unless};
 
 use crate::asked::{Asked, ask};
 use crate::opened::{Opened, put_unit, take_unit, unit_of};
@@ -40,16 +40,16 @@ pub fn make(
 ) -> Result<DataAnswer, Untold>
     requires least { 1 ≤ asked.now.region }
     requires most { asked.now.region ≤ length opened.old.units.items }
-    requires region { IsRegion opened.old.table asked.now.region }
+    requires region { IsTableRegion opened.old.table asked.now.region }
     requires own { AllByRecursion (λ request. request.region ≡ asked.now.region) asked.now.requests.items }
     requires free { first_blocked asked.now.requests.items opened.old.table ≡ None }
     requires number { 1 ≤ asked.now.number }
     requires database { slice_get (map (λ s. s.dbd) opened.old.stores.stores) (asked.now.number - 1) ≡ Some dbd.now }
     requires image { IfSome planned.edit (λ e. IsImage dbd.now e.root e.image) }
-    requires there { IsThere (rows_in asked.now.number (rows_of opened.old.stores.stores)) planned.edit }
+    requires there { IsThere (database_rows_in asked.now.number (rows_of_stores opened.old.stores.stores)) planned.edit }
     requires sectors { dbd.now.sectors ≤ 1 }
     ensures made { IfOk result (Makes asked.now dbd.now planned opened.old opened.new) }
-    ensures tells { IfOk result (λ a. Tells (made_told unit asked.now.number planned.edit opened.old.stores.stores a) room told.old.items told.new.items) }
+    ensures tells { IfOk result (λ a. TellsInRoom (made_told unit asked.now.number planned.edit opened.old.stores.stores a) room told.old.items told.new.items) }
     ensures kept { OnErr result (IsSame opened.old opened.new) }
     ensures untold { OnErr result (told.new.items ≡ told.old.items) }
     ensures full { IfErr result (IsUntoldEdit asked.now dbd.now planned.edit opened.old unit room) }
@@ -86,17 +86,17 @@ fn change(
 ) -> Result<Option<AbendCode>, Untold>
     requires least { 1 ≤ asked.now.region }
     requires most { asked.now.region ≤ length opened.old.units.items }
-    requires region { IsRegion opened.old.table asked.now.region }
+    requires region { IsTableRegion opened.old.table asked.now.region }
     requires own { AllByRecursion (λ request. request.region ≡ asked.now.region) asked.now.requests.items }
     requires free { first_blocked asked.now.requests.items opened.old.table ≡ None }
     requires number { 1 ≤ asked.now.number }
     requires database { slice_get (map (λ s. s.dbd) opened.old.stores.stores) (asked.now.number - 1) ≡ Some dbd.now }
     requires image { IsImage dbd.now edit.root edit.image }
-    requires there { IsThere (rows_in asked.now.number (rows_of opened.old.stores.stores)) (Some edit) }
+    requires there { IsThere (database_rows_in asked.now.number (rows_of_stores opened.old.stores.stores)) (Some edit) }
     requires sectors { dbd.now.sectors ≤ 1 }
     ensures abend { IfOk result (λ o. o ≡ edit_abend asked.now dbd.now edit opened.old) }
     ensures made { IfOk result (EditMade asked.now edit opened.old opened.new) }
-    ensures tells { IfOk result (λ o. Tells (told_unless o (edit_told unit asked.now.number (Some edit) opened.old.stores.stores)) room told.old.items told.new.items) }
+    ensures tells { IfOk result (λ o. TellsInRoom (told_unless o (edit_told unit asked.now.number (Some edit) opened.old.stores.stores)) room told.old.items told.new.items) }
     ensures kept { OnErr result (IsSame opened.old opened.new) }
     ensures untold { OnErr result (told.new.items ≡ told.old.items) }
     ensures full { IfErr result (IsUntoldEdit asked.now dbd.now (Some edit) opened.old unit room) }
@@ -150,7 +150,7 @@ fn tell_and_set(
 ) -> Result<(), Untold>
     requires least { 1 ≤ asked.now.region }
     requires most { asked.now.region ≤ length opened.old.units.items }
-    requires region { IsRegion opened.old.table asked.now.region }
+    requires region { IsTableRegion opened.old.table asked.now.region }
     requires own { AllByRecursion (λ request. request.region ≡ asked.now.region) asked.now.requests.items }
     requires free { first_blocked asked.now.requests.items opened.old.table ≡ None }
     requires first { 1 ≤ asked.now.number }
@@ -159,10 +159,10 @@ fn tell_and_set(
     requires room { is_full asked.now.number edit.root (changed_in asked.now.region opened.old) ≡ false }
     requires sectors { dbd.now.sectors ≤ 1 }
     ensures set { OnOk result (IsSet asked.now edit opened.old opened.new) }
-    ensures tells { OnOk result (Tells (edit_told unit asked.now.number (Some edit) opened.old.stores.stores) room told.old.items told.new.items) }
+    ensures tells { OnOk result (TellsInRoom (edit_told unit asked.now.number (Some edit) opened.old.stores.stores) room told.old.items told.new.items) }
     ensures kept { OnErr result (IsSame opened.old opened.new) }
     ensures untold { OnErr result (told.new.items ≡ told.old.items) }
-    ensures full { IfErr result (IsUntold (edit_told unit asked.now.number (Some edit) opened.old.stores.stores) room) }
+    ensures full { IfErr result (AreRecordsUntold (edit_told unit asked.now.number (Some edit) opened.old.stores.stores) room) }
 {
     let length = told.len();
     let store = opened.stores.store(asked.number);
@@ -189,7 +189,7 @@ fn set(
 ) -> Result<(), Memory>
     requires least { 1 ≤ asked.now.region }
     requires most { asked.now.region ≤ length opened.old.units.items }
-    requires region { IsRegion opened.old.table asked.now.region }
+    requires region { IsTableRegion opened.old.table asked.now.region }
     requires own { AllByRecursion (λ request. request.region ≡ asked.now.region) asked.now.requests.items }
     requires free { first_blocked asked.now.requests.items opened.old.table ≡ None }
     requires first { 1 ≤ asked.now.number }
@@ -234,7 +234,7 @@ fn prepare(
 fn keep(asked: &Asked, edit: Edit, prepared: Prepared, opened: &mut Opened) -> Result<(), Memory>
     requires least { 1 ≤ asked.now.region }
     requires most { asked.now.region ≤ length opened.old.units.items }
-    requires region { IsRegion opened.old.table asked.now.region }
+    requires region { IsTableRegion opened.old.table asked.now.region }
     requires own { AllByRecursion (λ request. request.region ≡ asked.now.region) asked.now.requests.items }
     requires free { first_blocked asked.now.requests.items opened.old.table ≡ None }
     requires first { 1 ≤ asked.now.number }
@@ -245,7 +245,7 @@ fn keep(asked: &Asked, edit: Edit, prepared: Prepared, opened: &mut Opened) -> R
     ensures units { OnOk result (opened.new.units.items ≡ slice_set opened.old.units.items (asked.now.region - 1) prepared.touched) }
     ensures asked { OnOk result (HasAskedIn asked.now opened.old.table opened.new.table) }
     ensures left { OnErr result (opened.new.units.items ≡ slice_set opened.old.units.items (asked.now.region - 1) prepared.unit) }
-    ensures order { OnOk result (AreInOrder prepared.touched.slots) }
+    ensures order { OnOk result (AreSlotsInOrder prepared.touched.slots) }
     ensures marks { OnOk result (MarksEdit asked.now.number edit opened.old.stores opened.new.stores) }
     ensures stores { OnErr result (opened.new.stores.stores ≡ opened.old.stores.stores) }
     ensures changed { OnErr result (opened.new.stores.changed ≡ opened.old.stores.changed) }

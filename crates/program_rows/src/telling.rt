@@ -2,10 +2,10 @@
 ghost use Rattle.std.specs.Prelude.{◌≡◌, ◌<◌, ◌≤◌, Some, slice_get, ◌++◌, ◌∷◌, [], length, take, map, IfErr, OnOk, OnErr};
 ghost use Rattle.std.specs.List.{AllByRecursion};
 ghost use Rattle.log_records.specs.declared.record.Record.TheVariants.{Change as ChangeRecord};
-ghost use Rattle.log_records.specs.Spelling.{spelling, IsRecord};
-ghost use Rattle.log_records.specs.Telling.{Adds, Tells, IsUntold};
-ghost use Rattle.model_data.specs.Record.{spelling as rows_spelling};
-ghost use Rattle.program_rows.specs.Telling.{slot_told, IsToldable};
+ghost use Rattle.log_records.specs.RecordSpelling.{record_spelling, IsLogRecord};
+ghost use Rattle.log_records.specs.ToldRecords.{AddsRecords, TellsInRoom, AreRecordsUntold};
+ghost use Rattle.model_data.specs.Record.{rows_spelling as rows_spelling};
+ghost use Rattle.program_rows.specs.ToldChanges.{back_out_told, IsToldable};
 
 use log_records::{Untold, append_change, end_telling};
 use seg_rows::RecordImage;
@@ -26,9 +26,9 @@ pub fn tell(
 ) -> Result<(), Untold>
     requires before { length (rows_spelling before.now) ≤ 4000 }
     requires after { length (rows_spelling after.now) ≤ 4000 }
-    ensures tells { OnOk result (Tells (ChangeRecord unit number slot (rows_spelling before.now) (rows_spelling after.now) ∷ []) room told.old.items told.new.items) }
+    ensures tells { OnOk result (TellsInRoom (ChangeRecord unit number slot (rows_spelling before.now) (rows_spelling after.now) ∷ []) room told.old.items told.new.items) }
     ensures untold { OnErr result (told.new.items ≡ told.old.items) }
-    ensures full { IfErr result (IsUntold (ChangeRecord unit number slot (rows_spelling before.now) (rows_spelling after.now) ∷ []) room) }
+    ensures full { IfErr result (AreRecordsUntold (ChangeRecord unit number slot (rows_spelling before.now) (rows_spelling after.now) ∷ []) room) }
 {
     let start = told.len();
     let written = append_change(
@@ -51,9 +51,9 @@ pub fn tell_slots(
     told: &mut Vec<u8>,
 ) -> Result<(), Untold>
     requires { AllByRecursion (IsToldable stores.now.stores) slots.now }
-    ensures tells { OnOk result (Tells (map (slot_told unit stores.now.stores) slots.now) room told.old.items told.new.items) }
+    ensures tells { OnOk result (TellsInRoom (map (back_out_told unit stores.now.stores) slots.now) room told.old.items told.new.items) }
     ensures untold { OnErr result (told.new.items ≡ told.old.items) }
-    ensures full { IfErr result (IsUntold (map (slot_told unit stores.now.stores) slots.now) room) }
+    ensures full { IfErr result (AreRecordsUntold (map (back_out_told unit stores.now.stores) slots.now) room) }
 {
     let start = told.len();
     let written = append_slots(told, unit, slots, stores);
@@ -68,7 +68,7 @@ fn append_slots(
     stores: &Stores,
 ) -> Result<(), Memory>
     requires { AllByRecursion (IsToldable stores.now.stores) slots.now }
-    ensures adds { OnOk result (Adds (map (slot_told unit stores.now.stores) slots.now) out.old.items out.new.items) }
+    ensures adds { OnOk result (AddsRecords (map (back_out_told unit stores.now.stores) slots.now) out.old.items out.new.items) }
     ensures kept { OnErr result (take (length out.old.items) out.new.items ≡ out.old.items) }
 {
     for change in slots {
@@ -84,8 +84,8 @@ fn append_touched(
     stores: &Stores,
 ) -> Result<(), Memory>
     requires { IsToldable stores.now.stores change.now }
-    ensures ok { OnOk result (out.new.items ≡ out.old.items ++ spelling (slot_told unit stores.now.stores change.now)) }
-    ensures valid { OnOk result (IsRecord (slot_told unit stores.now.stores change.now)) }
+    ensures ok { OnOk result (out.new.items ≡ out.old.items ++ record_spelling (back_out_told unit stores.now.stores change.now)) }
+    ensures valid { OnOk result (IsLogRecord (back_out_told unit stores.now.stores change.now)) }
     ensures unwritten { OnErr result (out.new.items ≡ out.old.items) }
 {
     let store = stores.store(change.db);

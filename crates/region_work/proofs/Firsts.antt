@@ -3,7 +3,7 @@ use Rattle.std.proofs.Common.{◌≡◌, ℕ, List, refl}
 use Rattle.std.specs.Prelude.{Option, Some, None, IfSome}
 use Rattle.model_messages.specs.declared.queued.Queued.{Queued}
 use Rattle.model_messages.specs.Queue.{AreInOrder, first_free}
-use Rattle.tran_pick.specs.Picked.{IsFirstFree}
+use Rattle.tran_pick.specs.RegionPick.{IsFirstFree}
 use Rattle.tran_pick.proofs.Found.{first_is_free}
 
 pub free_first : (code : List ℕ) (queued : List Queued) → AreInOrder queued → IfSome (first_free code queued) (λ id. IsFirstFree queued code id)

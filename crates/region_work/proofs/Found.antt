@@ -9,10 +9,10 @@ use Rattle.model_messages.specs.Room.{slot_room}
 use Rattle.model_system.specs.declared.code.Code.{Code}
 use Rattle.model_system.specs.declared.code_state.CodeState.{CodeState}
 use Rattle.model_system.specs.Codes.{code_at, code_place}
-use Rattle.model_machine.specs.Steps.{may_go_on}
+use Rattle.model_machine.specs.MachineCalls.{may_go_on}
 use Rattle.system_types.proofs.Indexed.{found_at}
-use Rattle.lasting_state.specs.Tables.{TablesState, content_of}
-use Rattle.region_work.specs.Ends.{goes_on_with}
+use Rattle.lasting_state.specs.Tables.{TablesState, tables_content}
+use Rattle.region_work.specs.WorkEnds.{goes_on_with}
 
 module _ (qbytes : ℕ) (tables : TablesState) (name : List ℕ) (taken busy : ℕ) (code : Code) (state : CodeState) where
   pub found_here : (codes : List Code) (states : List CodeState) (place : ℕ) → code_place codes name ≡ Some place → place < length codes → place < length states
@@ -25,11 +25,11 @@ module _ (qbytes : ℕ) (tables : TablesState) (name : List ℕ) (taken busy : �
       sym (ap (option_and_then (slice_get states)) at ∙ slice_get_read states (length states) place state refl within_states state_is) in
       ap (λ c. goes_on_with qbytes tables name taken busy c (Some state)) here ∙ ap (goes_on_with qbytes tables name taken busy (code_at codes name)) there
 
-  pub goes : (found : Option ℕ) → may_go_on code.transaction state taken ≡ true → nat_le (content_of tables + slot_room * busy) qbytes ≡ true → found ≡ first_free name tables.queues.queued
+  pub goes : (found : Option ℕ) → may_go_on code.transaction state taken ≡ true → nat_le (tables_content tables + slot_room * busy) qbytes ≡ true → found ≡ first_free name tables.queues.queued
       → found ≡ goes_on_with qbytes tables name taken busy (Some code) (Some state)
   goes found may has is =
-      is ∙ sym (ap (λ b. if b && nat_le (content_of tables + slot_room * busy) qbytes then first_free name tables.queues.queued else None) may
+      is ∙ sym (ap (λ b. if b && nat_le (tables_content tables + slot_room * busy) qbytes then first_free name tables.queues.queued else None) may
       ∙ ap (λ b. if b then first_free name tables.queues.queued else None) has)
 
   pub ends : may_go_on code.transaction state taken ≡ false → None ≡ goes_on_with qbytes tables name taken busy (Some code) (Some state)
-  ends may = sym (ap (λ b. if b && nat_le (content_of tables + slot_room * busy) qbytes then first_free name tables.queues.queued else None) may)
+  ends may = sym (ap (λ b. if b && nat_le (tables_content tables + slot_room * busy) qbytes then first_free name tables.queues.queued else None) may)

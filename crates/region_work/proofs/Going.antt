@@ -4,7 +4,7 @@ use Rattle.std.specs.Prelude.{Option, Some, None, IsSomeAnd, Result, Ok, Err, If
 use Rattle.tm_types.specs.declared.message.Message.{Message}
 use Rattle.model_messages.specs.declared.conversation.TerminalConversation.{TerminalConversation}
 use Rattle.model_messages.specs.declared.queued.Queued.{Queued}
-use Rattle.model_messages.specs.Queue.{message_at, messages_of}
+use Rattle.model_messages.specs.Queue.{queued_message, messages_of}
 use Rattle.model_messages.proofs.Laws.{message_found}
 use Rattle.model_system.specs.Jobs.{Job, job_of}
 use Rattle.model_system.specs.System.{System}
@@ -14,16 +14,16 @@ use Rattle.model_machine.specs.Trial.{Given, trial_of}
 use Rattle.log_records.specs.declared.record.Record.{Record}
 use Rattle.log_records.specs.declared.untold.Untold.{Untold}
 use Rattle.log_records.specs.declared.untold.Untold.TheVariants.{Memory, Full}
-use Rattle.lasting_state.specs.Untold.{WhereFull}
-use Rattle.program_rows.specs.State.{DatabasesState, committed_rows}
+use Rattle.lasting_state.specs.UntoldSteps.{WhereFull}
+use Rattle.program_rows.specs.DatabasesState.{DatabasesState, committed_rows}
 use Rattle.message_run.specs.declared.run.Advanced.{Advanced}
-use Rattle.message_run.specs.Ahead.{IsStart, IsAhead, GoesOn}
-use Rattle.message_run.specs.Telling.{next_told, TellsOn, IsUntoldOn}
+use Rattle.message_run.specs.WorkAhead.{IsStart, IsAhead, WorkGoesOn}
+use Rattle.message_run.specs.MessageChanges.{next_told, TellsOn, IsUntoldOn}
 use Rattle.message_run.specs.RunState.{RunState}
 use Rattle.lasting_state.specs.Tables.{TablesState}
 use Rattle.region_work.specs.declared.region.Busy.{Busy}
 use Rattle.region_work.proofs.Kept.{all_found}
-use Rattle.region_work.specs.Region.{given_in, HasPad, HavePads, GoesSo, TellsSo, IsLongerSo, HasNext, IsStartedIn, IsStartedOn, NextTells, StepsOn, Steps}
+use Rattle.region_work.specs.RegionWork.{given_in, HasPad, HavePads, GoesSo, TellsSo, IsLongerSo, HasNext, IsStartedIn, IsStartedOn, NextTells, WorkStepsOn, RegionSteps}
 
 -- a work that is started serves the code's job
 pub starts : {E : Type 0} (system : System) (code : List ℕ) (given : Given) (lent : Lent) (made : Result RunState E) → job_of system code ≡ Some (lent_job system lent)
@@ -36,12 +36,12 @@ some_same a b e = cc
 
 -- what goes on by the job that is lent goes on by the code's
 pub goes_so : {E : Type 0} (system : System) (region : ℕ) (code : List ℕ) (lent : Lent) (before after : DatabasesState) (old new : RunState) (made : Result Advanced E)
-    → job_of system code ≡ Some (lent_job system lent) → IfOk made (GoesOn (lent_job system lent) region before after old new) → IfOk made (GoesSo system region code before after old new)
+    → job_of system code ≡ Some (lent_job system lent) → IfOk made (WorkGoesOn (lent_job system lent) region before after old new) → IfOk made (GoesSo system region code before after old new)
 goes_so system region code lent before after old new (Ok advanced) e h = λ given job serves ahead. record {
   job = job;
   serves = serves;
   ahead = ahead;
-  advances = subst (λ j. GoesOn j region before after old new advanced) (some_same (lent_job system lent) job (sym e ∙ serves)) h given ahead;
+  advances = subst (λ j. WorkGoesOn j region before after old new advanced) (some_same (lent_job system lent) job (sym e ∙ serves)) h given ahead;
 }
 goes_so system region code lent before after old new (Err error) e h = tt
 
@@ -67,7 +67,7 @@ pub next_from : (system : System) (region unit : ℕ) (tables : TablesState) (ol
     → middle.code ≡ old.code
     → ((given : Given) (job : Job) → job_of system middle.code ≡ Some job → (ahead : IsAhead job given region tables.databases before) → holds (next_told unit region tables.databases job ahead.trial))
     → NextTells system region unit tables holds (Some old)
-next_from system region unit tables old middle before holds taken out all = by (message_at old.id tables.queues.queued) taken
+next_from system region unit tables old middle before holds taken out all = by (queued_message old.id tables.queues.queued) taken
   where
     one : (given : Given) → IsStartedOn system tables.databases region given old before → HasNext system region unit tables.databases given old holds
     one given t = record {
@@ -86,14 +86,14 @@ next_from system region unit tables old middle before holds taken out all = by (
 -- a work that was started made a step
 pub steps_from : (system : System) (region : ℕ) (tables : TablesState) (left databases : DatabasesState) (old middle new : Busy) (before after : RunState) (advanced : Advanced) → IsStartedIn system tables region old before
     → middle ≡ record old { unit = middle.unit } → databases ≡ tables.databases → GoesSo system region middle.code databases left before after advanced → new ≡ record middle { unit = Some after }
-    → Steps system region tables left (Some old) (Some new) (Some advanced)
+    → RegionSteps system region tables left (Some old) (Some new) (Some advanced)
 steps_from system region tables left databases old middle new before after advanced taken out same goes is =
-    by (message_at old.id tables.queues.queued) taken
+    by (queued_message old.id tables.queues.queued) taken
   where
     new_is : new ≡ record old { unit = Some after }
     new_is = is ∙ ap (λ (b : Busy). record b { unit = Some after }) out
 
-    one : (given : Given) → IsStartedOn system tables.databases region given old before → StepsOn system region tables.databases left given old new advanced
+    one : (given : Given) → IsStartedOn system tables.databases region given old before → WorkStepsOn system region tables.databases left given old new advanced
     one given t = record {
       same = record { code = ap (λ b. b.code) new_is; taken = ap (λ b. b.taken) new_is; id = ap (λ b. b.id) new_is };
       before = before;
@@ -105,12 +105,12 @@ steps_from system region tables left databases old middle new before after advan
     }
 
     by : (found : Option Message) → IsSomeAnd found (λ message. IsStartedOn system tables.databases region (given_in tables.conversations message) old before)
-        → IsSomeAnd found (λ message. StepsOn system region tables.databases left (given_in tables.conversations message) old new advanced)
+        → IsSomeAnd found (λ message. WorkStepsOn system region tables.databases left (given_in tables.conversations message) old new advanced)
     by (Some message) t = one (given_in tables.conversations message) t
     by None t = absurd t
 
 -- the message of a work is given as it may be
-pub pad_found : (conversations : List TerminalConversation) (queued : List Queued) (id : ℕ) (message : Message) → HavePads conversations (messages_of queued) → Some message ≡ message_at id queued
+pub pad_found : (conversations : List TerminalConversation) (queued : List Queued) (id : ℕ) (message : Message) → HavePads conversations (messages_of queued) → Some message ≡ queued_message id queued
     → HasPad conversations message
 pad_found conversations queued id message have e =
     all_found (HasPad conversations) (messages_of queued) id message have (message_found id queued ∙ sym e)

@@ -1,2 +1,2 @@
-pub mod Region
-pub mod Ends
+pub mod RegionWork
+pub mod WorkEnds

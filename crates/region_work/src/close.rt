@@ -1,16 +1,16 @@
 //! The end of a region's work on a message.
 ghost use Rattle.std.specs.Prelude.{◌≡◌, ◌≤◌, ◌-◌, ◌∷◌, None, Some, length, slice_get, slice_set, IfOk, IfErr, OnOk, OnErr, IsSome, IsSomeAnd};
-ghost use Rattle.model_messages.specs.Queue.{AreInOrder, IsNewId, message_at, queued_at};
-ghost use Rattle.model_machine.specs.Lasting.{abend_outputs, discarded_pad};
-ghost use Rattle.model_machine.specs.Lasting.LastingStep.{Completes, Discards};
-ghost use Rattle.log_records.specs.Spelling.{IsAbend};
-ghost use Rattle.lasting_state.specs.Ranges.{HaveCounts, HasShortPad};
-ghost use Rattle.lasting_state.specs.Untold.{WhereFull};
-ghost use Rattle.program_rows.specs.State.{committed_rows, dbds_of, region_at, AreRowsOf, IsRegionOf};
-ghost use Rattle.program_rows.specs.Answering.{IsCommitted, IsGivenUp};
-ghost use Rattle.lasting_state.specs.Tables.{given_back, with_databases, Applies, IsClosed};
-ghost use Rattle.lasting_state.specs.Telling.{IsLonger, Tells};
-ghost use Rattle.region_work.specs.Ends.{destinations};
+ghost use Rattle.model_messages.specs.Queue.{AreInOrder, IsNewId, queued_message, queued_at};
+ghost use Rattle.model_machine.specs.LastingSteps.{abend_outputs, discarded_pad};
+ghost use Rattle.model_machine.specs.LastingSteps.LastingStep.{Completes, Discards};
+ghost use Rattle.log_records.specs.RecordSpelling.{IsAbend};
+ghost use Rattle.lasting_state.specs.RecordRanges.{HaveCounts, HasShortPad};
+ghost use Rattle.lasting_state.specs.UntoldSteps.{WhereFull};
+ghost use Rattle.program_rows.specs.DatabasesState.{committed_rows, dbds_of, region_at, AreRowsOf, IsRegionOf};
+ghost use Rattle.program_rows.specs.CallAnswers.{IsCommitted, IsGivenUp};
+ghost use Rattle.lasting_state.specs.Tables.{given_back, with_databases, Applies, IsMessageClosed};
+ghost use Rattle.lasting_state.specs.ToldSteps.{AreRecordsLonger, TellsStep};
+ghost use Rattle.region_work.specs.WorkEnds.{destinations};
 
 use crate::region::Busy;
 use lasting_state::{Tables, Untold};
@@ -55,11 +55,11 @@ pub fn complete(
     requires counts { HaveCounts outputs.items }
     requires pad { HasShortPad pad }
     ensures regions { OnOk result (regions.new.items ≡ slice_set regions.old.items (region - 1) None) }
-    ensures told { OnOk result (Tells unit room (Completes id (region_at region tables.old.databases).rows outputs.items pad) tables.old told.old.items told.new.items) }
+    ensures told { OnOk result (TellsStep unit room (Completes id (region_at region tables.old.databases).rows outputs.items pad) tables.old told.old.items told.new.items) }
     ensures untold { OnErr result (told.new.items ≡ told.old.items) }
-    ensures full { IfErr result (WhereFull (IsLonger unit room (Completes id (region_at region tables.old.databases).rows outputs.items pad) tables.old)) }
+    ensures full { IfErr result (WhereFull (AreRecordsLonger unit room (Completes id (region_at region tables.old.databases).rows outputs.items pad) tables.old)) }
     ensures step { OnOk result (Applies (Completes id (region_at region tables.old.databases).rows outputs.items pad) tables.old tables.new) }
-    ensures closed { OnOk result (IsClosed tables.new.databases (λ _. pad) (λ _. outputs.items) tables.old tables.new id) }
+    ensures closed { OnOk result (IsMessageClosed tables.new.databases (λ _. pad) (λ _. outputs.items) tables.old tables.new id) }
     ensures databases { OnOk result (IsCommitted region tables.old.databases tables.new.databases) }
     ensures rows { OnOk result (AreRowsOf (dbds_of tables.new.databases) (committed_rows tables.new.databases)) }
     ensures dbds { dbds_of tables.new.databases ≡ dbds_of tables.old.databases }
@@ -91,11 +91,11 @@ pub fn discard(
     requires found { IsSome (queued_at id tables.old.queues.queued) }
     requires abend { IsAbend abend.number }
     ensures regions { OnOk result (regions.new.items ≡ slice_set regions.old.items (region - 1) None) }
-    ensures told { OnOk result (Tells unit room (Discards id abend) tables.old told.old.items told.new.items) }
+    ensures told { OnOk result (TellsStep unit room (Discards id abend) tables.old told.old.items told.new.items) }
     ensures untold { OnErr result (told.new.items ≡ told.old.items) }
-    ensures full { IfErr result (WhereFull (IsLonger unit room (Discards id abend) tables.old)) }
+    ensures full { IfErr result (WhereFull (AreRecordsLonger unit room (Discards id abend) tables.old)) }
     ensures step { OnOk result (Applies (Discards id abend) tables.old tables.new) }
-    ensures closed { OnOk result (IsClosed tables.new.databases discarded_pad (λ message. abend_outputs message abend) tables.old tables.new id) }
+    ensures closed { OnOk result (IsMessageClosed tables.new.databases discarded_pad (λ message. abend_outputs message abend) tables.old tables.new id) }
     ensures databases { OnOk result (IsGivenUp region tables.old.databases tables.new.databases) }
     ensures dbds { dbds_of tables.new.databases ≡ dbds_of tables.old.databases }
     ensures same { OnErr result (regions.new ≡ regions.old) }
@@ -131,8 +131,8 @@ fn empty(region: &mut Option<Busy>)
 
 /// The code of the message of this id.
 pub fn code_of(tables: &Tables, id: u64) -> Name
-    requires { IsSome (message_at id tables.now.queues.queued) }
-    ensures { IsSomeAnd (message_at id tables.now.queues.queued) (λ message. result ≡ message.code) }
+    requires { IsSome (queued_message id tables.now.queues.queued) }
+    ensures { IsSomeAnd (queued_message id tables.now.queues.queued) (λ message. result ≡ message.code) }
 {
     let Some(message) = tables.queues().find(id) else {
         unreachable!()

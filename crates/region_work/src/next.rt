@@ -4,10 +4,10 @@ ghost use Rattle.std.specs.Option.{option_and_then};
 ghost use Rattle.model_messages.specs.Queue.{first_free};
 ghost use Rattle.model_messages.specs.Room.{slot_room};
 ghost use Rattle.model_system.specs.Codes.{code_at, code_place};
-ghost use Rattle.model_machine.specs.Steps.{may_go_on};
-ghost use Rattle.lasting_state.specs.Tables.{content_of};
-ghost use Rattle.tran_pick.specs.Picked.{IsFirstFree};
-ghost use Rattle.region_work.specs.Ends.{goes_on_with};
+ghost use Rattle.model_machine.specs.MachineCalls.{may_go_on};
+ghost use Rattle.lasting_state.specs.Tables.{tables_content};
+ghost use Rattle.tran_pick.specs.RegionPick.{IsFirstFree};
+ghost use Rattle.region_work.specs.WorkEnds.{goes_on_with};
 
 use lasting_state::Tables;
 use model_system::{CodeState, Transaction};
@@ -26,7 +26,7 @@ fn may_go_on(transaction: &Transaction, state: &CodeState, taken: u64) -> bool
 
 /// Whether the queues have room for so many regions at work.
 fn has_room(tables: &Tables, limit: u32, busy: u32) -> bool
-    ensures { result ≡ nat_le (content_of tables.now + slot_room * busy) limit }
+    ensures { result ≡ nat_le (tables_content tables.now + slot_room * busy) limit }
 {
     tables.content() + SLOT_ROOM * u64::from(busy) <= u64::from(limit)
 }

@@ -5,15 +5,15 @@ ghost use Rattle.io_pcb.specs.Pads.{lent_pad};
 ghost use Rattle.model_messages.specs.Queue.{messages_of, queued_at};
 ghost use Rattle.model_system.specs.Jobs.{job_of};
 ghost use Rattle.system_types.specs.Jobs.{lent_job};
-ghost use Rattle.system_types.specs.Valid.{IsServable};
-ghost use Rattle.lasting_state.specs.Tables.{held};
-ghost use Rattle.program_rows.specs.State.{dbds_of, IsRegionOf};
+ghost use Rattle.system_types.specs.ValidSystem.{IsServable};
+ghost use Rattle.lasting_state.specs.Tables.{message_held};
+ghost use Rattle.program_rows.specs.DatabasesState.{dbds_of, IsRegionOf};
 ghost use Rattle.message_run.specs.RunState.{AreStanding};
-ghost use Rattle.message_run.specs.Ahead.{IsStart, StaysUnlessCalled, StayOthers};
-ghost use Rattle.message_run.specs.Telling.{TellsNext, IsQuietUnlessCalled};
-ghost use Rattle.log_records.specs.Telling.{spelled};
-ghost use Rattle.lasting_state.specs.Untold.{WhereFull};
-ghost use Rattle.region_work.specs.Region.{given_in, HasPad, HavePads, IsQueuedWork, IsStarted, GoesSo, TellsSo, IsLongerSo, NextTells, Steps, SameWork, SuitsUnit, outputs_by, pad_by, pad_in};
+ghost use Rattle.message_run.specs.WorkAhead.{IsStart, StaysUnlessCalled, StayOthers};
+ghost use Rattle.message_run.specs.MessageChanges.{TellsNext, IsQuietUnlessCalled};
+ghost use Rattle.log_records.specs.ToldRecords.{spelled_records};
+ghost use Rattle.lasting_state.specs.UntoldSteps.{WhereFull};
+ghost use Rattle.region_work.specs.RegionWork.{given_in, HasPad, HavePads, IsQueuedWork, IsStarted, GoesSo, TellsSo, IsLongerSo, NextTells, RegionSteps, SameWork, SuitsUnit, outputs_by, pad_by, pad_in};
 
 use io_pcb::LentPad;
 use lasting_state::{Tables, Untold};
@@ -143,7 +143,7 @@ fn advance_busy(
     requires work { IsQueuedWork system.now tables.old region busy.old }
     requires pads { HavePads tables.old.conversations (messages_of tables.old.queues.queued) }
     requires databases { dbds_of tables.old.databases ≡ system.now.databases }
-    ensures steps { IfOk result (λ advanced. Steps system.now region tables.old tables.new.databases (Some busy.old) (Some busy.new) (Some advanced)) }
+    ensures steps { IfOk result (λ advanced. RegionSteps system.now region tables.old tables.new.databases (Some busy.old) (Some busy.new) (Some advanced)) }
     ensures tables { tables.new ≡ record tables.old { databases = tables.new.databases } }
     ensures stays { IfOk result (StaysUnlessCalled tables.old.databases tables.new.databases) }
     ensures others { StayOthers region tables.old.databases tables.new.databases }
@@ -152,7 +152,7 @@ fn advance_busy(
     ensures tells { OnOk result (NextTells system.now region unit tables.old (TellsNext unit room region tables.old.databases tables.new.databases told.old.items told.new.items) (Some busy.old)) }
     ensures quiet { IfOk result (IsQuietUnlessCalled told.old.items told.new.items) }
     ensures untold { OnErr result (told.new.items ≡ told.old.items) }
-    ensures full { IfErr result (WhereFull (NextTells system.now region unit tables.old (λ records. room < length (spelled records)) (Some busy.old))) }
+    ensures full { IfErr result (WhereFull (NextTells system.now region unit tables.old (λ records. room < length (spelled_records records)) (Some busy.old))) }
 {
     start(alloc, system, tables, busy)?;
     match &mut busy.unit {
@@ -187,7 +187,7 @@ pub fn advance(
     requires work { IfSome work.old (IsQueuedWork system.now tables.old region) }
     requires pads { HavePads tables.old.conversations (messages_of tables.old.queues.queued) }
     requires databases { dbds_of tables.old.databases ≡ system.now.databases }
-    ensures steps { IfOk result (Steps system.now region tables.old tables.new.databases work.old work.new) }
+    ensures steps { IfOk result (RegionSteps system.now region tables.old tables.new.databases work.old work.new) }
     ensures tables { tables.new ≡ record tables.old { databases = tables.new.databases } }
     ensures stays { IfOk result (λ advanced. IfSome advanced (StaysUnlessCalled tables.old.databases tables.new.databases)) }
     ensures others { StayOthers region tables.old.databases tables.new.databases }
@@ -196,7 +196,7 @@ pub fn advance(
     ensures tells { OnOk result (NextTells system.now region unit tables.old (TellsNext unit room region tables.old.databases tables.new.databases told.old.items told.new.items) work.old) }
     ensures quiet { IfOk result (λ advanced. IfSome advanced (IsQuietUnlessCalled told.old.items told.new.items)) }
     ensures untold { OnErr result (told.new.items ≡ told.old.items) }
-    ensures full { IfErr result (WhereFull (NextTells system.now region unit tables.old (λ records. room < length (spelled records)) work.old)) }
+    ensures full { IfErr result (WhereFull (NextTells system.now region unit tables.old (λ records. room < length (spelled_records records)) work.old)) }
 {
     let Some(busy) = work else {
         return Ok(None);
@@ -260,7 +260,7 @@ pub fn take(tables: &mut Tables, regions: &mut Vec<Option<Busy>>, region: u32, b
     requires free { IsSomeAnd (queued_at busy.id tables.old.queues.queued) (λ q. q.holder ≡ None) }
     requires positive { 1 ≤ region }
     requires defined { region ≤ length regions.old.items }
-    ensures tables { tables.new ≡ held tables.old busy.id region }
+    ensures tables { tables.new ≡ message_held tables.old busy.id region }
     ensures regions { regions.new.items ≡ slice_set regions.old.items (region - 1) (Some busy) }
 {
     tables.hold(busy.id, region);

@@ -1,11 +1,11 @@
 -- Which image has which restart sector and which snapshot: before, during and after.
 use Rattle.std.proofs.Common.{◌≡◌, ◌⊎◌, ℕ, zero, suc, ◌+◌, ◌<◌, ◌≤◌, ◌^◌, List, [], length, refl, ◌∙◌, ap, inl, inr, ⊎_elim, arith}
 use Rattle.std.proofs.lemmas.List.{get_or-set_same, get_or-set_other}
-use Rattle.tm_disk.specs.Disk.{Image, sector_at, with_sector, MayWrite}
+use Rattle.tm_disk.specs.Disk.{Image, sector_at, with_sector, MayWrite, ChangesOnly}
 use Rattle.restart_data.specs.declared.restart.RestartSector.{RestartSector}
 use Rattle.restart_data.specs.Restart.{restart_sector, IsRestart, restart_of, restart_in}
-use Rattle.restart_data.specs.Snapshot.{part_of, part_in, and_then, parts_in, snapshot_in}
-use Rattle.restart_data.specs.Images.{ChangesOnly, Restarts}
+use Rattle.restart_data.specs.Snapshot.{part_of, part_in, bytes_and_then, parts_in, snapshot_in}
+use Rattle.restart_data.specs.WrittenSectors.{Restarts}
 use Rattle.restart_data.proofs.RestartBack.{restart_back_is_read}
 
 -- the restart sector was set
@@ -31,8 +31,8 @@ others_stay r before after restarts k behind =
 pub parts_same : (count : ℕ) (before after : Image) (at checkpoint place : ℕ) → ((k : ℕ) → at ≤ k → k < at + count → sector_at after k ≡ sector_at before k) → parts_in count after at checkpoint place ≡ parts_in count before at checkpoint place
 parts_same zero before after at checkpoint place same = refl
 parts_same (suc n) before after at checkpoint place same =
-    ap (λ (s : List ℕ). and_then (part_in at (part_of n checkpoint place s)) (parts_in n after (at + 1) checkpoint (place + 1))) (same at (omega arith) (omega arith))
-    ∙ ap (λ (rest : _). and_then (part_in at (part_of n checkpoint place (sector_at before at))) rest)
+    ap (λ (s : List ℕ). bytes_and_then (part_in at (part_of n checkpoint place s)) (parts_in n after (at + 1) checkpoint (place + 1))) (same at (omega arith) (omega arith))
+    ∙ ap (λ (rest : _). bytes_and_then (part_in at (part_of n checkpoint place (sector_at before at))) rest)
     (parts_same n before after (at + 1) checkpoint (place + 1) (λ k low high. same k (omega (arith, low)) (omega (arith, high))))
 
 -- A new restart sector leaves each snapshot as it was.

@@ -3,7 +3,6 @@ pub mod Numbers
 pub mod Sealing
 pub mod RestartBack
 pub mod SnapshotBack
-pub mod Answering
 pub mod Judging
 pub mod Gathering
 pub mod Laying

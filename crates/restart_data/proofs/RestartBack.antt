@@ -5,8 +5,8 @@ use Rattle.std.proofs.lemmas.Bool.{le-ltb, lt-leb, ne_eqb}
 use Rattle.std.proofs.lemmas.Nat.{from_be_bytes-to_be_bytes_4, from_be_bytes-to_be_bytes_8}
 use Rattle.restart_data.specs.declared.restart.RestartSector.{RestartSector}
 use Rattle.restart_data.specs.Fields.{bytes_at, byte_at, number4_at, number8_at, are_zeros}
-use Rattle.restart_data.specs.Rules.{first_broken, unless_broken}
-use Rattle.restart_data.specs.Restart.{restart_front, restart_back, restart_sector, IsCounter, IsRestart, fields_of, other_letters, other_version, other_area, wrong_size, wrong_counter, wrong_counters, stray_bytes, long_text, restart_rules, restart_of}
+use Rattle.restart_data.specs.Rules.{first_broken, unless_rule_broken}
+use Rattle.restart_data.specs.Restart.{restart_front, restart_back, restart_sector, IsCounter, IsRestart, fields_of, other_letters, other_version, has_other_area, wrong_size, wrong_counter, wrong_counters, stray_bytes, long_text, restart_rules, restart_of}
 use Rattle.restart_data.proofs.Zeros.{are_zeros-zeros}
 use Rattle.restart_data.proofs.Judging.{not_broken, neither, same_bytes, unbroken}
 
@@ -79,7 +79,7 @@ six_kept : (a b c d e f : Bool) → a ≡ false → b ≡ false → c ≡ false 
 six_kept a b c d e f is_a is_b is_c is_d is_e is_f = rw (is_a, is_b, is_c, is_d, is_e, is_f) refl
 
 module _ (r : RestartSector) (is : IsRestart r) where
-  area_kept : other_area r ≡ false
+  area_kept : has_other_area r ≡ false
   area_kept = neither (nat_lt 1 r.snapshot) (nat_lt 1 r.log) (le-ltb 1 r.snapshot is.snapshot) (le-ltb 1 r.log is.log)
 
   size_kept : (most : ℕ) → r.sectors ≤ most → wrong_size most r ≡ false
@@ -98,10 +98,10 @@ module _ (r : RestartSector) (is : IsRestart r) where
   rules_kept most le fits =
       let s = restart_sector r in
       let back = fields_back r is fits in
-      six_kept (other_letters s) (other_version s) (other_area (fields_of s)) (wrong_size most (fields_of s)) (wrong_counters (fields_of s)) (stray_bytes s || long_text (fields_of s))
+      six_kept (other_letters s) (other_version s) (has_other_area (fields_of s)) (wrong_size most (fields_of s)) (wrong_counters (fields_of s)) (stray_bytes s || long_text (fields_of s))
       (same_bytes (bytes_at 0 4 s) (codes "IMSR") (letters_at r))
       (ap (λ k. not (k == 1)) (version_at r))
-      (ap other_area back ∙ area_kept)
+      (ap has_other_area back ∙ area_kept)
       (ap (wrong_size most) back ∙ size_kept most le)
       (ap wrong_counters back ∙ counters_kept)
       (neither (stray_bytes s) (long_text (fields_of s))
@@ -116,6 +116,6 @@ pub restart_back_is_read : (r : RestartSector) → IsRestart r → r.sectors < 2
 unfolding restart_of
 restart_back_is_read r is fits most le =
     let s = restart_sector r in
-    chosen_where (are_zeros s) (Ok None) (unless_broken (first_broken (restart_rules most s)) (Some (fields_of s))) (not_all_zero r)
+    chosen_where (are_zeros s) (Ok None) (unless_rule_broken (first_broken (restart_rules most s)) (Some (fields_of s))) (not_all_zero r)
     ∙ unbroken (first_broken (restart_rules most s)) (Some (fields_of s)) (rules_kept r is most le fits)
     ∙ ap (λ (x : RestartSector). Ok (Some x)) (fields_back r is fits)

@@ -8,7 +8,7 @@ use Rattle.tm_disk.specs.Disk.{Image, sector_at}
 use Rattle.tm_disk.specs.Sector.{zeros}
 use Rattle.restart_data.specs.Fields.{bytes_at, number2_at, number8_at, are_zeros}
 use Rattle.restart_data.specs.Rules.{first_broken}
-use Rattle.restart_data.specs.Snapshot.{snapshot_header, snapshot_sector, sectors_of, piece, used_of, payload_of, other_letters, other_place, wrong_used, stray_snapshot, snapshot_rules, part_of, part_in, and_then, parts_in}
+use Rattle.restart_data.specs.Snapshot.{snapshot_header, snapshot_sector, snapshot_sectors_of, snapshot_piece, used_of, snapshot_payload_of, other_letters, other_place, wrong_used, stray_snapshot, snapshot_sector_rules, part_of, part_in, bytes_and_then, parts_in}
 use Rattle.restart_data.proofs.Zeros.{are_zeros-zeros}
 use Rattle.restart_data.proofs.Judging.{not_broken, neither, same_bytes, unbroken}
 
@@ -43,7 +43,7 @@ module _ (checkpoint place : ℕ) (payload : List ℕ) where
   unfolding snapshot_sector snapshot_header are_zeros
   six_zeros = refl
 
-  payload_back : length payload ≤ 4064 → payload_of (snapshot_sector checkpoint place payload) ≡ payload
+  payload_back : length payload ≤ 4064 → snapshot_payload_of (snapshot_sector checkpoint place payload) ≡ payload
   payload_back fits =
       ap (λ k. take k (drop 32 (snapshot_sector checkpoint place payload))) (used_at fits)
       ∙ ap (λ (l : List ℕ). take (length payload) l) rest_at
@@ -79,7 +79,7 @@ unfolding part_of
 part_back behind checkpoint place payload small far some fits full =
     let s = snapshot_sector checkpoint place payload in
     let used = used_at checkpoint place payload fits in
-    unbroken (first_broken (snapshot_rules behind checkpoint place s)) (payload_of s)
+    unbroken (first_broken (snapshot_sector_rules behind checkpoint place s)) (snapshot_payload_of s)
     (three_kept (other_place checkpoint place s) (wrong_used behind (used_of s)) (stray_snapshot s)
     (neither (other_letters s || not (number8_at 8 s == checkpoint)) (not (number8_at 16 s == place))
     (neither (other_letters s) (not (number8_at 8 s == checkpoint)) (same_bytes (bytes_at 0 4 s) (codes "IMSS") (letters_at checkpoint place payload)) (not_broken (number8_at 8 s == checkpoint) (eq-eqb (number8_at 8 s) checkpoint (checkpoint_at checkpoint place payload small))))
@@ -97,13 +97,13 @@ pub record Needs (n : ℕ) (bytes : List ℕ) : Type 0 where
   pub enough : length bytes ≤ n * 4064
   pub all_needed : n * 4064 < length bytes + 4064
 
-pub needs_sectors : (bytes : List ℕ) → Needs (sectors_of (length bytes)) bytes
+pub needs_sectors : (bytes : List ℕ) → Needs (snapshot_sectors_of (length bytes)) bytes
 needs_sectors bytes = record { enough = omega arith; all_needed = omega arith }
 
-next_piece : (x : ℕ) (bytes : List ℕ) → piece x (drop 4064 bytes) ≡ piece (x + 1) bytes
+next_piece : (x : ℕ) (bytes : List ℕ) → snapshot_piece x (drop 4064 bytes) ≡ snapshot_piece (x + 1) bytes
 next_piece x bytes = ap (λ (l : List ℕ). take 4064 l) (drop-drop (x * 4064) 4064 bytes ∙ ap (λ k. drop k bytes) (omega arith))
 
-pub parts_back : (n : ℕ) (image : Image) (at checkpoint place : ℕ) (bytes : List ℕ) → checkpoint < 2 ^ 64 → place + n ≤ 2 ^ 64 → Needs n bytes → ((x : ℕ) → x < n → sector_at image (at + x) ≡ snapshot_sector checkpoint (place + x) (piece x bytes)) → parts_in n image at checkpoint place ≡ Ok bytes
+pub parts_back : (n : ℕ) (image : Image) (at checkpoint place : ℕ) (bytes : List ℕ) → checkpoint < 2 ^ 64 → place + n ≤ 2 ^ 64 → Needs n bytes → ((x : ℕ) → x < n → sector_at image (at + x) ≡ snapshot_sector checkpoint (place + x) (snapshot_piece x bytes)) → parts_in n image at checkpoint place ≡ Ok bytes
 parts_back zero image at checkpoint place bytes small far needs each =
     ap (λ (l : List ℕ). Ok l) (sym (nil_from_length bytes (omega (arith, needs.enough))))
 parts_back (suc n) image at checkpoint place bytes small far needs each =
@@ -125,10 +125,10 @@ parts_back (suc n) image at checkpoint place bytes small far needs each =
     (record { enough = omega (arith, length-drop 4064 bytes, needs.enough); all_needed = omega (arith, length-drop 4064 bytes, needs.all_needed, needs.enough) })
     (λ x lt.
     ap (λ k. sector_at image k) (omega arith) ∙ each (x + 1) (omega (arith, lt))
-    ∙ ap (λ k. snapshot_sector checkpoint k (piece (x + 1) bytes)) (omega arith)
+    ∙ ap (λ k. snapshot_sector checkpoint k (snapshot_piece (x + 1) bytes)) (omega arith)
     ∙ ap (snapshot_sector checkpoint ((place + 1) + x)) (sym (next_piece x bytes))) in
-    ap (λ (r : Result (List ℕ) ℕ). and_then (part_in at r) (parts_in n image (at + 1) checkpoint (place + 1))) part
-    ∙ ap (and_then (Ok first)) others
+    ap (λ (r : Result (List ℕ) ℕ). bytes_and_then (part_in at r) (parts_in n image (at + 1) checkpoint (place + 1))) part
+    ∙ ap (bytes_and_then (Ok first)) others
     ∙ ap (λ (l : List ℕ). Ok l) (take-append-drop 4064 bytes) where
       zero_or_more : (n : ℕ) → (n ≡ 0) ⊎ (0 < n)
       zero_or_more zero = inl refl

@@ -4,9 +4,9 @@ use Rattle.std.specs.Prelude.{Option, IfSome, ◌==◌, nat_lt, nat_le, if◌the
 use Rattle.std.proofs.lemmas.Bool.{ltb-false, leb-false}
 use Rattle.restart_data.specs.declared.restart.RestartSector.{RestartSector}
 use Rattle.restart_data.specs.Fields.{are_zeros}
-use Rattle.restart_data.specs.Rules.{first_broken, unless_broken}
-use Rattle.restart_data.specs.Restart.{IsCounter, fields_of, other_letters, other_version, other_area, wrong_size, wrong_counter, wrong_counters, stray_bytes, long_text, restart_rules, restart_of}
-use Rattle.restart_data.specs.Images.{IsValid}
+use Rattle.restart_data.specs.Rules.{first_broken, unless_rule_broken}
+use Rattle.restart_data.specs.Restart.{IsCounter, fields_of, other_letters, other_version, has_other_area, wrong_size, wrong_counter, wrong_counters, stray_bytes, long_text, restart_rules, restart_of}
+use Rattle.restart_data.specs.WrittenSectors.{IsValid}
 
 kept_left : (a b : Bool) → a || b ≡ false → a ≡ false
 kept_left false b e = refl
@@ -43,7 +43,7 @@ counter n e =
 rules_keep : (most : ℕ) (sector : List ℕ) → first_broken (restart_rules most sector) ≡ None → IsValid most (fields_of sector)
 rules_keep most sector e =
     let r = fields_of sector in
-    let kept = all_kept (other_letters sector) (other_version sector) (other_area r) (wrong_size most r) (wrong_counters r) (stray_bytes sector || long_text r) e in
+    let kept = all_kept (other_letters sector) (other_version sector) (has_other_area r) (wrong_size most r) (wrong_counters r) (stray_bytes sector || long_text r) e in
     let area = kept.area in
     let size = kept.size in
     let counters = kept.counters in
@@ -62,7 +62,7 @@ rules_keep most sector e =
       fits = ltb-false most r.sectors (kept_right (r.sectors == 0) (nat_lt most r.sectors) size);
     }
 
-judged : (most : ℕ) (sector : List ℕ) (r : RestartSector) (first : Option ℕ) → first_broken (restart_rules most sector) ≡ first → unless_broken first (Some (fields_of sector)) ≡ Ok (Some r) → IsValid most r
+judged : (most : ℕ) (sector : List ℕ) (r : RestartSector) (first : Option ℕ) → first_broken (restart_rules most sector) ≡ first → unless_rule_broken first (Some (fields_of sector)) ≡ Ok (Some r) → IsValid most r
 judged most sector r None is e =
     let same : fields_of sector ≡ r = cc in subst (IsValid most) same (rules_keep most sector is)
 judged most sector r (Some rule) is e = absurd (cc)
@@ -70,7 +70,7 @@ judged most sector r (Some rule) is e = absurd (cc)
 pub valid_read : (most : ℕ) (sector : List ℕ) (r : RestartSector) → restart_of most sector ≡ Ok (Some r) → IsValid most r
 unfolding restart_of
 valid_read most sector r e = by (are_zeros sector) refl e where
-  by : (b : Bool) → are_zeros sector ≡ b → (if b then Ok None else unless_broken (first_broken (restart_rules most sector)) (Some (fields_of sector))) ≡ Ok (Some r) → IsValid most r
+  by : (b : Bool) → are_zeros sector ≡ b → (if b then Ok None else unless_rule_broken (first_broken (restart_rules most sector)) (Some (fields_of sector))) ≡ Ok (Some r) → IsValid most r
   by true is f = absurd (cc)
   by false is f = judged most sector r (first_broken (restart_rules most sector)) refl f
 

@@ -1,25 +1,10 @@
 -- Zeros, and a sector of them into which bytes are put.
-use Rattle.std.proofs.Common.{◌≡◌, ℕ, zero, suc, ◌+◌, ◌-◌, ◌≤◌, true, List, ◌++◌, length, take, drop, refl, sym, ◌∙◌, ap, arith}
+use Rattle.std.proofs.Common.{◌≡◌, ℕ, zero, suc, ◌+◌, ◌-◌, true, List, ◌++◌, length, take, drop, refl, sym, ◌∙◌, ap, arith}
 use Rattle.std.specs.Prelude.{replicate}
-use Rattle.std.proofs.lemmas.List.{length-replicate, drop-replicate, take-replicate, drop_at, take_at, drop-drop}
+use Rattle.std.proofs.lemmas.List.{drop_at, take_at, drop-drop}
 use Rattle.tm_disk.specs.Sector.{zeros, blank}
 use Rattle.restart_data.specs.Fields.{are_zeros}
-
-pub length-zeros : (n : ℕ) → length (zeros n) ≡ n
-unfolding zeros
-length-zeros n = length-replicate n 0
-
-pub drop-zeros : (m n : ℕ) → drop m (zeros n) ≡ zeros (n - m)
-unfolding zeros
-drop-zeros m n = drop-replicate m n 0
-
-pub take-zeros : (m n : ℕ) → m ≤ n → take m (zeros n) ≡ zeros m
-unfolding zeros
-take-zeros m n le = take-replicate m n 0 le
-
-pub blank_is : blank ≡ zeros 4096
-unfolding blank
-blank_is = refl
+use Rattle.tm_disk.proofs.Zeros.{drop-zeros, blank_is}
 
 are_zeros-replicate : (n : ℕ) → are_zeros (replicate n 0) ≡ true
 unfolding are_zeros

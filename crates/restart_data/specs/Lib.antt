@@ -2,5 +2,5 @@ pub mod Fields
 pub mod Rules
 pub mod Restart
 pub mod Snapshot
-pub mod Gathering
-pub mod Images
+pub mod GatheredBytes
+pub mod WrittenSectors

@@ -6,7 +6,7 @@ use Rattle.tm_disk.specs.Disk.{Image, sector_at}
 use Rattle.tm_disk.specs.Sector.{zeros}
 use Rattle.restart_data.specs.declared.restart.RestartSector.{RestartSector}
 use Rattle.restart_data.specs.Fields.{bytes_at, byte_at, number4_at, number8_at, are_zeros}
-use Rattle.restart_data.specs.Rules.{first_broken, unless_broken}
+use Rattle.restart_data.specs.Rules.{first_broken, unless_rule_broken}
 
 -- the letters IMSR, the version 1, the epoch, the bytes of the two areas and 2 zeros
 unfoldable pub restart_front : ℕ → ℕ → ℕ → List ℕ
@@ -58,8 +58,8 @@ abbrev pub other_version : List ℕ → Bool
 other_version sector = not (number4_at 4 sector == 1)
 
 -- there are two snapshot areas and two log areas
-abbrev pub other_area : RestartSector → Bool
-other_area r = nat_lt 1 r.snapshot || nat_lt 1 r.log
+abbrev pub has_other_area : RestartSector → Bool
+has_other_area r = nat_lt 1 r.snapshot || nat_lt 1 r.log
 
 -- a snapshot has a sector, and not more than its area
 abbrev pub wrong_size : ℕ → RestartSector → Bool
@@ -83,7 +83,7 @@ abbrev pub restart_rules : ℕ → List ℕ → List (ℕ × Bool)
 restart_rules most sector =
     (1, other_letters sector)
     ∷ (2, other_version sector)
-    ∷ (3, other_area (fields_of sector))
+    ∷ (3, has_other_area (fields_of sector))
     ∷ (4, wrong_size most (fields_of sector))
     ∷ (5, wrong_counters (fields_of sector))
     ∷ (6, stray_bytes sector || long_text (fields_of sector))
@@ -92,7 +92,7 @@ restart_rules most sector =
 -- What a sector is read as: nothing where it is all zeros, and else what it says, or the lowest rule that it breaks.
 unfoldable pub restart_of : ℕ → List ℕ → Result (Option RestartSector) ℕ
 restart_of most sector =
-    if are_zeros sector then Ok None else unless_broken (first_broken (restart_rules most sector)) (Some (fields_of sector))
+    if are_zeros sector then Ok None else unless_rule_broken (first_broken (restart_rules most sector)) (Some (fields_of sector))
 
 -- the restart sector of an image, which is its sector 0
 abbrev pub restart_in : ℕ → Image → Result (Option RestartSector) ℕ

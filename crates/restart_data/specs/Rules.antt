@@ -7,6 +7,6 @@ first_broken [] = None
 first_broken (rule ∷ rules) = if rule.1 then Some rule.0 else first_broken rules
 
 -- a value, unless a rule is broken
-abbrev pub unless_broken : {A : Type 0} → Option ℕ → A → Result A ℕ
-unless_broken None value = Ok value
-unless_broken (Some rule) value = Err rule
+abbrev pub unless_rule_broken : {A : Type 0} → Option ℕ → A → Result A ℕ
+unless_rule_broken None value = Ok value
+unless_rule_broken (Some rule) value = Err rule

@@ -5,7 +5,7 @@ use Rattle.std.specs.Str.{bytes_eq}
 use Rattle.tm_disk.specs.Disk.{Image, sector_at}
 use Rattle.tm_disk.specs.Sector.{zeros}
 use Rattle.restart_data.specs.Fields.{bytes_at, number2_at, number8_at, are_zeros}
-use Rattle.restart_data.specs.Rules.{first_broken, unless_broken}
+use Rattle.restart_data.specs.Rules.{first_broken, unless_rule_broken}
 
 -- the letters IMSS, 4 zeros, the checkpoint, the place among the snapshot's sectors, how many bytes of payload there
 -- are, and 6 zeros
@@ -19,19 +19,19 @@ snapshot_sector checkpoint place payload =
     snapshot_header checkpoint place (length payload) ++ payload ++ zeros (4064 - length payload)
 
 -- how many sectors so many bytes take
-abbrev pub sectors_of : ℕ → ℕ
-sectors_of n = (n + 4063) / 4064
+abbrev pub snapshot_sectors_of : ℕ → ℕ
+snapshot_sectors_of n = (n + 4063) / 4064
 
 -- the bytes of a snapshot that its sector at a place holds: all sectors but the last are full
-abbrev pub piece : ℕ → List ℕ → List ℕ
-piece place bytes = take 4064 (drop (place * 4064) bytes)
+abbrev pub snapshot_piece : ℕ → List ℕ → List ℕ
+snapshot_piece place bytes = take 4064 (drop (place * 4064) bytes)
 
 -- how many bytes of payload a sector says it holds, and which
 abbrev pub used_of : List ℕ → ℕ
 used_of sector = number2_at 24 sector
 
-abbrev pub payload_of : List ℕ → List ℕ
-payload_of sector = bytes_at 32 (used_of sector) sector
+abbrev pub snapshot_payload_of : List ℕ → List ℕ
+snapshot_payload_of sector = bytes_at 32 (used_of sector) sector
 
 -- ---- Rules
 
@@ -53,8 +53,8 @@ stray_snapshot sector =
     not (are_zeros (bytes_at 4 4 sector)) || not (are_zeros (bytes_at 26 6 sector)) || not (are_zeros (drop (32 + used_of sector) sector))
 
 -- the rules on a sector of a snapshot, with how many of its sectors stand behind
-abbrev pub snapshot_rules : ℕ → ℕ → ℕ → List ℕ → List (ℕ × Bool)
-snapshot_rules behind checkpoint place sector =
+abbrev pub snapshot_sector_rules : ℕ → ℕ → ℕ → List ℕ → List (ℕ × Bool)
+snapshot_sector_rules behind checkpoint place sector =
     (7, other_place checkpoint place sector)
     ∷ (8, wrong_used behind (used_of sector))
     ∷ (9, stray_snapshot sector)
@@ -63,35 +63,35 @@ snapshot_rules behind checkpoint place sector =
 -- what a sector of a snapshot is read as: its payload, or the lowest rule that it breaks
 unfoldable pub part_of : ℕ → ℕ → ℕ → List ℕ → Result (List ℕ) ℕ
 part_of behind checkpoint place sector =
-    unless_broken (first_broken (snapshot_rules behind checkpoint place sector)) (payload_of sector)
+    unless_rule_broken (first_broken (snapshot_sector_rules behind checkpoint place sector)) (snapshot_payload_of sector)
 
 -- a broken rule and its sector
-abbrev pub Fault : Type 0
-Fault = ℕ × ℕ
+abbrev pub SectorFault : Type 0
+SectorFault = ℕ × ℕ
 
 -- of two faults the one of the lower rule, and of one rule the first
-abbrev pub lower_of : Fault → Fault → Fault
-lower_of a b = if nat_le a.0 b.0 then a else b
+abbrev pub lower_sector_fault : SectorFault → SectorFault → SectorFault
+lower_sector_fault a b = if nat_le a.0 b.0 then a else b
 
 -- a part of a snapshot that stands in this sector
-abbrev pub part_in : ℕ → Result (List ℕ) ℕ → Result (List ℕ) Fault
+abbrev pub part_in : ℕ → Result (List ℕ) ℕ → Result (List ℕ) SectorFault
 part_in at (Ok payload) = Ok payload
 part_in at (Err rule) = Err (rule, at)
 
 -- parts one after another: all their bytes, or the lowest rule that is broken, and of it the lowest sector
-abbrev pub and_then : Result (List ℕ) Fault → Result (List ℕ) Fault → Result (List ℕ) Fault
-and_then (Ok bytes) (Ok more) = Ok (bytes ++ more)
-and_then (Ok bytes) (Err fault) = Err fault
-and_then (Err fault) (Ok more) = Err fault
-and_then (Err fault) (Err other) = Err (lower_of fault other)
+abbrev pub bytes_and_then : Result (List ℕ) SectorFault → Result (List ℕ) SectorFault → Result (List ℕ) SectorFault
+bytes_and_then (Ok bytes) (Ok more) = Ok (bytes ++ more)
+bytes_and_then (Ok bytes) (Err fault) = Err fault
+bytes_and_then (Err fault) (Ok more) = Err fault
+bytes_and_then (Err fault) (Err other) = Err (lower_sector_fault fault other)
 
 -- What so many sectors of an image from one on are read as: the bytes of the snapshot of this checkpoint from a place
 -- on, or the lowest rule that is broken, and of it the lowest sector.
-abbrev pub parts_in : ℕ → Image → ℕ → ℕ → ℕ → Result (List ℕ) Fault
+abbrev pub parts_in : ℕ → Image → ℕ → ℕ → ℕ → Result (List ℕ) SectorFault
 parts_in zero image at checkpoint place = Ok []
 parts_in (suc behind) image at checkpoint place =
-    and_then (part_in at (part_of behind checkpoint place (sector_at image at))) (parts_in behind image (at + 1) checkpoint (place + 1))
+    bytes_and_then (part_in at (part_of behind checkpoint place (sector_at image at))) (parts_in behind image (at + 1) checkpoint (place + 1))
 
 -- the snapshot of a checkpoint in so many sectors of an image from one on
-abbrev pub snapshot_in : ℕ → Image → ℕ → ℕ → Result (List ℕ) Fault
+abbrev pub snapshot_in : ℕ → Image → ℕ → ℕ → Result (List ℕ) SectorFault
 snapshot_in count image first checkpoint = parts_in count image first checkpoint 0

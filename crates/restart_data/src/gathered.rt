@@ -1,7 +1,7 @@
 //! What is read of a snapshot, sector by sector.
 ghost use Rattle.std.specs.Prelude.{◌≡◌, [], Ok, Err, OnOk, MatchOption};
-ghost use Rattle.restart_data.specs.Snapshot.{lower_of, part_of, part_in, and_then};
-ghost use Rattle.restart_data.specs.Gathering.{so_far};
+ghost use Rattle.restart_data.specs.Snapshot.{lower_sector_fault, part_of, part_in, bytes_and_then};
+ghost use Rattle.restart_data.specs.GatheredBytes.{so_far};
 
 use crate::snapshot_sector::unseal;
 use std::alloc::Global;
@@ -24,7 +24,7 @@ pub(crate) struct Gathered {
 
 // The lower of what was broken so far, if anything was, and of what is broken next.
 fn lower(broken: Option<Broken>, next: Broken) -> Broken
-    ensures { MatchOption broken (result ≡ next) (λ first. (result.rule, result.sector) ≡ lower_of (first.rule, first.sector) (next.rule, next.sector)) }
+    ensures { MatchOption broken (result ≡ next) (λ first. (result.rule, result.sector) ≡ lower_sector_fault (first.rule, first.sector) (next.rule, next.sector)) }
 {
     match broken {
         Some(first) if first.rule <= next.rule => first,
@@ -52,7 +52,7 @@ impl Gathered {
         behind: u32,
         at: u32,
     ) -> Result<(), Memory>
-        ensures { OnOk result (so_far self.new ≡ and_then (so_far self.old) (part_in at (part_of behind checkpoint place sector.now))) }
+        ensures { OnOk result (so_far self.new ≡ bytes_and_then (so_far self.old) (part_in at (part_of behind checkpoint place sector.now))) }
     {
         match unseal(sector, checkpoint, place as u64, behind) {
             Ok(payload) => self.bytes.append(payload),

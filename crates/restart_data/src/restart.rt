@@ -2,7 +2,7 @@
 ghost use Rattle.std.specs.Prelude.{◌≡◌, ◌<◌, IsTrue, IfOk, IfSome, OnOk, OnErr};
 ghost use Rattle.tm_disk.specs.Disk.{Stays, Within, Follows, Only, Keeps, MayWrite, WritesAtMost, FailedSince};
 ghost use Rattle.restart_data.specs.Restart.{IsRestart, restart_sector, restart_in};
-ghost use Rattle.restart_data.specs.Images.{IsValid, Restarts, TellsRestart, RestartCause};
+ghost use Rattle.restart_data.specs.WrittenSectors.{IsValid, Restarts, TellsRestart, RestartCause};
 
 use crate::restart_sector::{seal, unseal};
 use thiserror::Error;

@@ -1,7 +1,7 @@
 //! How the restart sector is spelled and read.
 ghost use Rattle.std.specs.Prelude.{◌≡◌, ◌<◌, ◌^◌, length};
 ghost use Rattle.restart_data.specs.Rules.{first_broken};
-ghost use Rattle.restart_data.specs.Restart.{restart_front, restart_back, restart_sector, fields_of, other_letters, other_area, wrong_size, wrong_counter, wrong_counters, stray_bytes, restart_rules, restart_of};
+ghost use Rattle.restart_data.specs.Restart.{restart_front, restart_back, restart_sector, fields_of, other_letters, has_other_area, wrong_size, wrong_counter, wrong_counters, stray_bytes, restart_rules, restart_of};
 
 use crate::RestartSector;
 use crate::fields::{all_zero, all_zero_from, number4, number8};

@@ -1,8 +1,8 @@
 //! Snapshots on a disk.
 ghost use Rattle.std.specs.Prelude.{◌≡◌, ◌+◌, ◌*◌, ◌<◌, ◌≤◌, ◌^◌, length, IsTrue, IfOk, OnOk, OnErr};
-ghost use Rattle.tm_disk.specs.Disk.{Stays, Within, Follows, Keeps, WritesAtMost, FailedSince};
-ghost use Rattle.restart_data.specs.Snapshot.{sectors_of, piece, snapshot_in};
-ghost use Rattle.restart_data.specs.Images.{ChangesOnly, Saves, TellsSnapshot, SnapshotCause};
+ghost use Rattle.tm_disk.specs.Disk.{Stays, Within, Follows, Keeps, WritesAtMost, FailedSince, ChangesOnly};
+ghost use Rattle.restart_data.specs.Snapshot.{snapshot_sectors_of, snapshot_piece, snapshot_in};
+ghost use Rattle.restart_data.specs.WrittenSectors.{Saves, TellsSnapshot, SnapshotCause};
 
 use crate::gathered::Gathered;
 use crate::snapshot_sector::{PAYLOAD_BYTES, seal};
@@ -29,8 +29,8 @@ pub enum SnapshotFault {
 
 // The bytes of a snapshot that its sector at a place holds.
 fn piece(bytes: &[u8], place: usize) -> &[u8]
-    requires { place < sectors_of (length bytes.now) }
-    ensures value { result.now ≡ piece place bytes.now }
+    requires { place < snapshot_sectors_of (length bytes.now) }
+    ensures value { result.now ≡ snapshot_piece place bytes.now }
     ensures fits { length result.now ≤ 4064 }
 {
     let rest = &bytes[place * PAYLOAD_BYTES..];
@@ -51,11 +51,11 @@ pub fn write_snapshot<D: Disk>(
     requires some { 0 < length bytes.now }
     requires fits { length bytes.now ≤ count * 4064 }
     ensures stays { Stays (D.state disk.old) (D.state disk.new) }
-    ensures any_moment { Within (ChangesOnly first (sectors_of (length bytes.now))) (D.state disk.old) (D.state disk.new) }
-    ensures follows { Follows (ChangesOnly first (sectors_of (length bytes.now))) (D.state disk.old) (D.state disk.new) }
+    ensures any_moment { Within (ChangesOnly first (snapshot_sectors_of (length bytes.now))) (D.state disk.old) (D.state disk.new) }
+    ensures follows { Follows (ChangesOnly first (snapshot_sectors_of (length bytes.now))) (D.state disk.old) (D.state disk.new) }
     ensures shown { OnOk result (IsTrue (D.state disk.old).tells → Saves first number bytes.now (D.state disk.old).shown (D.state disk.new).shown) }
-    ensures sectors { IfOk result (λ n. n ≡ sectors_of (length bytes.now)) }
-    ensures writes { WritesAtMost (sectors_of (length bytes.now)) (D.state disk.old) (D.state disk.new) }
+    ensures sectors { IfOk result (λ n. n ≡ snapshot_sectors_of (length bytes.now)) }
+    ensures writes { WritesAtMost (snapshot_sectors_of (length bytes.now)) (D.state disk.old) (D.state disk.new) }
     ensures no_fault { OnOk result ((D.state disk.new).faults ≡ (D.state disk.old).faults) }
     ensures cause { OnErr result (FailedSince (D.state disk.old) (D.state disk.new)) }
 {

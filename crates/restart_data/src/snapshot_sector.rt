@@ -1,7 +1,7 @@
 //! How a sector of a snapshot is spelled and read.
 ghost use Rattle.std.specs.Prelude.{◌≡◌, ◌<◌, ◌≤◌, ◌+◌, length, Ok, Err, MatchResult};
 ghost use Rattle.restart_data.specs.Rules.{first_broken};
-ghost use Rattle.restart_data.specs.Snapshot.{snapshot_header, snapshot_sector, used_of, other_letters, other_place, wrong_used, stray_snapshot, snapshot_rules, part_of};
+ghost use Rattle.restart_data.specs.Snapshot.{snapshot_header, snapshot_sector, used_of, other_letters, other_place, wrong_used, stray_snapshot, snapshot_sector_rules, part_of};
 
 use crate::fields::{all_zero, all_zero_from, number2, number8};
 use tm_disk::{SECTOR_BYTES, Sector};

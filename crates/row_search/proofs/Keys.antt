@@ -20,11 +20,12 @@ use Rattle.model_data.specs.Rows.{record_of, rows_before, rows_after, roots, Are
 use Rattle.model_data.proofs.Order.{key_total, path_total, turned_greater, not_less_itself}
 use Rattle.model_data.proofs.Lists.{all_then, all_both, all_filter, sorted_filter}
 use Rattle.model_data.proofs.Filters.{filter_none, filter_within, filter_passes}
-use Rattle.model_data.proofs.Records.{is_eq-true, is_lt-true}
+use Rattle.model_data.proofs.Records.{is_eq-true}
 use Rattle.model_data.proofs.Paths.{root_type}
 use Rattle.model_data.proofs.Under.{front_there, has_with}
 use Rattle.model_data.proofs.Whole.{root_less}
 use Rattle.row_search.proofs.Rising.{rising, split_at_root}
+use Rattle.model_data.proofs.Reading.{is_lt-true}
 
 -- a key is one of these
 abbrev pub HasKey : List (List ℕ) → List ℕ → Type 0

@@ -11,7 +11,7 @@ use Rattle.tm_types.specs.declared.ssa.KeyTest.TheVariants.{Any, Equal, AtLeast}
 use Rattle.tm_types.specs.SegTypes.{type_at}
 use Rattle.model_data.specs.Search.{number_named, meets_at, meets_ssa}
 use Rattle.row_search.specs.declared.asked.AskedSegment.{AskedSegment}
-use Rattle.row_search.specs.Asked.{asked_segment, looked_up, is_met}
+use Rattle.row_search.specs.AskedArguments.{asked_segment, looked_up, is_met}
 
 pub met_is : (types : List SegType) (ssa : Ssa) (path : List (ℕ × List ℕ)) → is_met (looked_up types ssa) path ≡ meets_ssa types ssa path
 met_is types ssa path = by (number_named types ssa.segment) ssa.test (type_at types (number_named types ssa.segment))

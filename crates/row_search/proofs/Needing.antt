@@ -20,14 +20,15 @@ use Rattle.model_data.specs.Rows.{record_of, roots, AreRows}
 use Rattle.model_data.proofs.Order.{key_total, turned_less}
 use Rattle.model_data.proofs.Lists.{all_then, all_append}
 use Rattle.model_data.proofs.Filters.{filter_none, filter_passes}
-use Rattle.model_data.proofs.Records.{record_rooted, is_lt-true}
+use Rattle.model_data.proofs.Records.{record_rooted}
 use Rattle.model_data.specs.declared.need.Need.{Need}
 use Rattle.model_data.specs.Search.{is_after, fits, first_after}
-use Rattle.model_data.specs.Footprint.{record_need, sequence_need, up_to, behind, has_reached, along, onward}
+use Rattle.model_data.specs.Footprint.{record_need, sequence_need, up_to, roots_behind, has_reached, along, onward}
 use Rattle.row_search.proofs.Finding.{find_front, find_back, find_has}
 use Rattle.row_search.proofs.Places.{after_in_later}
 use Rattle.row_search.proofs.Rising.{rows_rising, from_root}
 use Rattle.row_search.proofs.Keys.{by_records, after_by_records}
+use Rattle.model_data.proofs.Reading.{is_lt-true}
 
 -- the first row that passes, record by record
 abbrev pub found : (Row → Bool) → List Row → List (List ℕ) → Option Row
@@ -103,7 +104,7 @@ module _ (dbd : Dbd) (all : IsHierarchy dbd.types) (rows : List Row) (valid : Ar
   module _ (ssas : List Ssa) (place : List (ℕ × List ℕ)) (path : IsPath dbd.types place) where
     -- a search from a place finds in its record, or goes along those behind it
     pub found_from : first_after dbd.types ssas (Some place) rows
-        ≡ find (next_fits dbd ssas (Some place)) (record_of (root_of place) rows ++ flat_map (λ key. record_of key rows) (behind (root_of place) (roots rows)))
+        ≡ find (next_fits dbd ssas (Some place)) (record_of (root_of place) rows ++ flat_map (λ key. record_of key rows) (roots_behind (root_of place) (roots rows)))
     found_from =
         sym (after_in_later dbd.types all ssas place rows path (all_then (IsRow dbd.types rows) (λ r. IsPath dbd.types r.path) rows (λ r h. h.path) valid.each))
         ∙ ap (find (next_fits dbd ssas (Some place)))
@@ -111,43 +112,43 @@ module _ (dbd : Dbd) (all : IsHierarchy dbd.types) (rows : List Row) (valid : Ar
 
     pub found_here : (row : Row) → find (next_fits dbd ssas (Some place)) (record_of (root_of place) rows) ≡ Some row → first_after dbd.types ssas (Some place) rows ≡ Some row
     found_here row e =
-        found_from ∙ find_front (next_fits dbd ssas (Some place)) (record_of (root_of place) rows) (flat_map (λ key. record_of key rows) (behind (root_of place) (roots rows))) row e
+        found_from ∙ find_front (next_fits dbd ssas (Some place)) (record_of (root_of place) rows) (flat_map (λ key. record_of key rows) (roots_behind (root_of place) (roots rows))) row e
 
     pub found_behind : find (next_fits dbd ssas (Some place)) (record_of (root_of place) rows) ≡ None
-        → first_after dbd.types ssas (Some place) rows ≡ found (next_fits dbd ssas (Some place)) rows (behind (root_of place) (roots rows))
+        → first_after dbd.types ssas (Some place) rows ≡ found (next_fits dbd ssas (Some place)) rows (roots_behind (root_of place) (roots rows))
     found_behind e =
-        found_from ∙ find_back (next_fits dbd ssas (Some place)) (record_of (root_of place) rows) (flat_map (λ key. record_of key rows) (behind (root_of place) (roots rows))) e
+        found_from ∙ find_back (next_fits dbd ssas (Some place)) (record_of (root_of place) rows) (flat_map (λ key. record_of key rows) (roots_behind (root_of place) (roots rows))) e
 
     pub onward_is : (mode : Mode)
         → onward mode (Some place) (first_after dbd.types ssas (Some place) rows) (roots rows)
         ≡ record_need mode (root_of place)
         ∷ option_map_or (λ row. []) (find (next_fits dbd ssas (Some place)) (record_of (root_of place) rows))
-        (sequence_need Shared ∷ walk (next_fits dbd ssas (Some place)) mode rows (behind (root_of place) (roots rows)))
+        (sequence_need Shared ∷ walk (next_fits dbd ssas (Some place)) mode rows (roots_behind (root_of place) (roots rows)))
     onward_is mode = by (find (next_fits dbd ssas (Some place)) (record_of (root_of place) rows)) refl
       where
-        above : AllByRecursion (λ k. key_cmp (root_of place) k ≡ Less) (behind (root_of place) (roots rows))
+        above : AllByRecursion (λ k. key_cmp (root_of place) k ≡ Less) (roots_behind (root_of place) (roots rows))
         above =
-            all_then (λ k. is_lt (key_cmp (root_of place) k) ≡ true) (λ k. key_cmp (root_of place) k ≡ Less) (behind (root_of place) (roots rows)) (λ k e. is_lt-true _ e)
+            all_then (λ k. is_lt (key_cmp (root_of place) k) ≡ true) (λ k. key_cmp (root_of place) k ≡ Less) (roots_behind (root_of place) (roots rows)) (λ k e. is_lt-true _ e)
             (filter_passes (λ k. is_lt (key_cmp (root_of place) k)) (roots rows))
 
-        not_reached : (o : Option Row) → found (next_fits dbd ssas (Some place)) rows (behind (root_of place) (roots rows)) ≡ o → has_reached (root_of place) o ≡ false
+        not_reached : (o : Option Row) → found (next_fits dbd ssas (Some place)) rows (roots_behind (root_of place) (roots rows)) ≡ o → has_reached (root_of place) o ≡ false
         not_reached None e = refl
-        not_reached (Some row) e = ap is_eq (found_above (next_fits dbd ssas (Some place)) (root_of place) rows (behind (root_of place) (roots rows)) row above e)
+        not_reached (Some row) e = ap is_eq (found_above (next_fits dbd ssas (Some place)) (root_of place) rows (roots_behind (root_of place) (roots rows)) row above e)
 
         by : (o : Option Row) → find (next_fits dbd ssas (Some place)) (record_of (root_of place) rows) ≡ o
             → onward mode (Some place) (first_after dbd.types ssas (Some place) rows) (roots rows)
             ≡ record_need mode (root_of place)
             ∷ option_map_or (λ row. []) (find (next_fits dbd ssas (Some place)) (record_of (root_of place) rows))
-            (sequence_need Shared ∷ walk (next_fits dbd ssas (Some place)) mode rows (behind (root_of place) (roots rows)))
+            (sequence_need Shared ∷ walk (next_fits dbd ssas (Some place)) mode rows (roots_behind (root_of place) (roots rows)))
         by None e =
             ap (λ o. onward mode (Some place) o (roots rows)) (found_behind e)
-            ∙ (ap (λ b. record_need mode (root_of place) ∷ cond b [] (sequence_need Shared ∷ walk (next_fits dbd ssas (Some place)) mode rows (behind (root_of place) (roots rows))))
-            (not_reached (found (next_fits dbd ssas (Some place)) rows (behind (root_of place) (roots rows))) refl)
+            ∙ (ap (λ b. record_need mode (root_of place) ∷ cond b [] (sequence_need Shared ∷ walk (next_fits dbd ssas (Some place)) mode rows (roots_behind (root_of place) (roots rows))))
+            (not_reached (found (next_fits dbd ssas (Some place)) rows (roots_behind (root_of place) (roots rows))) refl)
             ∙ sym (ap (λ o. record_need mode (root_of place)
-            ∷ option_map_or (λ row. []) o (sequence_need Shared ∷ walk (next_fits dbd ssas (Some place)) mode rows (behind (root_of place) (roots rows)))) e))
+            ∷ option_map_or (λ row. []) o (sequence_need Shared ∷ walk (next_fits dbd ssas (Some place)) mode rows (roots_behind (root_of place) (roots rows)))) e))
         by (Some row) e =
             ap (λ o. onward mode (Some place) o (roots rows)) (found_here row e)
-            ∙ (ap (λ b. record_need mode (root_of place) ∷ cond b [] (along mode (Some row) (behind (root_of place) (roots rows))))
+            ∙ (ap (λ b. record_need mode (root_of place) ∷ cond b [] (along mode (Some row) (roots_behind (root_of place) (roots rows))))
             (ap (λ k. is_eq (key_cmp (root_of place) k)) (found_in (next_fits dbd ssas (Some place)) (root_of place) rows row e) ∙ ap is_eq (tied_itself key_total (root_of place)))
             ∙ sym (ap (λ o. record_need mode (root_of place)
-            ∷ option_map_or (λ r. []) o (sequence_need Shared ∷ walk (next_fits dbd ssas (Some place)) mode rows (behind (root_of place) (roots rows)))) e))
+            ∷ option_map_or (λ r. []) o (sequence_need Shared ∷ walk (next_fits dbd ssas (Some place)) mode rows (roots_behind (root_of place) (roots rows)))) e))

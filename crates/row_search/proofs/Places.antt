@@ -20,14 +20,15 @@ use Rattle.model_data.specs.Path.{key_cmp, path_cmp, root_of, end_type, IsPath, 
 use Rattle.model_data.specs.Rows.{record_of}
 use Rattle.model_data.proofs.Order.{key_total, path_total, exact_path, turned_greater, not_less_itself}
 use Rattle.model_data.proofs.Lists.{all_then}
-use Rattle.model_data.proofs.Records.{is_eq-true, is_lt-true}
+use Rattle.model_data.proofs.Records.{is_eq-true}
 use Rattle.model_data.proofs.Paths.{child_greater}
 use Rattle.model_data.proofs.Whole.{root_less}
-use Rattle.model_data.specs.Search.{fitted, number_named, meets, meets_at, meets_ssa, asked_number, fits, is_after, is_below, row_at, is_there, first_after, first_below}
-use Rattle.model_data.specs.Get.{key_asked, asked_root}
-use Rattle.row_search.specs.Walk.{rows_from}
+use Rattle.model_data.specs.Search.{fitted_key, number_named, meets, meets_at, meets_ssa, asked_number, fits, is_after, is_path_below, row_at, is_row_there, first_after, first_below}
+use Rattle.model_data.specs.GetCalls.{key_asked, asked_root}
+use Rattle.row_search.specs.Walk.{rows_from_root}
 use Rattle.row_search.proofs.Finding.{find_within}
 use Rattle.row_search.proofs.Within.{both_true, within_root}
+use Rattle.model_data.proofs.Reading.{is_lt-true}
 
 pub each_of : {A : Type 0} (P : A → Type 0) → ((x : A) → P x) → (xs : List A) → AllByRecursion P xs
 each_of P h [] = tt
@@ -44,24 +45,24 @@ row_in_record path rows =
     (each_of (λ row. is_eq (path_cmp path row.path) ≡ true → is_eq (key_cmp (root_of path) (root_of row.path)) ≡ true)
     (λ row e. of_root (root_of path) row.path (ap root_of (exact_path path row.path (is_eq-true _ e)))) rows)
 
-pub there_in_record : (path : List (ℕ × List ℕ)) (rows : List Row) → is_there path (record_of (root_of path) rows) ≡ is_there path rows
+pub there_in_record : (path : List (ℕ × List ℕ)) (rows : List Row) → is_row_there path (record_of (root_of path) rows) ≡ is_row_there path rows
 there_in_record path rows = ap is_some (row_in_record path rows)
 
 -- what is below a parent is in its record
 pub below_in_record : (types : List SegType) (ssas : List Ssa) (place : Option (List (ℕ × List ℕ))) (parent : List (ℕ × List ℕ)) (rows : List Row) → 1 ≤ length parent
     → first_below types ssas place parent (record_of (root_of parent) rows) ≡ first_below types ssas place parent rows
 below_in_record types ssas place parent rows some =
-    find_within (λ row. is_after place row.path && is_after (Some parent) row.path && is_below parent row.path && fits types ssas row.path)
+    find_within (λ row. is_after place row.path && is_after (Some parent) row.path && is_path_below parent row.path && fits types ssas row.path)
     (λ row. is_eq (key_cmp (root_of parent) (root_of row.path))) rows
-    (each_of (λ row. (is_after place row.path && is_after (Some parent) row.path && is_below parent row.path && fits types ssas row.path) ≡ true
+    (each_of (λ row. (is_after place row.path && is_after (Some parent) row.path && is_path_below parent row.path && fits types ssas row.path) ≡ true
     → is_eq (key_cmp (root_of parent) (root_of row.path)) ≡ true)
     (λ row e. of_root (root_of parent) row.path (within_root parent row.path some
-    (both_true _ _ (both_true _ _ (both_true (is_after place row.path && is_after (Some parent) row.path && is_below parent row.path) _ e).0).1).0)) rows)
+    (both_true _ _ (both_true _ _ (both_true (is_after place row.path && is_after (Some parent) row.path && is_path_below parent row.path) _ e).0).1).0)) rows)
 
 module _ (types : List SegType) (all : IsHierarchy types) where
   -- what is after a place is in its record or a later one
   pub after_in_later : (ssas : List Ssa) (place : List (ℕ × List ℕ)) (rows : List Row) → IsPath types place → AllByRecursion (λ row. IsPath types row.path) rows
-      → first_after types ssas (Some place) (rows_from (Some (root_of place)) rows) ≡ first_after types ssas (Some place) rows
+      → first_after types ssas (Some place) (rows_from_root (Some (root_of place)) rows) ≡ first_after types ssas (Some place) rows
   after_in_later ssas place rows valid paths =
       find_within (λ row. is_after (Some place) row.path && fits types ssas row.path) (λ row. not (is_gt (key_cmp (root_of place) (root_of row.path)))) rows
       (all_then (λ row. IsPath types row.path)
@@ -91,7 +92,7 @@ module _ (types : List SegType) (all : IsHierarchy types) where
       ap (λ b. (b && f p) || list_any (λ q. eqb q.0 n && f q) path) other ∙ none_of n f path h.1
 
   -- a segment that meets an argument on the root by `=` has this root
-  root_met : (x : List ℕ) (s : SegType) (path : List (ℕ × List ℕ)) → IsPath types path → meets_at (ByKey x) 1 s path ≡ true → fitted s.key x ≡ root_of path
+  root_met : (x : List ℕ) (s : SegType) (path : List (ℕ × List ℕ)) → IsPath types path → meets_at (ByKey x) 1 s path ≡ true → fitted_key s.key x ≡ root_of path
   root_met x s [] valid e = absurd valid
   root_met x s (p ∷ path) valid e = by (eqb p.0 1 && meets (ByKey x) s.key p.1) refl e
     where
@@ -101,8 +102,8 @@ module _ (types : List SegType) (all : IsHierarchy types) where
       rest : AllByRecursion (λ q. 1 < q.0) path
       rest = all_then (λ q. p.0 < q.0) (λ q. 1 < q.0) path (λ q g. let more : p.0 < q.0 = g in let first : 0 < p.0 = zero_less in omega arith) (types_above p.0 path valid.1)
 
-      by : (b : Bool) → (eqb p.0 1 && meets (ByKey x) s.key p.1) ≡ b → (b || list_any (λ q. eqb q.0 1 && meets (ByKey x) s.key q.1) path) ≡ true → fitted s.key x ≡ p.1
-      by true f g = sym (exact_bytes p.1 (fitted s.key x) (is_eq-true _ (both_true (eqb p.0 1) _ f).1))
+      by : (b : Bool) → (eqb p.0 1 && meets (ByKey x) s.key p.1) ≡ b → (b || list_any (λ q. eqb q.0 1 && meets (ByKey x) s.key q.1) path) ≡ true → fitted_key s.key x ≡ p.1
+      by true f g = sym (exact_bytes p.1 (fitted_key s.key x) (is_eq-true _ (both_true (eqb p.0 1) _ f).1))
       by false f g = absurd (false≢true (sym (none_of 1 (λ q. meets (ByKey x) s.key q.1) path rest) ∙ g))
 
   key_met : (test : KeyTest) (key : List ℕ) (path : List (ℕ × List ℕ)) → IsPath types path → key_asked types test ≡ Some key
@@ -111,9 +112,9 @@ module _ (types : List SegType) (all : IsHierarchy types) where
   key_met (AtLeast x) key path valid asked met = absurd (none-some key asked)
   key_met (ByKey x) key path valid asked met = by (type_at types 1) asked met
     where
-      by : (o : Option SegType) → option_map (λ s. fitted s.key x) o ≡ Some key → option_map_or (λ s. meets_at (ByKey x) 1 s path) o false ≡ true → key ≡ root_of path
+      by : (o : Option SegType) → option_map (λ s. fitted_key s.key x) o ≡ Some key → option_map_or (λ s. meets_at (ByKey x) 1 s path) o false ≡ true → key ≡ root_of path
       by None a m = absurd (none-some key a)
-      by (Some s) a m = sym (same_Some (fitted s.key x) key a) ∙ root_met x s path valid m
+      by (Some s) a m = sym (same_Some (fitted_key s.key x) key a) ∙ root_met x s path valid m
 
   -- where the first argument asks for one root, what fits has that root
   fits_root : (ssas : List Ssa) (key : List ℕ) (path : List (ℕ × List ℕ)) → IsPath types path → asked_root types ssas ≡ Some key → fits types ssas path ≡ true → key ≡ root_of path

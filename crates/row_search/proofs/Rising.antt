@@ -22,12 +22,13 @@ use Rattle.model_data.specs.Rows.{record_of, rows_before, rows_after, roots, nex
 use Rattle.model_data.proofs.Order.{key_total, path_total, turned_greater, not_less_itself}
 use Rattle.model_data.proofs.Lists.{all_then, all_both, all_filter, sorted_filter}
 use Rattle.model_data.proofs.Filters.{filter_all, filter_none, filter_within, filter_apart}
-use Rattle.model_data.proofs.Records.{is_eq-true, is_lt-true}
+use Rattle.model_data.proofs.Records.{is_eq-true}
 use Rattle.model_data.proofs.Prefixes.{none_under}
 use Rattle.model_data.proofs.Roots.{first_row}
 use Rattle.model_data.proofs.Whole.{record_is, root_less}
-use Rattle.row_search.specs.Walk.{rows_from}
+use Rattle.row_search.specs.Walk.{rows_from_root}
 use Rattle.row_search.proofs.Finding.{find_head, find_passes, find_none, filter_twice}
+use Rattle.model_data.proofs.Reading.{is_lt-true}
 
 -- the roots of the rows never fall
 abbrev pub AreRising : List Row → Type 0
@@ -103,7 +104,7 @@ split_at_root key (x ∷ xs) h = by (key_cmp key (root_of x.path)) refl (split_a
         rw e (ap (λ rs. x ∷ rs) rec ∙ (λ i. x ∷ (none i ++ nothing i ++ rows_after key xs)) ∙ sym (λ i. none i ++ nothing i ++ (x ∷ rows_after key xs)))
 
 -- the rows from a root on are its record and the rows after it
-pub from_root : (key : List ℕ) (rows : List Row) → AreRising rows → rows_from (Some key) rows ≡ record_of key rows ++ rows_after key rows
+pub from_root : (key : List ℕ) (rows : List Row) → AreRising rows → rows_from_root (Some key) rows ≡ record_of key rows ++ rows_after key rows
 from_root key rows h =
     ap (filter from) (split_at_root key rows h)
     ∙ (filter-append from (rows_before key rows ++ record_of key rows) (rows_after key rows)
@@ -170,13 +171,13 @@ module _ (dbd : Dbd) (all : IsHierarchy dbd.types) (rows : List Row) (valid : Ar
           by false e false g rec = rw (e, g) (rec (λ row k. h row (ap (λ b. cond b (Some x) (find (λ r. f (root_of r.path)) xs)) e ∙ k)))
 
   -- the rows after a root are those from the next root on
-  pub after_root : (key : List ℕ) → rows_after key rows ≡ rows_from (next_root rows (Some key)) rows
+  pub after_root : (key : List ℕ) → rows_after key rows ≡ rows_from_root (next_root rows (Some key)) rows
   after_root key = by (find (λ r. is_lt (key_cmp key (root_of r.path))) rows) refl
     where
-      by : (o : Option Row) → find (λ r. is_lt (key_cmp key (root_of r.path))) rows ≡ o → rows_after key rows ≡ rows_from (next_root rows (Some key)) rows
+      by : (o : Option Row) → find (λ r. is_lt (key_cmp key (root_of r.path))) rows ≡ o → rows_after key rows ≡ rows_from_root (next_root rows (Some key)) rows
       by None e =
           filter_none (λ r. is_lt (key_cmp key (root_of r.path))) rows (find_none (λ r. is_lt (key_cmp key (root_of r.path))) rows e)
-          ∙ sym (ap (λ o. rows_from o rows) (next_is_first key ∙ ap (option_map (λ row. root_of row.path)) e))
+          ∙ sym (ap (λ o. rows_from_root o rows) (next_is_first key ∙ ap (option_map (λ row. root_of row.path)) e))
       by (Some row) e =
           let head = find_head (λ r. is_lt (key_cmp key (root_of r.path))) rows row e in
           let up : key_cmp key (root_of row.path) ≡ Less = is_lt-true _ (find_passes (λ r. is_lt (key_cmp key (root_of r.path))) rows row e) in
@@ -190,7 +191,7 @@ module _ (dbd : Dbd) (all : IsHierarchy dbd.types) (rows : List Row) (valid : Ar
           ∙ (sym (ap (filter (λ r. not (is_gt (key_cmp (root_of row.path) (root_of r.path))))) head.1)
           ∙ (filter_within (λ r. not (is_gt (key_cmp (root_of row.path) (root_of r.path)))) (λ r. is_lt (key_cmp key (root_of r.path)))
           (λ r g. ap is_lt (not_above key (root_of row.path) (root_of r.path) up (from_not_gt (key_cmp (root_of row.path) (root_of r.path)) g))) rows
-          ∙ sym (ap (λ o. rows_from o rows) (next_is_first key ∙ ap (option_map (λ r. root_of r.path)) e))))))
+          ∙ sym (ap (λ o. rows_from_root o rows) (next_is_first key ∙ ap (option_map (λ r. root_of r.path)) e))))))
         where
           not_gt : (o : Ordering) → o ≢ Greater → not (is_gt o) ≡ true
           not_gt Less g = refl
@@ -203,11 +204,11 @@ module _ (dbd : Dbd) (all : IsHierarchy dbd.types) (rows : List Row) (valid : Ar
           from_not_gt Greater g = absurd (false≢true g)
 
   -- from the first root on stand all rows
-  pub all_from : rows_from (next_root rows None) rows ≡ rows
+  pub all_from : rows_from_root (next_root rows None) rows ≡ rows
   all_from = by rows refl
     where
-      by : (rs : List Row) → rows ≡ rs → rows_from (next_root rows None) rows ≡ rows
-      by [] e = ap (λ xs. rows_from (next_root xs None) xs) e ∙ sym e
+      by : (rs : List Row) → rows ≡ rs → rows_from_root (next_root rows None) rows ≡ rows
+      by [] e = ap (λ xs. rows_from_root (next_root xs None) xs) e ∙ sym e
       by (x ∷ xs) e =
           let low : AreRising (x ∷ xs) = subst AreRising e rows_rising in
           let here : is_eq (key_cmp (root_of x.path) (root_of x.path)) ≡ true = ap is_eq (tied_itself key_total (root_of x.path)) in
@@ -216,8 +217,8 @@ module _ (dbd : Dbd) (all : IsHierarchy dbd.types) (rows : List Row) (valid : Ar
           (ap (record_of (root_of x.path)) e ∙ ap (λ b. cond b (x ∷ record_of (root_of x.path) xs) (record_of (root_of x.path) xs)) here)) in
           let first : next_root (x ∷ xs) None ≡ Some (root_of x.path) =
           ap (λ b. slice_get (map (λ row. root_of row.path) (cond b (x ∷ filter (λ row. eqb (length row.path) 1) xs) (filter (λ row. eqb (length row.path) 1) xs))) 0) one in
-          ap (λ rs. rows_from (next_root rs None) rs) e
-          ∙ (ap (λ o. rows_from o (x ∷ xs)) first
+          ap (λ rs. rows_from_root (next_root rs None) rs) e
+          ∙ (ap (λ o. rows_from_root o (x ∷ xs)) first
           ∙ (filter_all (λ r. not (is_gt (key_cmp (root_of x.path) (root_of r.path)))) (x ∷ xs) (
             ap (λ o. not (is_gt o)) (tied_itself key_total (root_of x.path)),
             all_then (λ y. key_cmp (root_of x.path) (root_of y.path) ≢ Greater) (λ y. not (is_gt (key_cmp (root_of x.path) (root_of y.path))) ≡ true) xs

@@ -14,14 +14,14 @@ use Rattle.model_data.specs.Rows.{record_of, rows_after, next_root, AreRows}
 use Rattle.model_data.proofs.Order.{key_total}
 use Rattle.model_data.proofs.Lists.{all_then}
 use Rattle.model_data.proofs.Filters.{filter_within}
-use Rattle.model_data.proofs.Records.{is_lt-true}
 use Rattle.model_data.specs.Search.{is_after, fits, first_after}
-use Rattle.model_data.specs.Get.{asked_root}
+use Rattle.model_data.specs.GetCalls.{asked_root}
 use Rattle.row_search.specs.Arguments.{Arguments}
-use Rattle.row_search.specs.Walk.{first_root, rows_from, roots_left}
+use Rattle.row_search.specs.Walk.{first_root, rows_from_root, roots_left}
 use Rattle.row_search.proofs.Finding.{find_front, find_back, find_head, find_passes}
 use Rattle.row_search.proofs.Rising.{rows_rising, from_root, after_root, all_from, next_is_first}
 use Rattle.row_search.proofs.Places.{after_in_later, asked_in_record}
+use Rattle.model_data.proofs.Reading.{is_lt-true}
 
 -- what the arguments ask for, by their database and by themselves
 pub as_asked : (asked : Arguments) (dbd : Dbd) (ssas : List Ssa) → asked.dbd ≡ dbd → asked.ssas ≡ ssas → (place : Option (List (ℕ × List ℕ))) (xs ys : List Row) → xs ≡ ys
@@ -39,20 +39,20 @@ module _ (dbd : Dbd) (all : IsHierarchy dbd.types) (rows : List Row) (valid : Ar
 
   -- the search begins at the record of the place
   pub search_starts : (ssas : List Ssa) (place : Option (List (ℕ × List ℕ))) → IfSome place (IsPath dbd.types)
-      → first_after dbd.types ssas place (rows_from (first_root place rows) rows) ≡ first_after dbd.types ssas place rows
+      → first_after dbd.types ssas place (rows_from_root (first_root place rows) rows) ≡ first_after dbd.types ssas place rows
   search_starts ssas None h = ap (first_after dbd.types ssas None) (all_from dbd all rows valid)
   search_starts ssas (Some path) h = after_in_later dbd.types all ssas path rows h row_paths
 
   -- it ends in the record that has the row
   pub search_ends : (ssas : List Ssa) (place : Option (List (ℕ × List ℕ))) (root : List ℕ) (row : Row) → first_after dbd.types ssas place (record_of root rows) ≡ Some row
-      → first_after dbd.types ssas place (rows_from (Some root) rows) ≡ Some row
+      → first_after dbd.types ssas place (rows_from_root (Some root) rows) ≡ Some row
   search_ends ssas place root row e =
       ap (first_after dbd.types ssas place) (from_root root rows (rows_rising dbd all rows valid))
       ∙ find_front (λ r. is_after place r.path && fits dbd.types ssas r.path) (record_of root rows) (rows_after root rows) row e
 
   -- else it goes on to the next root
   pub search_goes : (ssas : List Ssa) (place : Option (List (ℕ × List ℕ))) (root : List ℕ) → first_after dbd.types ssas place (record_of root rows) ≡ None
-      → first_after dbd.types ssas place (rows_from (next_root rows (Some root)) rows) ≡ first_after dbd.types ssas place (rows_from (Some root) rows)
+      → first_after dbd.types ssas place (rows_from_root (next_root rows (Some root)) rows) ≡ first_after dbd.types ssas place (rows_from_root (Some root) rows)
   search_goes ssas place root e =
       sym (ap (first_after dbd.types ssas place) (from_root root rows (rows_rising dbd all rows valid))
       ∙ (find_back (λ r. is_after place r.path && fits dbd.types ssas r.path) (record_of root rows) (rows_after root rows) e

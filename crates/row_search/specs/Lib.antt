@@ -1,4 +1,4 @@
 pub mod Walk
-pub mod Lent
+pub mod LentRecord
 pub mod Arguments
-pub mod Asked
+pub mod AskedArguments

@@ -11,9 +11,9 @@ first_root None rows = next_root rows None
 first_root (Some path) rows = Some (root_of path)
 
 -- the rows of the records from this root on
-abbrev pub rows_from : Option (List ℕ) → List Row → List Row
-rows_from None rows = []
-rows_from (Some root) rows = filter (λ row. not (is_gt (key_cmp root (root_of row.path)))) rows
+abbrev pub rows_from_root : Option (List ℕ) → List Row → List Row
+rows_from_root None rows = []
+rows_from_root (Some root) rows = filter (λ row. not (is_gt (key_cmp root (root_of row.path)))) rows
 
 -- how far a search has to go at most: the rows after the record at which it stands
 abbrev pub roots_left : Option (List ℕ) → List Row → ℕ

@@ -1,9 +1,9 @@
 //! What the arguments of a call ask for.
 ghost use Rattle.std.specs.Prelude.{◌≡◌, ◌≤◌, ◌&&◌, Some, drop, length, map, min, take, IfOk};
 ghost use Rattle.std.specs.List.{list_all};
-ghost use Rattle.model_data.specs.Search.{fitted, place_named, number_named, key_length, data_length, meets_ssa, asked_number, fits};
-ghost use Rattle.model_data.specs.Get.{key_asked, asked_root};
-ghost use Rattle.row_search.specs.Asked.{looked_up, asked_key, is_as_asked, is_met};
+ghost use Rattle.model_data.specs.Search.{fitted_key, place_named, number_named, data_length, meets_ssa, asked_number, fits};
+ghost use Rattle.model_data.specs.GetCalls.{key_asked, asked_root};
+ghost use Rattle.row_search.specs.AskedArguments.{looked_up, asked_key, is_as_asked, is_met};
 
 use model_data::Path;
 use std::alloc::Global;
@@ -44,7 +44,7 @@ impl<'a> Model for Asked<'a> {
 
     ghost Value = { Arguments };
 
-    ghost use Rattle.row_search.specs.Asked.{AreLookedUp};
+    ghost use Rattle.row_search.specs.AskedArguments.{AreLookedUp};
 
     ghost view = { λ a. record { dbd = a.dbd.now; ssas = a.ssas.now } };
 
@@ -215,7 +215,7 @@ fn meets_ssa(types: &SegTypes, ssa: &Ssa, path: &Path) -> bool
 pub fn fitted_key(length: u8, bytes: &[u8]) -> Key
     requires some { 1 ≤ length }
     requires short { length ≤ 32 }
-    ensures { result ≡ fitted length bytes.now }
+    ensures { result ≡ fitted_key length bytes.now }
 {
     let mut padded = [b' '; 32];
     let size = bytes.len().min(length as usize);
@@ -228,7 +228,7 @@ pub fn fitted_key(length: u8, bytes: &[u8]) -> Key
 
 /// These bytes, padded with blanks on the right or cut to `length` bytes.
 pub fn fitted_bytes(alloc: Global, length: u16, bytes: &[u8]) -> Result<Bytes, Memory>
-    ensures { IfOk result (λ whole. whole ≡ fitted length bytes.now) }
+    ensures { IfOk result (λ whole. whole ≡ fitted_key length bytes.now) }
 {
     let length = length as usize;
     let size = bytes.len().min(length);
@@ -245,16 +245,6 @@ pub fn number_named(types: &SegTypes, name: &Name) -> u8
 {
     match place_named(types.as_slice(), name) {
         Some(place) => place as u8 + 1,
-        None => 0,
-    }
-}
-
-/// How many bytes a key of this type has.
-pub fn key_length(types: &SegTypes, number: u8) -> u8
-    ensures { result ≡ key_length types.now number }
-{
-    match types.numbered(number) {
-        Some(segment) => segment.key,
         None => 0,
     }
 }

@@ -3,9 +3,9 @@ ghost use Rattle.std.specs.Prelude.{◌≡◌, ◌≤◌, ◌&&◌, Some, length
 ghost use Rattle.std.specs.Option.{option_copied};
 ghost use Rattle.model_data.specs.Path.{IsPath};
 ghost use Rattle.model_data.specs.Rows.{record_of, next_root, AreRows};
-ghost use Rattle.row_search.specs.Lent.{lent_root, IsLentOf};
+ghost use Rattle.row_search.specs.LentRecord.{lent_root, IsLentOf};
 ghost use Rattle.row_search.specs.Walk.{first_root};
-ghost use Rattle.model_data.specs.Search.{is_after, is_within, is_below, is_there, first_after, first_below};
+ghost use Rattle.model_data.specs.Search.{is_after, is_within, is_path_below, is_row_there, first_after, first_below};
 
 use crate::asked::{Asked, asked_root};
 use model_data::{Path, Row};
@@ -30,13 +30,13 @@ pub fn is_within(above: &Path, path: &Path) -> bool
 }
 
 fn is_below(above: &Path, path: &Path) -> bool
-    ensures { result ≡ is_below above.now path.now }
+    ensures { result ≡ is_path_below above.now path.now }
 {
     is_within(above, path) && above.len() < path.len()
 }
 
 fn is_next_below(place: Option<&Path>, parent: &Path, path: &Path) -> bool
-    ensures { result ≡ (is_after (option_copied place.entry) path.now && is_after (Some parent.now) path.now && is_below parent.now path.now) }
+    ensures { result ≡ (is_after (option_copied place.entry) path.now && is_after (Some parent.now) path.now && is_path_below parent.now path.now) }
 {
     is_after(place, path) && is_after(Some(parent), path) && is_below(parent, path)
 }
@@ -141,7 +141,7 @@ pub fn next_record<'a, R: Rows>(after: Option<&Key>, rows: &'a R) -> Option<Lent
 /// Whether there is a row with this path.
 pub fn is_there<R: Rows>(path: &Path, rows: &R) -> bool
     requires { 1 ≤ length path.now }
-    ensures value { result ≡ is_there path.now (R.rows rows.now) }
+    ensures value { result ≡ is_row_there path.now (R.rows rows.now) }
     ensures valid { AreRows (R.database rows.now) (R.rows rows.now) }
 {
     let Some(root) = path.root() else {
@@ -154,7 +154,7 @@ pub fn is_there<R: Rows>(path: &Path, rows: &R) -> bool
 }
 
 fn has_path(path: &Path, rows: &[Row]) -> bool
-    ensures { result ≡ is_there path.now rows.now }
+    ensures { result ≡ is_row_there path.now rows.now }
 {
     for row in rows {
         if path == &row.path {

@@ -1,5 +1,5 @@
 -- Texts that are made of texts of segments are texts of segments.
-use Rattle.std.proofs.Common.{◌≡◌, ℕ, zero, suc, ◌+◌, ◌<◌, ◌≤◌, ◌^◌, Bool, true, false, ◌&&◌, List, [], ◌∷◌, ◌++◌, length, take, drop, replicate, refl, ap, ◌∙◌, arith, length-append, length-drop}
+use Rattle.std.proofs.Common.{◌≡◌, ℕ, zero, suc, ◌+◌, ◌<◌, ◌≤◌, ◌^◌, Bool, true, List, [], ◌∷◌, ◌++◌, length, take, drop, replicate, refl, ap, ◌∙◌, arith, length-append, length-drop}
 use Rattle.std.specs.Prelude.{get_or}
 use Rattle.std.specs.List.{list_all}
 use Rattle.std.specs.Char.{is_ascii_digit}
@@ -15,19 +15,7 @@ use Rattle.tm_types.specs.Segment.{is_printable, IsSegmentText}
 use Rattle.tm_types.specs.Status.{status_text}
 use Rattle.tm_types.specs.declared.status.Status.{Status}
 use Rattle.tm_types.specs.declared.status.Status.TheVariants.{Blank, QC, QD, A2, A3, A6, A7, QH, GE, GB, GP, GA, GK, II, DJ, DA, AM}
-
-both_true : (a b : Bool) → a ≡ true → b ≡ true → (a && b) ≡ true
-both_true true b e f = f
-both_true false b e f = cc
-
-parts_true : (a b : Bool) → (a && b) ≡ true → (a ≡ true) × (b ≡ true)
-parts_true true b e = (refl, e)
-parts_true false b e = cc
-
-take_all_pass : (p : ℕ → Bool) (n : ℕ) (xs : List ℕ) → list_all p xs ≡ true → list_all p (take n xs) ≡ true
-take_all_pass p zero xs e = refl
-take_all_pass p (suc n) [] e = refl
-take_all_pass p (suc n) (x ∷ xs) e = let parts = parts_true (p x) (list_all p xs) e in both_true (p x) (list_all p (take n xs)) parts.0 (take_all_pass p n xs parts.1)
+use Rattle.tm_types.proofs.Truths.{both_true, parts_true, take_all_pass}
 
 drop_all_pass : (p : ℕ → Bool) (n : ℕ) (xs : List ℕ) → list_all p xs ≡ true → list_all p (drop n xs) ≡ true
 drop_all_pass p zero xs e = e

@@ -2,7 +2,7 @@
 use Rattle.std.proofs.Common.{◌≡◌, ℕ, zero, suc, ◌<◌, List, [], ◌∷◌, replicate, length, refl, sym, ap, ◌∙◌, subst, lit≤, arith}
 use Rattle.std.specs.Prelude.{get_or, Option, Some, None, slice_get, slice_index_or, slice_set}
 use Rattle.tm_types.specs.Segment.{IsSegmentText}
-use Rattle.script_run.specs.Running.{AreTexts, texts_before}
+use Rattle.script_run.specs.RunningScript.{AreTexts, texts_before}
 
 empty_at : (n x : ℕ) → slice_index_or {A = List ℕ} (replicate n []) x [] ≡ []
 empty_at zero x = refl

@@ -6,8 +6,8 @@ use Rattle.std.proofs.lemmas.Bool.Decides.{nat_tests}
 use Rattle.std.proofs.lemmas.List.Sums.{prefix_len-le-length}
 use Rattle.std.proofs.lemmas.List.Recursion.{is_position_or_len}
 use Rattle.tm_types.specs.Words.{first_word}
-use Rattle.model_system.specs.Texts.{with_front, pieces, is_filled, words}
-use Rattle.script_run.specs.Runs.{blanks_before, word_length}
+use Rattle.model_system.specs.Texts.{with_front_byte, blank_pieces, is_filled, words}
+use Rattle.script_run.specs.TextRuns.{blanks_before, word_length}
 
 -- what position gives, or the length
 by_test : (b : Bool) (n place : ℕ) → cond b (Some n) None ≡ Some place → place ≡ n
@@ -64,21 +64,21 @@ pub ruleset blank_steps = (blanks_place, blanks_end, blanks_within)
 
 -- the first piece of a text, and the words behind it
 record IsFirstPiece (text : List ℕ) (tail : List (List ℕ)) : Type 0 where
-  first : pieces text ≡ take (word_length text) text ∷ tail
+  first : blank_pieces text ≡ take (word_length text) text ∷ tail
   behind : filter is_filled tail ≡ words (drop (word_length text) text)
 
 blank_first : (b : Bool) (byte : ℕ) (bytes : List ℕ) → (byte == 32) ≡ b → ((tail : List (List ℕ)) × IsFirstPiece bytes tail) → (tail : List (List ℕ)) × IsFirstPiece (byte ∷ bytes) tail
 blank_first true byte bytes e more = (
-  pieces bytes,
+  blank_pieces bytes,
   record {
-    first = ap (λ b. cond b ([] ∷ pieces bytes) (with_front byte (pieces bytes))) e ∙ ap (λ b. take (cond b 0 (suc (word_length bytes))) (byte ∷ bytes) ∷ pieces bytes) (sym e);
-    behind = ap (λ b. filter is_filled (cond b ([] ∷ pieces bytes) (with_front byte (pieces bytes)))) (sym e) ∙ ap (λ b. words (drop (cond b 0 (suc (word_length bytes))) (byte ∷ bytes))) (sym e);
+    first = ap (λ b. cond b ([] ∷ blank_pieces bytes) (with_front_byte byte (blank_pieces bytes))) e ∙ ap (λ b. take (cond b 0 (suc (word_length bytes))) (byte ∷ bytes) ∷ blank_pieces bytes) (sym e);
+    behind = ap (λ b. filter is_filled (cond b ([] ∷ blank_pieces bytes) (with_front_byte byte (blank_pieces bytes)))) (sym e) ∙ ap (λ b. words (drop (cond b 0 (suc (word_length bytes))) (byte ∷ bytes))) (sym e);
   },
 )
 blank_first false byte bytes e (tail, more) = (
   tail,
   record {
-    first = ap (λ b. cond b ([] ∷ pieces bytes) (with_front byte (pieces bytes))) e ∙ ap (with_front byte) more.first ∙ ap (λ b. take (cond b 0 (suc (word_length bytes))) (byte ∷ bytes) ∷ tail) (sym e);
+    first = ap (λ b. cond b ([] ∷ blank_pieces bytes) (with_front_byte byte (blank_pieces bytes))) e ∙ ap (with_front_byte byte) more.first ∙ ap (λ b. take (cond b 0 (suc (word_length bytes))) (byte ∷ bytes) ∷ tail) (sym e);
     behind = more.behind ∙ ap (λ b. words (drop (cond b 0 (suc (word_length bytes))) (byte ∷ bytes))) (sym e);
   },
 )
@@ -88,7 +88,7 @@ first_piece [] = ([], record { first = refl; behind = refl })
 first_piece (byte ∷ bytes) = blank_first (byte == 32) byte bytes refl (first_piece bytes)
 
 -- the first word, where the text doesn't begin with a blank
-starts_by : (text : List ℕ) (tail : List (List ℕ)) → pieces text ≡ tail → (filter is_filled tail ≡ words text)
+starts_by : (text : List ℕ) (tail : List (List ℕ)) → blank_pieces text ≡ tail → (filter is_filled tail ≡ words text)
 starts_by text tail e = ap (filter is_filled) (sym e)
 
 record IsSplit (text rest : List ℕ) : Type 0 where
@@ -107,7 +107,7 @@ word_first byte bytes e (tail, piece) =
 
 split_by : (b : Bool) (byte : ℕ) (bytes : List ℕ) → (byte == 32) ≡ b → IsSplit bytes (drop (blanks_before bytes) bytes) → IsSplit (byte ∷ bytes) (drop (cond b (suc (blanks_before bytes)) 0) (byte ∷ bytes))
 split_by true byte bytes e more =
-    let same : words (byte ∷ bytes) ≡ words bytes = ap (λ b. filter is_filled (cond b ([] ∷ pieces bytes) (with_front byte (pieces bytes)))) e in
+    let same : words (byte ∷ bytes) ≡ words bytes = ap (λ b. filter is_filled (cond b ([] ∷ blank_pieces bytes) (with_front_byte byte (blank_pieces bytes)))) e in
     record {
       first = more.first ∙ ap (λ ws. slice_index_or ws 0 []) (sym same);
       behind = more.behind ∙ ap (drop 1) (sym same);

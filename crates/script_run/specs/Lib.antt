@@ -1,2 +1,2 @@
-pub mod Running
-pub mod Runs
+pub mod RunningScript
+pub mod TextRuns

@@ -4,7 +4,7 @@ ghost use Rattle.std.specs.Borrow.{Bor};
 ghost use Rattle.std.specs.Option.{option_map};
 ghost use Rattle.tm_types.specs.Segment.{IsSegmentText};
 ghost use Rattle.model_system.specs.Script as spec;
-ghost use Rattle.script_run.specs.Running.{HasTexts, GivesRoom, Going, IsStanding, Waits, answered_machine, waiting_told};
+ghost use Rattle.script_run.specs.RunningScript.{HasTexts, GivesRoom, Going, IsStanding, ScriptWaits, answered_machine, waiting_told};
 
 use crate::script::Script;
 use crate::steps::go_on;
@@ -25,7 +25,7 @@ pub struct Machine {
 }
 
 impl Model for Machine {
-    ghost use Rattle.script_run.specs.Running.{Running, IsStanding, waiting_in};
+    ghost use Rattle.script_run.specs.RunningScript.{Running, IsStanding, waiting_in};
 
     ghost Value = { Running };
 
@@ -63,7 +63,7 @@ impl Machine {
         ensures texts { IfOk result HasTexts }
         ensures script { self.new.script ≡ self.old.script }
         ensures waiting { OnOk result (self.new.waiting ≡ waiting_told program.now self.old.limit self.old.script) }
-        ensures waits { IfOk result (λ need. Waits need self.new.waiting) }
+        ensures waits { IfOk result (λ need. ScriptWaits need self.new.waiting) }
         ensures limit { self.new.limit ≡ self.old.limit }
         ensures err { OnErr result (self.new ≡ self.old) }
     {

@@ -6,7 +6,7 @@ ghost use Rattle.std.specs.Option.{option_map};
 ghost use Rattle.tm_types.specs.Segment.{is_printable, IsSegmentText};
 ghost use Rattle.model_system.specs.Programs.{is_plain, is_statement};
 ghost use Rattle.model_system.specs.Script as spec;
-ghost use Rattle.script_run.specs.Running.{at_rest, texts_before};
+ghost use Rattle.script_run.specs.RunningScript.{at_rest, texts_before};
 
 use crate::texts::append_cut;
 use model_system::{Text, Variable};
@@ -32,7 +32,7 @@ pub struct Script {
 impl Model for Script {
     ghost use Rattle.std.specs.Prelude.{◌≡◌, length};
     ghost use Rattle.model_system.specs.Script.{ScriptState};
-    ghost use Rattle.script_run.specs.Running.{AreTexts, Going, texts_before};
+    ghost use Rattle.script_run.specs.RunningScript.{AreTexts, Going, texts_before};
 
     ghost Value = { Going };
 
@@ -42,7 +42,7 @@ impl Model for Script {
 }
 
 impl Script {
-    ghost use Rattle.script_run.specs.Running.{HasRoom};
+    ghost use Rattle.script_run.specs.RunningScript.{HasRoomForStatement};
 
     /// A script at its first line, with empty variables.
     pub fn start(alloc: Global) -> Result<Script, Memory>
@@ -98,7 +98,7 @@ impl Script {
     /// The text that a line names.
     pub fn text<'a>(&'a self, text: &'a Text) -> &'a [u8]
         requires { IsTrue (is_plain text.now) }
-        ensures value { result.now ≡ spec.text_of self.now.here text.now }
+        ensures value { result.now ≡ spec.script_text_of self.now.here text.now }
         ensures printable { IsTrue (list_all is_printable result.now) }
     {
         match text {
@@ -112,7 +112,7 @@ impl Script {
     /// The texts joined, cut at the limit of a text.
     pub fn joined(&self, alloc: Global, texts: &[Text]) -> Result<Bytes, Memory>
         requires { IsTrue (list_all is_plain texts.now) }
-        ensures value { IfOk result (λ joined. joined ≡ spec.joined self.now.here texts.now) }
+        ensures value { IfOk result (λ joined. joined ≡ spec.joined_texts self.now.here texts.now) }
         ensures text { IfOk result (λ joined. IsSegmentText joined) }
     {
         let mut joined = Bytes::new(alloc);
@@ -126,7 +126,7 @@ impl Script {
     /// Executes a statement that gives a variable this text.
     pub fn assign(&mut self, x: &Variable, text: Bytes)
         requires text { IsSegmentText text }
-        requires room { HasRoom self.old.here }
+        requires room { HasRoomForStatement self.old.here }
         ensures { self.new ≡ record self.old { here = spec.assigns self.old.here x.now text } }
     {
         set_variable(
@@ -141,8 +141,8 @@ impl Script {
 
     /// Executes a statement that goes on at this place.
     pub fn go_to(&mut self, place: usize)
-        requires { HasRoom self.old.here }
-        ensures { self.new ≡ record self.old { here = spec.goes_on self.old.here place self.old.here.variables } }
+        requires { HasRoomForStatement self.old.here }
+        ensures { self.new ≡ record self.old { here = spec.script_goes_on self.old.here place self.old.here.variables } }
     {
         self.place = place;
         self.executed += 1;
@@ -157,7 +157,7 @@ impl Script {
         status: Status,
         area: Option<&[u8]>,
     ) -> Result<(), Memory>
-        requires room { HasRoom self.old.here }
+        requires room { HasRoomForStatement self.old.here }
         requires variable { IfSome set (λ x. x < 26) }
         requires text { IfSome (option_map (λ (text : Bor _). text.now) area) IsSegmentText }
         ensures ok { OnOk result (self.new ≡ at_rest (spec.moved_on self.old.here (Some set) (record { status = status; area = option_map (λ (text : Bor _). text.now) area.entry }))) }
@@ -177,7 +177,7 @@ impl Script {
 
     /// The same with a text that is taken over. This takes no memory.
     pub fn answer_taking(&mut self, set: Option<u8>, status: Status, area: Option<Bytes>)
-        requires room { HasRoom self.old.here }
+        requires room { HasRoomForStatement self.old.here }
         requires variable { IfSome set (λ x. x < 26) }
         requires text { IfSome area IsSegmentText }
         ensures { self.new ≡ at_rest (spec.moved_on self.old.here (Some set) (record { status = status; area = area })) }
@@ -194,7 +194,7 @@ impl Script {
     /// Goes on behind a call that was answered with this status, whatever its variable became. There the
     /// script stands.
     fn pass_call(&mut self, status: Status)
-        requires { HasRoom self.old.here }
+        requires { HasRoomForStatement self.old.here }
         ensures { self.new ≡ at_rest (record self.old.here { place = self.old.here.place + 1; status = status; executed = self.old.here.executed + 1 }) }
     {
         keep_none(&mut self.kept);

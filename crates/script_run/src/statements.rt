@@ -6,7 +6,7 @@ ghost use Rattle.tm_types.specs.Segment.{IsSegmentText};
 ghost use Rattle.model_system.specs.Programs.{is_plain, is_statement};
 ghost use Rattle.model_system.specs.declared.statement.Statement.TheVariants as line;
 ghost use Rattle.model_system.specs.Script as spec;
-ghost use Rattle.script_run.specs.Running.{AreKeyTexts, IsKeyText, Does, HasRoom};
+ghost use Rattle.script_run.specs.RunningScript.{AreKeyTexts, IsKeyText, DoesStatement, HasRoomForStatement};
 
 use crate::arithmetic::{difference, sum};
 use crate::script::Script;
@@ -25,9 +25,9 @@ pub fn execute(
     script: &mut Script,
     statement: &Statement,
 ) -> Result<Option<Need>, Memory>
-    requires room { HasRoom script.old.here }
+    requires room { HasRoomForStatement script.old.here }
     requires allowed { IsTrue (is_statement statement.now) }
-    ensures ok { IfOk result (Does (spec.executed_by statement.now script.old.here) script.old script.new) }
+    ensures ok { IfOk result (DoesStatement (spec.executed_by statement.now script.old.here) script.old script.new) }
     ensures err { OnErr result (script.new ≡ script.old) }
 {
     match statement {
@@ -56,9 +56,9 @@ fn set(
     x: &Variable,
     texts: &Texts,
 ) -> Result<Option<Need>, Memory>
-    requires room { HasRoom script.old.here }
+    requires room { HasRoomForStatement script.old.here }
     requires plain { IsTrue (list_all is_plain texts.now) }
-    ensures ok { IfOk result (Does (spec.executed_by (line.Set x.now texts.now) script.old.here) script.old script.new) }
+    ensures ok { IfOk result (DoesStatement (spec.executed_by (line.Set x.now texts.now) script.old.here) script.old script.new) }
     ensures err { OnErr result (script.new ≡ script.old) }
 {
     let text = script.joined(alloc, texts.as_slice())?;
@@ -73,9 +73,9 @@ fn take_word(
     y: &Variable,
     number: u8,
 ) -> Result<Option<Need>, Memory>
-    requires room { HasRoom script.old.here }
+    requires room { HasRoomForStatement script.old.here }
     requires number { 1 ≤ number }
-    ensures ok { IfOk result (Does (spec.executed_by (line.Word x.now y.now number) script.old.here) script.old script.new) }
+    ensures ok { IfOk result (DoesStatement (spec.executed_by (line.Word x.now y.now number) script.old.here) script.old script.new) }
     ensures err { OnErr result (script.new ≡ script.old) }
 {
     let text = Bytes::copied(alloc, word(script.variable(y), number))?;
@@ -91,9 +91,9 @@ fn take_cut(
     start: u16,
     count: u16,
 ) -> Result<Option<Need>, Memory>
-    requires room { HasRoom script.old.here }
+    requires room { HasRoomForStatement script.old.here }
     requires start { 1 ≤ start }
-    ensures ok { IfOk result (Does (spec.executed_by (line.Cut x.now y.now start count) script.old.here) script.old script.new) }
+    ensures ok { IfOk result (DoesStatement (spec.executed_by (line.Cut x.now y.now start count) script.old.here) script.old script.new) }
     ensures err { OnErr result (script.new ≡ script.old) }
 {
     let text = Bytes::copied(alloc, cut(script.variable(y), start, count))?;
@@ -102,8 +102,8 @@ fn take_cut(
 }
 
 fn pad(alloc: Global, script: &mut Script, x: &Variable, width: u8) -> Result<Option<Need>, Memory>
-    requires { HasRoom script.old.here }
-    ensures ok { IfOk result (Does (spec.executed_by (line.Pad x.now width) script.old.here) script.old script.new) }
+    requires { HasRoomForStatement script.old.here }
+    ensures ok { IfOk result (DoesStatement (spec.executed_by (line.Pad x.now width) script.old.here) script.old script.new) }
     ensures err { OnErr result (script.new ≡ script.old) }
 {
     let text = padded(alloc, script.variable(x), width)?;
@@ -117,8 +117,8 @@ fn add(
     x: &Variable,
     y: &Variable,
 ) -> Result<Option<Need>, Memory>
-    requires { HasRoom script.old.here }
-    ensures ok { IfOk result (Does (spec.executed_by (line.Add x.now y.now) script.old.here) script.old script.new) }
+    requires { HasRoomForStatement script.old.here }
+    ensures ok { IfOk result (DoesStatement (spec.executed_by (line.Add x.now y.now) script.old.here) script.old script.new) }
     ensures err { OnErr result (script.new ≡ script.old) }
 {
     let text = sum(alloc, script.variable(x), script.variable(y))?;
@@ -131,8 +131,8 @@ fn subtract(
     x: &Variable,
     y: &Variable,
 ) -> Result<Option<Need>, Memory>
-    requires { HasRoom script.old.here }
-    ensures ok { IfOk result (Does (spec.executed_by (line.Less x.now y.now) script.old.here) script.old script.new) }
+    requires { HasRoomForStatement script.old.here }
+    ensures ok { IfOk result (DoesStatement (spec.executed_by (line.Less x.now y.now) script.old.here) script.old script.new) }
     ensures err { OnErr result (script.new ≡ script.old) }
 {
     let text = difference(alloc, script.variable(x), script.variable(y))?;
@@ -141,9 +141,9 @@ fn subtract(
 
 /// Executes a sum or a difference that came to this text; without one it ends the script abnormally.
 fn count(script: &mut Script, x: &Variable, text: Option<Bytes>) -> Option<Need>
-    requires room { HasRoom script.old.here }
+    requires room { HasRoomForStatement script.old.here }
     requires text { IfSome text (λ digits. IsSegmentText digits) }
-    ensures { Does (spec.counted script.old.here x.now text) script.old script.new result }
+    ensures { DoesStatement (spec.computed script.old.here x.now text) script.old script.new result }
 {
     match text {
         Some(digits) => {
@@ -163,10 +163,10 @@ fn branch(
     right: &Text,
     target: &Target,
 ) -> Result<Option<Need>, Memory>
-    requires room { HasRoom script.old.here }
+    requires room { HasRoomForStatement script.old.here }
     requires left { IsTrue (is_plain left.now) }
     requires right { IsTrue (is_plain right.now) }
-    ensures ok { IfOk result (Does (spec.executed_by (line.If left.now comparison right.now target.now) script.old.here) script.old script.new) }
+    ensures ok { IfOk result (DoesStatement (spec.executed_by (line.If left.now comparison right.now target.now) script.old.here) script.old script.new) }
     ensures err { OnErr result (script.new ≡ script.old) }
 {
     let place = if holds(comparison, script.text(left), script.text(right)) {
@@ -179,8 +179,8 @@ fn branch(
 }
 
 fn go_to(script: &mut Script, target: &Target) -> Result<Option<Need>, Memory>
-    requires { HasRoom script.old.here }
-    ensures ok { IfOk result (Does (spec.executed_by (line.Goto target.now) script.old.here) script.old script.new) }
+    requires { HasRoomForStatement script.old.here }
+    ensures ok { IfOk result (DoesStatement (spec.executed_by (line.Goto target.now) script.old.here) script.old script.new) }
     ensures err { OnErr result (script.new ≡ script.old) }
 {
     script.go_to(target.place as usize);
@@ -195,7 +195,7 @@ fn call(
     area: &Option<Variable>,
     ssas: &ScriptSsas,
 ) -> Result<Option<Need>, Memory>
-    ensures { IfOk result (Does (spec.executed_by (line.Call function pcb area.now ssas.now) script.now.here) script.now script.now) }
+    ensures { IfOk result (DoesStatement (spec.executed_by (line.Call function pcb area.now ssas.now) script.now.here) script.now script.now) }
 {
     let area = area_text(alloc, script, area)?;
     let ssas = call_ssas(alloc, script, ssas.as_slice())?;

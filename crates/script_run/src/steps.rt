@@ -2,7 +2,7 @@
 ghost use Rattle.std.specs.Prelude.{◌≡◌, ◌+◌, drop, IfOk, OnOk, OnErr, IfSome};
 ghost use Rattle.model_system.specs.Programs.{is_label};
 ghost use Rattle.model_system.specs.Script as spec;
-ghost use Rattle.script_run.specs.Running.{HasTexts, GivesRoom, Steps};
+ghost use Rattle.script_run.specs.RunningScript.{HasTexts, GivesRoom, ScriptSteps};
 
 use crate::script::Script;
 use crate::statements::execute;
@@ -22,7 +22,7 @@ pub fn go_on(
     script: &mut Script,
 ) -> Result<Need, Memory>
     ensures need { IfOk result (λ need. need ≡ spec.need_at program.now limit script.old.here) }
-    ensures here { OnOk result (script.new.here ≡ spec.settled program.now limit script.old.here) }
+    ensures here { OnOk result (script.new.here ≡ spec.script_settled program.now limit script.old.here) }
     ensures texts { IfOk result HasTexts }
     ensures room { IfOk result (λ need. GivesRoom need script.new.here) }
     ensures stood { script.new.stood ≡ script.old.stood }
@@ -43,7 +43,7 @@ fn step(
     program: &Program,
     script: &mut Script,
 ) -> Result<Option<Need>, Memory>
-    ensures ok { IfOk result (Steps program.now limit script.old script.new) }
+    ensures ok { IfOk result (ScriptSteps program.now limit script.old script.new) }
     ensures stood { script.new.stood ≡ script.old.stood }
 {
     script.arrive(first_statement(program, script.place()));

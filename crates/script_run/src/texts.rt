@@ -2,7 +2,7 @@
 ghost use Rattle.std.specs.Prelude.{IsTrue, ◌≡◌, ◌≤◌, ◌==◌, ◌++◌, not, length, take, drop, position, slice_index_or, OnOk, OnErr, IfOk, [], nat_eq};
 ghost use Rattle.std.specs.List.{list_all};
 ghost use Rattle.tm_types.specs.Segment.{is_printable, IsSegmentText};
-ghost use Rattle.script_run.specs.Runs as runs;
+ghost use Rattle.script_run.specs.TextRuns as runs;
 ghost use Rattle.model_system.specs.Texts as spec;
 
 use model_system::Comparison;
@@ -80,7 +80,7 @@ pub fn cut(text: &[u8], start: u16, count: u16) -> &[u8]
 /// The text with zeros before it, up to so many bytes.
 pub fn padded(alloc: Global, text: &[u8], width: u8) -> Result<Bytes, Memory>
     requires { IsSegmentText text.now }
-    ensures value { IfOk result (λ padded. padded ≡ spec.padded text.now width) }
+    ensures value { IfOk result (λ padded. padded ≡ spec.zero_padded text.now width) }
     ensures text { IfOk result (λ padded. IsSegmentText padded) }
 {
     let zeros = (width as usize).saturating_sub(text.len());
@@ -108,7 +108,7 @@ pub fn append_cut(joined: &mut Bytes, text: &[u8]) -> Result<(), Memory>
 
 /// Whether the comparison holds of the texts.
 pub fn holds(comparison: Comparison, left: &[u8], right: &[u8]) -> bool
-    ensures { result ≡ spec.holds comparison left.now right.now }
+    ensures { result ≡ spec.comparison_holds comparison left.now right.now }
 {
     match comparison {
         Comparison::Equal => left == right,

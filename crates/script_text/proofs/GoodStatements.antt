@@ -1,7 +1,7 @@
 -- Statements that keep what was read.
 use Rattle.std.proofs.Common.{◌≡◌, ℕ, ◌≤◌, Bool, true, false, ◌&&◌, cond, List, [], ◌∷◌, Result, Ok, Err, refl, ap, sym, ◌∙◌, nat_le, arith}
 use Rattle.std.specs.Prelude.{Option, Some, None, IfOk, is_some, is_none}
-use Rattle.text_rows.specs.Lowest.{both, also}
+use Rattle.text_rows.specs.LowestRule.{both, also}
 use Rattle.tm_types.specs.declared.function.Function.{Function}
 use Rattle.model_system.specs.declared.script_ssa.ScriptSsa.{ScriptSsa}
 use Rattle.model_system.specs.declared.statement.Comparison.{Comparison}
@@ -13,10 +13,10 @@ use Rattle.script_text.specs.Values.{variable_of, ssas_of}
 use Rattle.script_text.specs.Statements.{if_made, area_taken, no_area, area_of, with_area}
 use Rattle.model_system.specs.declared.statement.Statement.{Statement}
 use Rattle.model_system.specs.declared.statement.Statement.TheVariants.{Label, Set, Word, Cut, Pad, Add, Less, If, Goto, Call, Abend, End}
-use Rattle.script_text.specs.Good.{are_printable, is_free, IsGood}
+use Rattle.script_text.specs.GoodStatement.{are_all_printable, is_unlabelled, IsGood}
 
 module _ (places : List ℕ → Option ℕ) (here : ℕ) (words : List (List ℕ)) where
-  pub free_good : (statement : Statement) → is_free statement ≡ true → (are_printable words ≡ true → is_statement statement ≡ true) → IsGood places here words false None statement
+  pub free_good : (statement : Statement) → is_unlabelled statement ≡ true → (are_all_printable words ≡ true → is_statement statement ≡ true) → IsGood places here words false None statement
   free_good (Set x texts) e allowed = record { allowed = allowed; placed = tt; kind = refl; label_is = refl }
   free_good (Word x y number) e allowed = record { allowed = allowed; placed = tt; kind = refl; label_is = refl }
   free_good (Cut x y start count) e allowed = record { allowed = allowed; placed = tt; kind = refl; label_is = refl }
@@ -30,7 +30,7 @@ module _ (places : List ℕ → Option ℕ) (here : ℕ) (words : List (List ℕ
   free_good (If left comparison right target) e allowed = cc
   free_good (Goto target) e allowed = cc
 
-  pub free_read : (read : Result Statement ℕ) → IfOk read (λ s. is_free s ≡ true) → IfOk read (λ s. is_statement s ≡ true) → IfOk read (IsGood places here words false None)
+  pub free_read : (read : Result Statement ℕ) → IfOk read (λ s. is_unlabelled s ≡ true) → IfOk read (λ s. is_statement s ≡ true) → IfOk read (IsGood places here words false None)
   free_read (Ok statement) free allowed = free_good statement free (λ p. allowed)
   free_read (Err rule) free allowed = tt
 
@@ -67,12 +67,12 @@ five_words w0 w1 w2 w3 w4 w5 a b c d e h0 h1 h2 h3 h4 h5 =
 
 module _ (places : List ℕ → Option ℕ) (here : ℕ) (words : List (List ℕ)) where
   record Fits (parts : (Text × Comparison) × (Text × Target)) : Type 0 where
-    left : are_printable words ≡ true → is_plain parts.0.0 ≡ true
-    right : are_printable words ≡ true → is_plain parts.1.0 ≡ true
+    left : are_all_printable words ≡ true → is_plain parts.0.0 ≡ true
+    right : are_all_printable words ≡ true → is_plain parts.1.0 ≡ true
     target : places parts.1.1.label ≡ Some parts.1.1.place
 
   both_fit : (left right : Result Text ℕ) (comparison : Result Comparison ℕ) (target : Result Target ℕ)
-      → IfOk left (λ t. are_printable words ≡ true → is_plain t ≡ true) → IfOk right (λ t. are_printable words ≡ true → is_plain t ≡ true) → IfOk target (λ t. places t.label ≡ Some t.place)
+      → IfOk left (λ t. are_all_printable words ≡ true → is_plain t ≡ true) → IfOk right (λ t. are_all_printable words ≡ true → is_plain t ≡ true) → IfOk target (λ t. places t.label ≡ Some t.place)
       → IfOk (both (both left comparison) (both right target)) Fits
   unfolding both
   both_fit (Ok l) (Ok r) (Ok c) (Ok t) hl hr ht = record { left = hl; right = hr; target = ht }
@@ -105,7 +105,7 @@ module _ (places : List ℕ → Option ℕ) (here : ℕ) (words : List (List ℕ
   also_fit (Err rule) (Err other) fits = tt
 
   pub if_good : (left right : Result Text ℕ) (comparison : Result Comparison ℕ) (target : Result Target ℕ) (goto : Result (Unit {0}) ℕ)
-      → IfOk left (λ t. are_printable words ≡ true → is_plain t ≡ true) → IfOk right (λ t. are_printable words ≡ true → is_plain t ≡ true) → IfOk target (λ t. places t.label ≡ Some t.place)
+      → IfOk left (λ t. are_all_printable words ≡ true → is_plain t ≡ true) → IfOk right (λ t. are_all_printable words ≡ true → is_plain t ≡ true) → IfOk target (λ t. places t.label ≡ Some t.place)
       → IfOk (if_made (also (both (both left comparison) (both right target)) goto)) (IsGood places here words false None)
   if_good left right comparison target goto hl hr ht = also_fit (both (both left comparison) (both right target)) goto (both_fit left right comparison target hl hr ht)
 

@@ -5,21 +5,21 @@ use Rattle.std.specs.List.{list_all}
 use Rattle.std.proofs.lemmas.List.Sums.{sum_by-append}
 use Rattle.std.proofs.lemmas.Option.{same_Some}
 use Rattle.text_rows.specs.Lines.{is_passed_over}
-use Rattle.model_system.specs.Programs.{IsProgram, is_statement, is_label, statement_count, label_place, target_of}
+use Rattle.model_system.specs.Programs.{IsProgram, is_statement, is_label, statement_count, label_place, statement_target}
 use Rattle.model_system.specs.declared.program.ScriptLine.{ScriptLine}
 use Rattle.model_system.specs.declared.statement.Statement.{Statement}
 use Rattle.model_system.specs.declared.statement.Statement.TheVariants.{Label, Set, Word, Cut, Pad, Add, Less, If, Goto, Call, Abend, End}
 use Rattle.model_system.specs.declared.statement.Target.{Target}
 use Rattle.tm_types.proofs.Hierarchy.{slice_get_push}
-use Rattle.script_text.specs.Good.{IsPlaced, IsKept}
-use Rattle.script_text.specs.Kept.{AreKept}
-use Rattle.script_text.specs.Scripts.{words, is_last, counted, first_or, label_from}
+use Rattle.script_text.specs.GoodStatement.{IsPlaced, IsStatementKept}
+use Rattle.script_text.specs.KeptLines.{AreLinesKept}
+use Rattle.script_text.specs.Scripts.{script_words, is_script_last, statements_before, first_or, label_in_lines}
 use Rattle.script_text.specs.Statements.{has_label_word}
 use Rattle.script_text.proofs.LabelSteps.{from_passed, from_last, one_line, place_push}
-use Rattle.script_text.proofs.Printable.{both_true}
+use Rattle.tm_types.proofs.Truths.{both_true}
 
 -- nothing was read
-pub nothing_kept : (places : List ℕ → Option ℕ) (lines : List (List ℕ)) → AreKept places [] 0 lines lines
+pub nothing_kept : (places : List ℕ → Option ℕ) (lines : List (List ℕ)) → AreLinesKept places [] 0 lines lines
 nothing_kept places lines = record {
   lines = λ place line e. cc;
   count = refl;
@@ -29,7 +29,7 @@ nothing_kept places lines = record {
 
 -- a line that is passed over
 pub passed_kept : (places : List ℕ → Option ℕ) (items : List ScriptLine) (statements : ℕ) (line : List ℕ) (left all : List (List ℕ)) → is_passed_over line ≡ true
-    → AreKept places items statements (line ∷ left) all → AreKept places items statements left all
+    → AreLinesKept places items statements (line ∷ left) all → AreLinesKept places items statements left all
 passed_kept places items statements line left all e kept = record {
   lines = kept.lines;
   count = kept.count;
@@ -51,18 +51,18 @@ count_push items item n b e c =
     (sum_by-append (λ line. cond (not (is_label line.statement)) 1 0) items (item ∷ []) ∙ ap (λ k. k + sum_by (λ line. cond (not (is_label line.statement)) 1 0) (item ∷ [])) c ∙ ap (λ k. n + k) (one_label item b e))
 
 -- a line more
-pub line_kept : (places : List ℕ → Option ℕ) (items : List ScriptLine) (statements : ℕ) (number : ℕ) (statement : Statement) (line : List ℕ) (left all : List (List ℕ)) → is_passed_over line ≡ false → is_last line ≡ false
-    → IsKept places (length items) statements line statement → AreKept places items statements (line ∷ left) all
-    → AreKept places (items ++ record { number = number; statement = statement } ∷ []) (counted statements line) left all
+pub line_kept : (places : List ℕ → Option ℕ) (items : List ScriptLine) (statements : ℕ) (number : ℕ) (statement : Statement) (line : List ℕ) (left all : List (List ℕ)) → is_passed_over line ≡ false → is_script_last line ≡ false
+    → IsStatementKept places (length items) statements line statement → AreLinesKept places items statements (line ∷ left) all
+    → AreLinesKept places (items ++ record { number = number; statement = statement } ∷ []) (statements_before statements line) left all
 line_kept places items statements number statement line left all e f good kept =
     let item : ScriptLine = record { number = number; statement = statement } in record {
       lines = λ place other at. ⊎_elim (kept.lines place other)
           (λ h. subst (λ o. (is_statement o.statement ≡ true) × IsPlaced places place o.statement) h.1 (subst (λ p. (is_statement statement ≡ true) × IsPlaced places p statement) (sym h.0) (good.allowed, good.placed)))
           (slice_get_push items item place other at);
-      count = count_push items item statements (has_label_word (words line)) good.kind kept.count;
+      count = count_push items item statements (has_label_word (script_words line)) good.kind kept.count;
       few = good.room;
       labels = λ name.
-          ap (λ n. first_or (label_place name (items ++ item ∷ [])) (label_from n left name)) (length_push items item)
+          ap (λ n. first_or (label_place name (items ++ item ∷ [])) (label_in_lines n left name)) (length_push items item)
           ∙ one_line (label_place name items) (label_place name (items ++ item ∷ [])) (length items) line left name e f (place_push name items item line good.label_is) ∙ kept.labels name;
     }
   where
@@ -74,7 +74,7 @@ all_allowed : (items : List ScriptLine) → ((place : ℕ) (line : ScriptLine) �
 all_allowed [] each = refl
 all_allowed (item ∷ items) each = both_true (is_statement item.statement) (list_all (λ line. is_statement line.statement) items) (each 0 item refl) (all_allowed items (λ place line at. each (suc place) line at))
 
-target_placed : (places : List ℕ → Option ℕ) (place : ℕ) (statement : Statement) (target : Target) → IsPlaced places place statement → target_of statement ≡ Some target → places target.label ≡ Some target.place
+target_placed : (places : List ℕ → Option ℕ) (place : ℕ) (statement : Statement) (target : Target) → IsPlaced places place statement → statement_target statement ≡ Some target → places target.label ≡ Some target.place
 target_placed places place (If left comparison right goal) target placed e = let same : goal ≡ target = same_Some goal target e in subst (λ t. places t.label ≡ Some t.place) same placed
 target_placed places place (Goto goal) target placed e = let same : goal ≡ target = same_Some goal target e in subst (λ t. places t.label ≡ Some t.place) same placed
 target_placed places place (Label name) target placed e = cc
@@ -93,8 +93,8 @@ only_found (Some place) = refl
 only_found None = refl
 
 -- at the last line all is read
-pub program_kept : (places : List ℕ → Option ℕ) (items : List ScriptLine) (statements : ℕ) (line : List ℕ) (left all : List (List ℕ)) → is_passed_over line ≡ false → is_last line ≡ true
-    → ((name : List ℕ) → places name ≡ label_from 0 all name) → AreKept places items statements (line ∷ left) all → IsProgram items
+pub program_kept : (places : List ℕ → Option ℕ) (items : List ScriptLine) (statements : ℕ) (line : List ℕ) (left all : List (List ℕ)) → is_passed_over line ≡ false → is_script_last line ≡ true
+    → ((name : List ℕ) → places name ≡ label_in_lines 0 all name) → AreLinesKept places items statements (line ∷ left) all → IsProgram items
 program_kept places items statements line left all e f found kept =
     let here : (name : List ℕ) → label_place name items ≡ places name = λ name.
     sym (only_found (label_place name items)) ∙ sym (ap (first_or (label_place name items)) (from_last (length items) line left name e f)) ∙ kept.labels name ∙ sym (found name) in record {

@@ -11,17 +11,14 @@ use Rattle.model_system.specs.Programs as program
 use Rattle.model_system.specs.declared.program.ScriptLine.{ScriptLine}
 use Rattle.model_system.specs.declared.statement.Statement.{Statement}
 use Rattle.model_system.specs.declared.statement.Statement.TheVariants.{Label, Set, Word, Cut, Pad, Add, Less, If, Goto, Call, Abend, End}
-use Rattle.script_text.specs.Good.{label_name}
-use Rattle.script_text.specs.Scripts.{words, is_last, label_here, first_or, label_from}
+use Rattle.script_text.specs.GoodStatement.{label_name}
+use Rattle.script_text.specs.Scripts.{script_words, is_script_last, label_here, first_or, label_in_lines}
 use Rattle.script_text.specs.Statements.{label_in}
+use Rattle.tm_types.proofs.Truths.{none_is}
 
 first_none : (found : Option ℕ) → found ≡ first_or found None
 first_none (Some place) = refl
 first_none None = refl
-
-none_is : (found : Option ℕ) → is_some found ≡ false → found ≡ None
-none_is (Some place) e = cc
-none_is None e = refl
 
 added_by : (f g : List ℕ → Option ℕ) (label name : List ℕ) (place : ℕ) (b : Bool) → bytes_eq label name ≡ b → f label ≡ None
     → g name ≡ cond b (Some place) (f name) → g name ≡ first_or (f name) (cond b (Some place) None)
@@ -50,25 +47,25 @@ first_twice (Some place) b c = refl
 first_twice None b c = refl
 
 -- a line that is passed over
-pub from_passed : (place : ℕ) (line : List ℕ) (lines : List (List ℕ)) (name : List ℕ) → is_passed_over line ≡ true → label_from place (line ∷ lines) name ≡ label_from place lines name
-from_passed place line lines name e = ap (λ b. cond b (label_from place lines name) (cond (is_last line) None (first_or (label_here place (label_in (words line)) name) (label_from (suc place) lines name)))) e
+pub from_passed : (place : ℕ) (line : List ℕ) (lines : List (List ℕ)) (name : List ℕ) → is_passed_over line ≡ true → label_in_lines place (line ∷ lines) name ≡ label_in_lines place lines name
+from_passed place line lines name e = ap (λ b. cond b (label_in_lines place lines name) (cond (is_script_last line) None (first_or (label_here place (label_in (script_words line)) name) (label_in_lines (suc place) lines name)))) e
 
-pub from_last : (place : ℕ) (line : List ℕ) (lines : List (List ℕ)) (name : List ℕ) → is_passed_over line ≡ false → is_last line ≡ true → label_from place (line ∷ lines) name ≡ None
+pub from_last : (place : ℕ) (line : List ℕ) (lines : List (List ℕ)) (name : List ℕ) → is_passed_over line ≡ false → is_script_last line ≡ true → label_in_lines place (line ∷ lines) name ≡ None
 from_last place line lines name e f =
-    ap (λ b. cond b (label_from place lines name) (cond (is_last line) None (first_or (label_here place (label_in (words line)) name) (label_from (suc place) lines name)))) e
-    ∙ ap (λ b. cond b None (first_or (label_here place (label_in (words line)) name) (label_from (suc place) lines name))) f
+    ap (λ b. cond b (label_in_lines place lines name) (cond (is_script_last line) None (first_or (label_here place (label_in (script_words line)) name) (label_in_lines (suc place) lines name)))) e
+    ∙ ap (λ b. cond b None (first_or (label_here place (label_in (script_words line)) name) (label_in_lines (suc place) lines name))) f
 
-pub from_line : (place : ℕ) (line : List ℕ) (lines : List (List ℕ)) (name : List ℕ) → is_passed_over line ≡ false → is_last line ≡ false
-    → label_from place (line ∷ lines) name ≡ first_or (label_here place (label_in (words line)) name) (label_from (suc place) lines name)
+pub from_line : (place : ℕ) (line : List ℕ) (lines : List (List ℕ)) (name : List ℕ) → is_passed_over line ≡ false → is_script_last line ≡ false
+    → label_in_lines place (line ∷ lines) name ≡ first_or (label_here place (label_in (script_words line)) name) (label_in_lines (suc place) lines name)
 from_line place line lines name e f =
-    ap (λ b. cond b (label_from place lines name) (cond (is_last line) None (first_or (label_here place (label_in (words line)) name) (label_from (suc place) lines name)))) e
-    ∙ ap (λ b. cond b None (first_or (label_here place (label_in (words line)) name) (label_from (suc place) lines name))) f
+    ap (λ b. cond b (label_in_lines place lines name) (cond (is_script_last line) None (first_or (label_here place (label_in (script_words line)) name) (label_in_lines (suc place) lines name)))) e
+    ∙ ap (λ b. cond b None (first_or (label_here place (label_in (script_words line)) name) (label_in_lines (suc place) lines name))) f
 
 -- one line more: the labels so far with that of the line, and those behind it
-pub one_line : (found next : Option ℕ) (place : ℕ) (line : List ℕ) (lines : List (List ℕ)) (name : List ℕ) → is_passed_over line ≡ false → is_last line ≡ false
-    → next ≡ first_or found (label_here place (label_in (words line)) name) → first_or next (label_from (suc place) lines name) ≡ first_or found (label_from place (line ∷ lines) name)
+pub one_line : (found next : Option ℕ) (place : ℕ) (line : List ℕ) (lines : List (List ℕ)) (name : List ℕ) → is_passed_over line ≡ false → is_script_last line ≡ false
+    → next ≡ first_or found (label_here place (label_in (script_words line)) name) → first_or next (label_in_lines (suc place) lines name) ≡ first_or found (label_in_lines place (line ∷ lines) name)
 one_line found next place line lines name e f g =
-    ap (λ n. first_or n (label_from (suc place) lines name)) g ∙ first_twice found (label_here place (label_in (words line)) name) (label_from (suc place) lines name)
+    ap (λ n. first_or n (label_in_lines (suc place) lines name)) g ∙ first_twice found (label_here place (label_in (script_words line)) name) (label_in_lines (suc place) lines name)
     ∙ ap (first_or found) (sym (from_line place line lines name e f))
 
 -- the labels of the lines that were read
@@ -97,8 +94,8 @@ label_push place name (first ∷ items) item =
     more_by (program.sets_label name first.statement) place (label_here (place + suc (length items)) (label_name item.statement) name) _ (program.label_from (suc place) name items)
     (label_push (suc place) name items item ∙ ap (λ p. first_or (program.label_from (suc place) name items) (label_here p (label_name item.statement) name)) same)
 
-pub place_push : (name : List ℕ) (items : List ScriptLine) (item : ScriptLine) (line : List ℕ) → label_name item.statement ≡ label_in (words line)
-    → program.label_place name (items ++ item ∷ []) ≡ first_or (program.label_place name items) (label_here (length items) (label_in (words line)) name)
+pub place_push : (name : List ℕ) (items : List ScriptLine) (item : ScriptLine) (line : List ℕ) → label_name item.statement ≡ label_in (script_words line)
+    → program.label_place name (items ++ item ∷ []) ≡ first_or (program.label_place name items) (label_here (length items) (label_in (script_words line)) name)
 place_push name items item line e =
     label_push 0 name items item ∙ ap (λ p. first_or (program.label_place name items) (label_here p (label_name item.statement) name)) (omega arith)
     ∙ ap (λ l. first_or (program.label_place name items) (label_here (length items) l name)) e

@@ -1,12 +1,12 @@
 -- Words that are read one after another.
 use Rattle.std.proofs.Common.{◌≡◌, ℕ, List, [], ◌∷◌, Result, Ok, Err, refl, ap, append_assoc, append-nil, arith}
-use Rattle.text_rows.specs.Lowest.{both}
+use Rattle.text_rows.specs.LowestRule.{both}
 use Rattle.model_system.specs.declared.script_ssa.ScriptSsa.{ScriptSsa}
 use Rattle.model_system.specs.declared.text.Text.{Text}
-use Rattle.script_text.specs.Values.{with_text, with_ssa}
+use Rattle.script_text.specs.Values.{with_read_text, with_ssa}
 use Rattle.script_text.specs.WordLists.{and_last, and_more}
 
-pub one_text : (texts : Result (List Text) ℕ) (text : Result Text ℕ) (more : Result (List Text) ℕ) → and_more (and_last texts text) more ≡ and_more texts (with_text (both text more))
+pub one_text : (texts : Result (List Text) ℕ) (text : Result Text ℕ) (more : Result (List Text) ℕ) → and_more (and_last texts text) more ≡ and_more texts (with_read_text (both text more))
 unfolding both
 one_text (Ok texts) (Ok text) (Ok more) = ap Ok (append_assoc texts (text ∷ []) more)
 one_text (Ok texts) (Ok text) (Err rule) = refl
@@ -32,7 +32,7 @@ pub nothing_left : {A : Type 0} → (values : Result (List A) ℕ) → and_more 
 nothing_left (Ok values) = ap Ok (append-nil values)
 nothing_left (Err rule) = refl
 
-pub first_text : (text : Result Text ℕ) (more : Result (List Text) ℕ) → and_more (and_last (Ok []) text) more ≡ with_text (both text more)
+pub first_text : (text : Result Text ℕ) (more : Result (List Text) ℕ) → and_more (and_last (Ok []) text) more ≡ with_read_text (both text more)
 unfolding both
 first_text (Ok text) (Ok more) = refl
 first_text (Ok text) (Err rule) = refl

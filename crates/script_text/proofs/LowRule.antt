@@ -7,10 +7,10 @@ use Rattle.tm_types.specs.declared.function.Function.{Function}
 use Rattle.tm_types.specs.declared.function.Function.TheVariants.{GU, GN, GNP, GHU, GHN, GHNP, ISRT, REPL, DLET, PURG, CHNG, ROLB, ROLL}
 use Rattle.tm_types.specs.Segment.{is_printable}
 use Rattle.text_rows.specs.Lines.{is_passed_over, printable_line, split_at}
-use Rattle.text_rows.specs.Lowest.{both, also}
+use Rattle.text_rows.specs.LowestRule.{both, also}
 use Rattle.text_rows.specs.Names.{name_of}
 use Rattle.text_rows.specs.Numbers.{number_between}
-use Rattle.text_rows.specs.Refusals.{Answers, at_line, then_lines}
+use Rattle.text_rows.specs.Refusals.{AnswersLines, at_line, then_lines}
 use Rattle.text_rows.specs.declared.refused.LineRefused.{LineRefused}
 use Rattle.text_rows.specs.declared.refused.LineRefused.TheVariants.{BadLine, Memory}
 use Rattle.model_system.specs.Programs.{is_function_of, takes_area, takes_ssas}
@@ -26,9 +26,9 @@ use Rattle.model_system.specs.declared.text.Text.TheVariants.{Status}
 use Rattle.script_text.specs.declared.line_word.LineWord.{LineWord}
 use Rattle.script_text.specs.declared.line_word.LineWord.TheVariants.{Label, Set, Word, Cut, Pad, Add, Less, If, Goto, Call, Abend, End}
 use Rattle.script_text.specs.LowRules.{HasScriptRule}
-use Rattle.script_text.specs.Values.{variable_of, closed, as_text, named_text, text_of, with_text, texts_of, or_wrong_number, number_of, comparison_of, goto_word, found_at, target_for, target_of, any_key, equal_key, at_least, with_equal, behind_greater, with_greater, ssa_of, with_ssa, ssas_of, function_of}
-use Rattle.script_text.specs.Statements.{line_word, stands_at, label_at, label_of, set_made, set_of, word_made, word_of, cut_made, cut_of, pad_made, pad_of, pair_of, add_made, less_made, if_made, if_of, goto_made, goto_of, on_pcb, is_above_0, with_area, is_empty, area_taken, no_area, area_of, call_made, call_with, call_of, abend_made, abend_of, nothing_behind, ended, by_word, known_word, statement_of}
-use Rattle.script_text.specs.Scripts.{script, is_last, words, behind_first, statement_line, last_line, room_for, room_before, numbered, nothing_more, counted}
+use Rattle.script_text.specs.Values.{variable_of, quote_closed, as_text, named_text, read_text_of, with_read_text, read_texts, or_wrong_number, operand_number, comparison_of, goto_word, found_at, target_for, read_target, any_key, equal_key, at_least, with_equal, behind_greater, with_greater, ssa_of, with_ssa, ssas_of, function_of}
+use Rattle.script_text.specs.Statements.{line_word, stands_at, label_at, label_of, set_made, set_of, word_made, word_of, cut_made, read_cut, pad_made, read_pad, pair_of, add_made, less_made, if_made, if_of, goto_made, goto_of, on_pcb, is_above_0, with_area, is_empty, area_taken, no_area, area_of, call_made, call_with, read_call, abend_made, read_abend, nothing_behind, line_ended, by_word, known_word, statement_of}
+use Rattle.script_text.specs.Scripts.{script, is_script_last, script_words, behind_first, statement_line, program_end_line, room_for, room_before, numbered_statement, nothing_more, statements_before}
 
 abbrev IsLow : {A : Type 0} → Result A ℕ → Type 0
 IsLow (Ok value) = Unit {0}
@@ -62,7 +62,7 @@ variable_low [] = lit≤ tt
 variable_low (letter ∷ []) = if_low (nat_le 65 letter && nat_le letter 90) (Ok (letter - 65)) (Err 3) tt (lit≤ tt)
 variable_low (letter ∷ other ∷ letters) = lit≤ tt
 
-closed_low : (found : Option (List ℕ × List ℕ)) → IsLow (closed found)
+closed_low : (found : Option (List ℕ × List ℕ)) → IsLow (quote_closed found)
 closed_low (Some (inside, [])) = tt
 closed_low (Some (inside, byte ∷ bytes)) = lit≤ tt
 closed_low None = lit≤ tt
@@ -71,27 +71,27 @@ as_text_low : (x : Result ℕ ℕ) → IsLow x → IsLow (as_text x)
 as_text_low (Ok x) h = tt
 as_text_low (Err rule) h = h
 
-text_low : (word : List ℕ) → IsLow (text_of word)
-unfolding text_of
+text_low : (word : List ℕ) → IsLow (read_text_of word)
+unfolding read_text_of
 text_low [] = lit≤ tt
 text_low (byte ∷ bytes) =
-    if_low _ (closed (split_at 34 bytes)) (named_text (byte ∷ bytes)) (closed_low (split_at 34 bytes))
+    if_low _ (quote_closed (split_at 34 bytes)) (named_text (byte ∷ bytes)) (closed_low (split_at 34 bytes))
     (if_low (bytes_eq (byte ∷ bytes) (codes "STATUS")) (Ok Status) (as_text (variable_of (byte ∷ bytes))) tt (as_text_low (variable_of (byte ∷ bytes)) (variable_low (byte ∷ bytes))))
 
-with_text_low : (read : Result (Text × List Text) ℕ) → IsLow read → IsLow (with_text read)
+with_text_low : (read : Result (Text × List Text) ℕ) → IsLow read → IsLow (with_read_text read)
 with_text_low (Ok texts) h = tt
 with_text_low (Err rule) h = h
 
-texts_low : (words : List (List ℕ)) → IsLow (texts_of words)
+texts_low : (words : List (List ℕ)) → IsLow (read_texts words)
 texts_low [] = tt
-texts_low (word ∷ words) = with_text_low (both (text_of word) (texts_of words)) (both_low (text_of word) (texts_of words) (text_low word) (texts_low words))
+texts_low (word ∷ words) = with_text_low (both (read_text_of word) (read_texts words)) (both_low (read_text_of word) (read_texts words) (text_low word) (texts_low words))
 
 or_number_low : (read : Result ℕ ℕ) → IsLow (or_wrong_number read)
 or_number_low (Ok number) = tt
 or_number_low (Err rule) = lit≤ tt
 
-number_low : (low high : ℕ) (text : List ℕ) → IsLow (number_of low high text)
-unfolding number_of
+number_low : (low high : ℕ) (text : List ℕ) → IsLow (operand_number low high text)
+unfolding operand_number
 number_low low high text = or_number_low (number_between low high text)
 
 comparison_low : (word : List ℕ) → IsLow (comparison_of word)
@@ -110,8 +110,8 @@ target_for_low : (places : List ℕ → Option ℕ) (name : Result (List ℕ) �
 target_for_low places (Ok name) = found_low name (places name)
 target_for_low places (Err rule) = lit≤ tt
 
-target_low : (places : List ℕ → Option ℕ) (word : List ℕ) → IsLow (target_of places word)
-unfolding target_of
+target_low : (places : List ℕ → Option ℕ) (word : List ℕ) → IsLow (read_target places word)
+unfolding read_target
 target_low places word = target_for_low places (name_of word)
 
 any_low : (name : Result (List ℕ) ℕ) → IsLow (any_key name)
@@ -179,7 +179,7 @@ set_low : (words : List (List ℕ)) → IsLow (set_of words)
 unfolding set_of
 set_low [] = lit≤ tt
 set_low (x ∷ []) = lit≤ tt
-set_low (x ∷ word ∷ words) = set_made_low (both (variable_of x) (texts_of (word ∷ words))) (both_low (variable_of x) (texts_of (word ∷ words)) (variable_low x) (texts_low (word ∷ words)))
+set_low (x ∷ word ∷ words) = set_made_low (both (variable_of x) (read_texts (word ∷ words))) (both_low (variable_of x) (read_texts (word ∷ words)) (variable_low x) (texts_low (word ∷ words)))
 
 word_made_low : (read : Result (ℕ × (ℕ × ℕ)) ℕ) → IsLow read → IsLow (word_made read)
 word_made_low (Ok read) h = tt
@@ -191,35 +191,35 @@ word_low [] = lit≤ tt
 word_low (x ∷ []) = lit≤ tt
 word_low (x ∷ y ∷ []) = lit≤ tt
 word_low (x ∷ y ∷ number ∷ []) =
-    word_made_low (both (variable_of x) (both (variable_of y) (number_of 1 100 number)))
-    (both_low (variable_of x) (both (variable_of y) (number_of 1 100 number)) (variable_low x) (both_low (variable_of y) (number_of 1 100 number) (variable_low y) (number_low 1 100 number)))
+    word_made_low (both (variable_of x) (both (variable_of y) (operand_number 1 100 number)))
+    (both_low (variable_of x) (both (variable_of y) (operand_number 1 100 number)) (variable_low x) (both_low (variable_of y) (operand_number 1 100 number) (variable_low y) (number_low 1 100 number)))
 word_low (x ∷ y ∷ number ∷ other ∷ words) = lit≤ tt
 
 cut_made_low : (read : Result ((ℕ × ℕ) × (ℕ × ℕ)) ℕ) → IsLow read → IsLow (cut_made read)
 cut_made_low (Ok read) h = tt
 cut_made_low (Err rule) h = h
 
-cut_low : (words : List (List ℕ)) → IsLow (cut_of words)
-unfolding cut_of
+cut_low : (words : List (List ℕ)) → IsLow (read_cut words)
+unfolding read_cut
 cut_low [] = lit≤ tt
 cut_low (x ∷ []) = lit≤ tt
 cut_low (x ∷ y ∷ []) = lit≤ tt
 cut_low (x ∷ y ∷ start ∷ []) = lit≤ tt
 cut_low (x ∷ y ∷ start ∷ count ∷ []) =
-    cut_made_low (both (both (variable_of x) (variable_of y)) (both (number_of 1 1996 start) (number_of 1 1996 count)))
-    (both_low (both (variable_of x) (variable_of y)) (both (number_of 1 1996 start) (number_of 1 1996 count)) (both_low (variable_of x) (variable_of y) (variable_low x) (variable_low y))
-    (both_low (number_of 1 1996 start) (number_of 1 1996 count) (number_low 1 1996 start) (number_low 1 1996 count)))
+    cut_made_low (both (both (variable_of x) (variable_of y)) (both (operand_number 1 1996 start) (operand_number 1 1996 count)))
+    (both_low (both (variable_of x) (variable_of y)) (both (operand_number 1 1996 start) (operand_number 1 1996 count)) (both_low (variable_of x) (variable_of y) (variable_low x) (variable_low y))
+    (both_low (operand_number 1 1996 start) (operand_number 1 1996 count) (number_low 1 1996 start) (number_low 1 1996 count)))
 cut_low (x ∷ y ∷ start ∷ count ∷ other ∷ words) = lit≤ tt
 
 pad_made_low : (read : Result (ℕ × ℕ) ℕ) → IsLow read → IsLow (pad_made read)
 pad_made_low (Ok read) h = tt
 pad_made_low (Err rule) h = h
 
-pad_low : (words : List (List ℕ)) → IsLow (pad_of words)
-unfolding pad_of
+pad_low : (words : List (List ℕ)) → IsLow (read_pad words)
+unfolding read_pad
 pad_low [] = lit≤ tt
 pad_low (x ∷ []) = lit≤ tt
-pad_low (x ∷ width ∷ []) = pad_made_low (both (variable_of x) (number_of 1 18 width)) (both_low (variable_of x) (number_of 1 18 width) (variable_low x) (number_low 1 18 width))
+pad_low (x ∷ width ∷ []) = pad_made_low (both (variable_of x) (operand_number 1 18 width)) (both_low (variable_of x) (operand_number 1 18 width) (variable_low x) (number_low 1 18 width))
 pad_low (x ∷ width ∷ other ∷ words) = lit≤ tt
 
 pair_low : (words : List (List ℕ)) → IsLow (pair_of words)
@@ -252,10 +252,10 @@ if_statement_low places (left ∷ comparison ∷ []) = two_low comparison
 if_statement_low places (left ∷ comparison ∷ right ∷ []) = two_low comparison
 if_statement_low places (left ∷ comparison ∷ right ∷ goto ∷ []) = also_low (also {A = Statement} (Err 2) (comparison_of comparison)) (goto_word goto) (two_low comparison) (goto_word_low goto)
 if_statement_low places (left ∷ comparison ∷ right ∷ goto ∷ label ∷ []) =
-    also_low (if_made (both (both (text_of left) (comparison_of comparison)) (both (text_of right) (target_of places label)))) (goto_word goto)
-    (if_made_low (both (both (text_of left) (comparison_of comparison)) (both (text_of right) (target_of places label)))
-    (both_low (both (text_of left) (comparison_of comparison)) (both (text_of right) (target_of places label))
-    (both_low (text_of left) (comparison_of comparison) (text_low left) (comparison_low comparison)) (both_low (text_of right) (target_of places label) (text_low right) (target_low places label))))
+    also_low (if_made (both (both (read_text_of left) (comparison_of comparison)) (both (read_text_of right) (read_target places label)))) (goto_word goto)
+    (if_made_low (both (both (read_text_of left) (comparison_of comparison)) (both (read_text_of right) (read_target places label)))
+    (both_low (both (read_text_of left) (comparison_of comparison)) (both (read_text_of right) (read_target places label))
+    (both_low (read_text_of left) (comparison_of comparison) (text_low left) (comparison_low comparison)) (both_low (read_text_of right) (read_target places label) (text_low right) (target_low places label))))
     (goto_word_low goto)
 if_statement_low places (left ∷ comparison ∷ right ∷ goto ∷ label ∷ other ∷ words) = also_low (also {A = Statement} (Err 2) (comparison_of comparison)) (goto_word goto) (two_low comparison) (goto_word_low goto)
 
@@ -266,7 +266,7 @@ goto_made_low (Err rule) h = h
 goto_low : (places : List ℕ → Option ℕ) (words : List (List ℕ)) → IsLow (goto_of places words)
 unfolding goto_of
 goto_low places [] = lit≤ tt
-goto_low places (label ∷ []) = goto_made_low (target_of places label) (target_low places label)
+goto_low places (label ∷ []) = goto_made_low (read_target places label) (target_low places label)
 goto_low places (label ∷ other ∷ words) = lit≤ tt
 
 on_pcb_low : (function : Function) (pcb : Result ℕ ℕ) → IsLow pcb → IsLow (on_pcb function pcb)
@@ -299,20 +299,20 @@ call_with_low (Ok function) pcb above words h k =
     call_made_low function (both (on_pcb function pcb) (area_of function above words)) (both_low (on_pcb function pcb) (area_of function above words) (on_pcb_low function pcb k) (area_low function above words))
 call_with_low (Err rule) pcb above words h k = also_low {A = Statement} (Err rule) pcb h k
 
-call_low : (words : List (List ℕ)) → IsLow (call_of words)
-unfolding call_of
+call_low : (words : List (List ℕ)) → IsLow (read_call words)
+unfolding read_call
 call_low [] = lit≤ tt
 call_low (word ∷ []) = lit≤ tt
-call_low (word ∷ number ∷ words) = call_with_low (function_of word) (number_of 0 8 number) (is_above_0 number) words (function_low word) (number_low 0 8 number)
+call_low (word ∷ number ∷ words) = call_with_low (function_of word) (operand_number 0 8 number) (is_above_0 number) words (function_low word) (number_low 0 8 number)
 
 abend_made_low : (read : Result ℕ ℕ) → IsLow read → IsLow (abend_made read)
 abend_made_low (Ok read) h = tt
 abend_made_low (Err rule) h = h
 
-abend_low : (words : List (List ℕ)) → IsLow (abend_of words)
-unfolding abend_of
+abend_low : (words : List (List ℕ)) → IsLow (read_abend words)
+unfolding read_abend
 abend_low [] = lit≤ tt
-abend_low (number ∷ []) = abend_made_low (number_of 1 4095 number) (number_low 1 4095 number)
+abend_low (number ∷ []) = abend_made_low (operand_number 1 4095 number) (number_low 1 4095 number)
 abend_low (number ∷ other ∷ words) = lit≤ tt
 
 nothing_low : (words : List (List ℕ)) → IsLow (nothing_behind words)
@@ -320,7 +320,7 @@ unfolding nothing_behind
 nothing_low [] = tt
 nothing_low (word ∷ words) = lit≤ tt
 
-ended_low : (nothing : Result (Unit {0}) ℕ) → IsLow nothing → IsLow (ended nothing)
+ended_low : (nothing : Result (Unit {0}) ℕ) → IsLow nothing → IsLow (line_ended nothing)
 ended_low (Ok _) h = tt
 ended_low (Err rule) h = h
 
@@ -361,18 +361,18 @@ room_before_low before line = if_low _ (Ok tt) (room_for before) tt (room_low be
 line_low : (places : List ℕ → Option ℕ) (here before : ℕ) (line : List ℕ) → IsLow (statement_line places here before line)
 unfolding statement_line
 line_low places here before line =
-    also_low (also (statement_of places here (words line)) (printable_line line)) (room_before before line)
-    (also_low (statement_of places here (words line)) (printable_line line) (statement_low places here (words line)) (printable_low line)) (room_before_low before line)
+    also_low (also (statement_of places here (script_words line)) (printable_line line)) (room_before before line)
+    (also_low (statement_of places here (script_words line)) (printable_line line) (statement_low places here (script_words line)) (printable_low line)) (room_before_low before line)
 
-last_low : (line : List ℕ) → IsLow (last_line line)
-unfolding last_line
-last_low line = also_low (nothing_behind (behind_first (words line))) (printable_line line) (nothing_low (behind_first (words line))) (printable_low line)
+last_low : (line : List ℕ) → IsLow (program_end_line line)
+unfolding program_end_line
+last_low line = also_low (nothing_behind (behind_first (script_words line))) (printable_line line) (nothing_low (behind_first (script_words line))) (printable_low line)
 
 nothing_more_low : (number : ℕ) (read : Result (Unit {0}) ℕ) → IsLow read → IsLowAt (nothing_more (at_line number read))
 nothing_more_low number (Ok _) h = tt
 nothing_more_low number (Err rule) h = h
 
-then_low : (number : ℕ) (read : Result Statement ℕ) (more : Result (List ScriptLine) (ℕ × ℕ)) → IsLow read → IsLowAt more → IsLowAt (then_lines (numbered number (at_line number read)) more)
+then_low : (number : ℕ) (read : Result Statement ℕ) (more : Result (List ScriptLine) (ℕ × ℕ)) → IsLow read → IsLowAt more → IsLowAt (then_lines (numbered_statement number (at_line number read)) more)
 then_low number (Ok statement) (Ok lines) h k = tt
 then_low number (Ok statement) (Err fault) h k = k
 then_low number (Err rule) more h k = h
@@ -385,15 +385,15 @@ script_low : (places : List ℕ → Option ℕ) (number here before : ℕ) (line
 script_low places number here before [] = lit≤ tt
 script_low places number here before (line ∷ lines) =
     if_low_at (is_passed_over line) (script places (suc number) here before lines) _ (script_low places (suc number) here before lines)
-    (if_low_at (is_last line) (nothing_more (at_line number (last_line line))) _ (nothing_more_low number (last_line line) (last_low line))
-    (then_low number (statement_line places here before line) (script places (suc number) (suc here) (counted before line) lines) (line_low places here before line)
-    (script_low places (suc number) (suc here) (counted before line) lines)))
+    (if_low_at (is_script_last line) (nothing_more (at_line number (program_end_line line))) _ (nothing_more_low number (program_end_line line) (last_low line))
+    (then_low number (statement_line places here before line) (script places (suc number) (suc here) (statements_before before line) lines) (line_low places here before line)
+    (script_low places (suc number) (suc here) (statements_before before line) lines)))
 
 -- what a reader answers by a script has such a rule
-answer_low : {X : Type 0} → (answer : Result X LineRefused) (read : Result X (ℕ × ℕ)) → IsLowAt read → Answers answer read → HasScriptRule answer
+answer_low : {X : Type 0} → (answer : Result X LineRefused) (read : Result X (ℕ × ℕ)) → IsLowAt read → AnswersLines answer read → HasScriptRule answer
 answer_low (Ok value) read h e = tt
 answer_low (Err (BadLine line rule)) read h e = subst IsLowAt e h
 answer_low (Err Memory) read h e = tt
 
-pub script_rule : (answer : Result (List ScriptLine) LineRefused) (places : List ℕ → Option ℕ) (first : ℕ) (lines : List (List ℕ)) → Answers answer (script places first 0 0 lines) → HasScriptRule answer
+pub script_rule : (answer : Result (List ScriptLine) LineRefused) (places : List ℕ → Option ℕ) (first : ℕ) (lines : List (List ℕ)) → AnswersLines answer (script places first 0 0 lines) → HasScriptRule answer
 script_rule answer places first lines e = answer_low answer (script places first 0 0 lines) (script_low places first 0 0 lines) e

@@ -4,7 +4,7 @@ use Rattle.std.proofs.lemmas.Bool.{leb-false}
 use Rattle.std.proofs.lemmas.Bool.Decides.{nat_tests}
 use Rattle.text_rows.specs.Numbers.{is_number, number_between, number_of}
 use Rattle.script_text.specs.Statements.{is_above_0}
-use Rattle.script_text.specs.Values.{or_wrong_number, number_of as number_in}
+use Rattle.script_text.specs.Values.{or_wrong_number, operand_number as number_in}
 
 above_by : (n : ℕ) (number c b : Bool) → IfOk (or_wrong_number (cond number (cond (c && b) (Ok n) (Err 6)) (Err 5))) (λ m. (number && nat_le 1 n) ≡ nat_le 1 m)
 above_by n false c b = tt

@@ -1,5 +1,5 @@
 -- Parts of printable texts are printable.
-use Rattle.std.proofs.Common.{◌≡◌, ℕ, zero, suc, Bool, true, false, ◌&&◌, List, [], ◌∷◌, take, drop, Result, Ok, Err, refl, ap, sym, ◌∙◌}
+use Rattle.std.proofs.Common.{◌≡◌, ℕ, suc, Bool, true, ◌&&◌, List, [], ◌∷◌, take, drop, Result, Ok, Err, refl, ap, sym, ◌∙◌}
 use Rattle.std.specs.Prelude.{◌==◌, Option, Some, None, position, IfOk}
 use Rattle.std.specs.List.{list_all}
 use Rattle.std.specs.Option.{option_map}
@@ -9,19 +9,7 @@ use Rattle.text_rows.specs.Lines.{split_at}
 use Rattle.model_system.specs.Programs.{is_plain}
 use Rattle.model_system.specs.declared.text.Text.{Text}
 use Rattle.script_text.specs.WordLists.{and_last}
-
-pub both_true : (a b : Bool) → a ≡ true → b ≡ true → (a && b) ≡ true
-both_true true b e f = f
-both_true false b e f = cc
-
-pub parts_true : (a b : Bool) → (a && b) ≡ true → (a ≡ true) × (b ≡ true)
-parts_true true b e = (refl, e)
-parts_true false b e = cc
-
-take_all_pass : (p : ℕ → Bool) (n : ℕ) (xs : List ℕ) → list_all p xs ≡ true → list_all p (take n xs) ≡ true
-take_all_pass p zero xs e = refl
-take_all_pass p (suc n) [] e = refl
-take_all_pass p (suc n) (x ∷ xs) e = let parts = parts_true (p x) (list_all p xs) e in both_true (p x) (list_all p (take n xs)) parts.0 (take_all_pass p n xs parts.1)
+use Rattle.tm_types.proofs.Truths.{both_true, take_all_pass}
 
 front_by : (p : ℕ → Bool) (text front behind : List ℕ) (found : Option ℕ) → option_map {U = List ℕ × List ℕ} (λ n. (take n text, drop (suc n) text)) found ≡ Some (front, behind) → list_all p text ≡ true → list_all p front ≡ true
 front_by p text front behind (Some n) e all = let same : take n text ≡ front = ap (λ q. q.0) (same_Some (take n text, drop (suc n) text) (front, behind) e) in ap (list_all p) (sym same) ∙ take_all_pass p n text all

@@ -1,7 +1,7 @@
-pub mod Good
+pub mod GoodStatement
 pub mod LowRules
 pub mod Scripts
 pub mod Statements
 pub mod Values
 pub mod WordLists
-pub mod Kept
+pub mod KeptLines

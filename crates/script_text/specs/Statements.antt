@@ -2,7 +2,7 @@
 use Rattle.std.specs.Prelude.{ℕ, ◌==◌, ◌&&◌, ◌||◌, nat_le, Bool, true, false, List, [], ◌∷◌, codes, Option, Some, None, Result, Ok, Err, if◌then◌else◌}
 use Rattle.std.specs.Str.{bytes_eq}
 use Rattle.tm_types.specs.declared.function.Function.{Function}
-use Rattle.text_rows.specs.Lowest.{both, also}
+use Rattle.text_rows.specs.LowestRule.{both, also}
 use Rattle.text_rows.specs.Names.{name_of}
 use Rattle.text_rows.specs.Numbers as rows
 use Rattle.text_rows.specs.Numbers.{is_number}
@@ -15,7 +15,7 @@ use Rattle.model_system.specs.declared.statement.Target.{Target}
 use Rattle.model_system.specs.declared.text.Text.{Text}
 use Rattle.script_text.specs.declared.line_word.LineWord.{LineWord}
 use Rattle.script_text.specs.declared.line_word.LineWord.TheVariants.{Label, Set, Word, Cut, Pad, Add, Less, If, Goto, Call, Abend, End}
-use Rattle.script_text.specs.Values.{variable_of, text_of, texts_of, number_of, comparison_of, goto_word, target_of, ssas_of, function_of}
+use Rattle.script_text.specs.Values.{variable_of, read_text_of, read_texts, operand_number, comparison_of, goto_word, read_target, ssas_of, function_of}
 
 -- Rule 1: the first word of a line.
 unfoldable pub line_word : List ℕ → Option LineWord
@@ -75,7 +75,7 @@ set_made (Ok (x, texts)) = Ok (line.Set x texts)
 set_made (Err rule) = Err rule
 
 unfoldable pub set_of : List (List ℕ) → Result Statement ℕ
-set_of (x ∷ word ∷ words) = set_made (both (variable_of x) (texts_of (word ∷ words)))
+set_of (x ∷ word ∷ words) = set_made (both (variable_of x) (read_texts (word ∷ words)))
 set_of _ = Err 2
 
 abbrev pub word_made : Result (ℕ × (ℕ × ℕ)) ℕ → Result Statement ℕ
@@ -83,24 +83,24 @@ word_made (Ok (x, (y, number))) = Ok (line.Word x y number)
 word_made (Err rule) = Err rule
 
 unfoldable pub word_of : List (List ℕ) → Result Statement ℕ
-word_of (x ∷ y ∷ number ∷ []) = word_made (both (variable_of x) (both (variable_of y) (number_of 1 100 number)))
+word_of (x ∷ y ∷ number ∷ []) = word_made (both (variable_of x) (both (variable_of y) (operand_number 1 100 number)))
 word_of _ = Err 2
 
 abbrev pub cut_made : Result ((ℕ × ℕ) × (ℕ × ℕ)) ℕ → Result Statement ℕ
 cut_made (Ok ((x, y), (start, count))) = Ok (line.Cut x y start count)
 cut_made (Err rule) = Err rule
 
-unfoldable pub cut_of : List (List ℕ) → Result Statement ℕ
-cut_of (x ∷ y ∷ start ∷ count ∷ []) = cut_made (both (both (variable_of x) (variable_of y)) (both (number_of 1 1996 start) (number_of 1 1996 count)))
-cut_of _ = Err 2
+unfoldable pub read_cut : List (List ℕ) → Result Statement ℕ
+read_cut (x ∷ y ∷ start ∷ count ∷ []) = cut_made (both (both (variable_of x) (variable_of y)) (both (operand_number 1 1996 start) (operand_number 1 1996 count)))
+read_cut _ = Err 2
 
 abbrev pub pad_made : Result (ℕ × ℕ) ℕ → Result Statement ℕ
 pad_made (Ok (x, width)) = Ok (line.Pad x width)
 pad_made (Err rule) = Err rule
 
-unfoldable pub pad_of : List (List ℕ) → Result Statement ℕ
-pad_of (x ∷ width ∷ []) = pad_made (both (variable_of x) (number_of 1 18 width))
-pad_of _ = Err 2
+unfoldable pub read_pad : List (List ℕ) → Result Statement ℕ
+read_pad (x ∷ width ∷ []) = pad_made (both (variable_of x) (operand_number 1 18 width))
+read_pad _ = Err 2
 
 -- the two variables of ADD and LESS
 unfoldable pub pair_of : List (List ℕ) → Result (ℕ × ℕ) ℕ
@@ -127,7 +127,7 @@ if_miscounted _ = Err 2
 
 unfoldable pub if_of : (List ℕ → Option ℕ) → List (List ℕ) → Result Statement ℕ
 if_of places (left ∷ comparison ∷ right ∷ goto ∷ label ∷ []) =
-    also (if_made (both (both (text_of left) (comparison_of comparison)) (both (text_of right) (target_of places label)))) (goto_word goto)
+    also (if_made (both (both (read_text_of left) (comparison_of comparison)) (both (read_text_of right) (read_target places label)))) (goto_word goto)
 if_of places words = if_miscounted words
 
 abbrev pub goto_made : Result Target ℕ → Result Statement ℕ
@@ -135,7 +135,7 @@ goto_made (Ok target) = Ok (line.Goto target)
 goto_made (Err rule) = Err rule
 
 unfoldable pub goto_of : (List ℕ → Option ℕ) → List (List ℕ) → Result Statement ℕ
-goto_of places (label ∷ []) = goto_made (target_of places label)
+goto_of places (label ∷ []) = goto_made (read_target places label)
 goto_of places _ = Err 2
 
 -- Rule 10: PCB 0 has other functions than the others.
@@ -177,41 +177,41 @@ abbrev pub call_with : Result Function ℕ → Result ℕ ℕ → Bool → List 
 call_with (Ok function) pcb above words = call_made function (both (on_pcb function pcb) (area_of function above words))
 call_with (Err rule) pcb above words = also (Err rule) pcb
 
-unfoldable pub call_of : List (List ℕ) → Result Statement ℕ
-call_of (word ∷ number ∷ words) = call_with (function_of word) (number_of 0 8 number) (is_above_0 number) words
-call_of _ = Err 2
+unfoldable pub read_call : List (List ℕ) → Result Statement ℕ
+read_call (word ∷ number ∷ words) = call_with (function_of word) (operand_number 0 8 number) (is_above_0 number) words
+read_call _ = Err 2
 
 abbrev pub abend_made : Result ℕ ℕ → Result Statement ℕ
 abend_made (Ok number) = Ok (line.Abend (record { number = number }))
 abend_made (Err rule) = Err rule
 
-unfoldable pub abend_of : List (List ℕ) → Result Statement ℕ
-abend_of (number ∷ []) = abend_made (number_of 1 4095 number)
-abend_of _ = Err 2
+unfoldable pub read_abend : List (List ℕ) → Result Statement ℕ
+read_abend (number ∷ []) = abend_made (operand_number 1 4095 number)
+read_abend _ = Err 2
 
 -- nothing stands behind END and ENDPROG
 unfoldable pub nothing_behind : List (List ℕ) → Result (Unit {0}) ℕ
 nothing_behind [] = Ok tt
 nothing_behind (word ∷ words) = Err 2
 
-abbrev pub ended : Result (Unit {0}) ℕ → Result Statement ℕ
-ended (Ok _) = Ok line.End
-ended (Err rule) = Err rule
+abbrev pub line_ended : Result (Unit {0}) ℕ → Result Statement ℕ
+line_ended (Ok _) = Ok line.End
+line_ended (Err rule) = Err rule
 
 -- a line by its word; labels stand at these places, and this is the line's own
 abbrev pub by_word : LineWord → (List ℕ → Option ℕ) → ℕ → List (List ℕ) → Result Statement ℕ
 by_word Label places here words = label_of places here words
 by_word Set places here words = set_of words
 by_word Word places here words = word_of words
-by_word Cut places here words = cut_of words
-by_word Pad places here words = pad_of words
+by_word Cut places here words = read_cut words
+by_word Pad places here words = read_pad words
 by_word Add places here words = add_made (pair_of words)
 by_word Less places here words = less_made (pair_of words)
 by_word If places here words = if_of places words
 by_word Goto places here words = goto_of places words
-by_word Call places here words = call_of words
-by_word Abend places here words = abend_of words
-by_word End places here words = ended (nothing_behind words)
+by_word Call places here words = read_call words
+by_word Abend places here words = read_abend words
+by_word End places here words = line_ended (nothing_behind words)
 
 abbrev pub known_word : Option LineWord → (List ℕ → Option ℕ) → ℕ → List (List ℕ) → Result Statement ℕ
 known_word (Some word) places here words = by_word word places here words

@@ -4,7 +4,7 @@ use Rattle.std.specs.Str.{bytes_eq}
 use Rattle.tm_types.specs.declared.function.Function.{Function}
 use Rattle.tm_types.specs.declared.function.Function.TheVariants.{GU, GN, GNP, GHU, GHN, GHNP, ISRT, REPL, DLET, PURG, CHNG, ROLB, ROLL}
 use Rattle.text_rows.specs.Lines.{split_at}
-use Rattle.text_rows.specs.Lowest.{both}
+use Rattle.text_rows.specs.LowestRule.{both}
 use Rattle.text_rows.specs.Names.{name_of}
 use Rattle.text_rows.specs.Numbers.{number_between}
 use Rattle.model_system.specs.declared.script_ssa.ScriptSsa.{ScriptSsa}
@@ -22,10 +22,10 @@ variable_of (letter ∷ []) = if nat_le 65 letter && nat_le letter 90 then Ok (l
 variable_of (letter ∷ other ∷ letters) = Err 3
 
 -- Rule 4: a literal is closed by the next quote. Rule 3: nothing stands behind that.
-abbrev pub closed : Option (List ℕ × List ℕ) → Result Text ℕ
-closed (Some (inside, [])) = Ok (Literal inside)
-closed (Some (inside, byte ∷ bytes)) = Err 3
-closed None = Err 4
+abbrev pub quote_closed : Option (List ℕ × List ℕ) → Result Text ℕ
+quote_closed (Some (inside, [])) = Ok (Literal inside)
+quote_closed (Some (inside, byte ∷ bytes)) = Err 3
+quote_closed None = Err 4
 
 abbrev pub as_text : Result ℕ ℕ → Result Text ℕ
 as_text (Ok x) = Ok (Variable x)
@@ -35,26 +35,26 @@ as_text (Err rule) = Err rule
 abbrev pub named_text : List ℕ → Result Text ℕ
 named_text word = if bytes_eq word (codes "STATUS") then Ok Status else as_text (variable_of word)
 
-unfoldable pub text_of : List ℕ → Result Text ℕ
-text_of [] = Err 3
-text_of (byte ∷ bytes) = if byte == 34 then closed (split_at 34 bytes) else named_text (byte ∷ bytes)
+unfoldable pub read_text_of : List ℕ → Result Text ℕ
+read_text_of [] = Err 3
+read_text_of (byte ∷ bytes) = if byte == 34 then quote_closed (split_at 34 bytes) else named_text (byte ∷ bytes)
 
-abbrev pub with_text : Result (Text × List Text) ℕ → Result (List Text) ℕ
-with_text (Ok (text, texts)) = Ok (text ∷ texts)
-with_text (Err rule) = Err rule
+abbrev pub with_read_text : Result (Text × List Text) ℕ → Result (List Text) ℕ
+with_read_text (Ok (text, texts)) = Ok (text ∷ texts)
+with_read_text (Err rule) = Err rule
 
 -- the texts of the words, or the lowest rule that one of them breaks
-abbrev pub texts_of : List (List ℕ) → Result (List Text) ℕ
-texts_of [] = Ok []
-texts_of (word ∷ words) = with_text (both (text_of word) (texts_of words))
+abbrev pub read_texts : List (List ℕ) → Result (List Text) ℕ
+read_texts [] = Ok []
+read_texts (word ∷ words) = with_read_text (both (read_text_of word) (read_texts words))
 
 -- Rule 7: a number lies in its range.
 abbrev pub or_wrong_number : Result ℕ ℕ → Result ℕ ℕ
 or_wrong_number (Ok number) = Ok number
 or_wrong_number (Err rule) = Err 7
 
-unfoldable pub number_of : ℕ → ℕ → List ℕ → Result ℕ ℕ
-number_of low high text = or_wrong_number (number_between low high text)
+unfoldable pub operand_number : ℕ → ℕ → List ℕ → Result ℕ ℕ
+operand_number low high text = or_wrong_number (number_between low high text)
 
 -- Rule 1: the word between the texts of an IF.
 unfoldable pub comparison_of : List ℕ → Result Comparison ℕ
@@ -73,8 +73,8 @@ abbrev pub target_for : (List ℕ → Option ℕ) → Result (List ℕ) ℕ → 
 target_for places (Ok name) = found_at name (places name)
 target_for places (Err rule) = Err 5
 
-unfoldable pub target_of : (List ℕ → Option ℕ) → List ℕ → Result Target ℕ
-target_of places word = target_for places (name_of word)
+unfoldable pub read_target : (List ℕ → Option ℕ) → List ℕ → Result Target ℕ
+read_target places word = target_for places (name_of word)
 
 -- Rule 3: a segment search argument is the name of a segment type, alone or with = or >= and a
 -- variable.

@@ -1,6 +1,6 @@
 //! The labels of a program, with their places.
 ghost use Rattle.std.specs.Prelude.{◌≡◌, ◌<◌, ◌^◌, ℕ, List, Some, None, IfOk, OnOk, length};
-ghost use Rattle.script_text.specs.Good.{places_in};
+ghost use Rattle.script_text.specs.GoodStatement.{places_in};
 ghost use Rattle.script_text.specs.Scripts as spec;
 
 use crate::lines::is_last;
@@ -15,7 +15,7 @@ use tm_types::{Memory, Name};
 /// passed over have no place.
 pub(crate) fn labels_of(alloc: Global, lines: &[Line]) -> Result<BTreeMap<Name, u32>, Memory>
     requires { length lines.now < 2 ^ 32 }
-    ensures { IfOk result (λ labels. (name : List ℕ) → places_in labels name ≡ spec.label_from 0 lines.now name) }
+    ensures { IfOk result (λ labels. (name : List ℕ) → places_in labels name ≡ spec.label_in_lines 0 lines.now name) }
 {
     let mut labels = BTreeMap::new(alloc);
     let mut place = 0;

@@ -2,7 +2,7 @@
 ghost use Rattle.std.specs.Prelude.{◌≡◌, ◌<◌, ◌≤◌, Ok, IfOk, OnOk, IsTrue};
 ghost use Rattle.std.specs.List.{list_all};
 ghost use Rattle.tm_types.specs.Segment.{is_printable};
-ghost use Rattle.script_text.specs.Good.{places_in, IsKept};
+ghost use Rattle.script_text.specs.GoodStatement.{places_in, IsStatementKept};
 ghost use Rattle.script_text.specs.Scripts as spec;
 ghost use Rattle.script_text.specs.Statements as statements;
 
@@ -26,7 +26,7 @@ pub(crate) fn statement_line(
 ) -> Result<Result<Statement, u8>, Memory>
     requires { before ≤ 500 }
     ensures value { IfOk result (λ read. read ≡ spec.statement_line (places_in labels.now) here before line.now) }
-    ensures kept { IfOk result (λ read. IfOk read (IsKept (places_in labels.now) here before line.now)) }
+    ensures kept { IfOk result (λ read. IfOk read (IsStatementKept (places_in labels.now) here before line.now)) }
 {
     let words = Pieces::of(Place::WordStart, line);
     let statement = statement_of(alloc, labels, here, words)?;
@@ -38,7 +38,7 @@ pub(crate) fn statement_line(
 fn room_before(before: usize, line: &[u8]) -> Result<(), u8>
     requires { before ≤ 500 }
     ensures value { result ≡ spec.room_before before line.now }
-    ensures room { OnOk result (spec.counted before line.now ≤ 500) }
+    ensures room { OnOk result (spec.statements_before before line.now ≤ 500) }
 {
     if is_label_line(line) {
         Ok(())
@@ -49,7 +49,7 @@ fn room_before(before: usize, line: &[u8]) -> Result<(), u8>
 
 /// Whether the line has the word LABEL, and so is no statement.
 pub(crate) fn is_label_line(line: &[u8]) -> bool
-    ensures { result ≡ statements.has_label_word (spec.words line.now) }
+    ensures { result ≡ statements.has_label_word (spec.script_words line.now) }
 {
     has_label_word(Pieces::of(Place::WordStart, line))
 }
@@ -67,9 +67,9 @@ fn room_for(before: usize) -> Result<(), u8>
 }
 
 /// Whether the line ends the program.
-#[tactic(auto, unfolding(crate::specs::Scripts::is_last))]
+#[tactic(auto, unfolding(crate::specs::Scripts::is_script_last))]
 pub fn is_last(line: &[u8]) -> bool
-    ensures { result ≡ spec.is_last line.now }
+    ensures { result ≡ spec.is_script_last line.now }
 {
     match Pieces::of(Place::WordStart, line).next() {
         Some(word) => is_word(word, b"ENDPROG"),
@@ -78,9 +78,9 @@ pub fn is_last(line: &[u8]) -> bool
 }
 
 /// The lowest rule that the last line breaks.
-#[tactic(auto, unfolding(crate::specs::Scripts::last_line))]
+#[tactic(auto, unfolding(crate::specs::Scripts::program_end_line))]
 pub(crate) fn last_line(line: &[u8]) -> Result<(), u8>
-    ensures { result ≡ spec.last_line line.now }
+    ensures { result ≡ spec.program_end_line line.now }
 {
     let mut words = Pieces::of(Place::WordStart, line);
     let _ = words.next();

@@ -1,7 +1,7 @@
 //! The reader of programs.
 ghost use Rattle.std.specs.Prelude.{◌≡◌, ◌+◌, ◌<◌, ◌^◌, ℕ, List, length};
-ghost use Rattle.text_rows.specs.Refusals.{Answers};
-ghost use Rattle.script_text.specs.Good.{places_in};
+ghost use Rattle.text_rows.specs.Refusals.{AnswersLines};
+ghost use Rattle.script_text.specs.GoodStatement.{places_in};
 ghost use Rattle.script_text.specs.LowRules.{HasScriptRule};
 ghost use Rattle.script_text.specs.Scripts as spec;
 
@@ -23,7 +23,7 @@ use tm_types::Name;
 /// the last line. Lines behind ENDPROG are not read.
 pub fn read_program(alloc: Global, lines: &[Line], first: u32) -> Result<Program, LineRefused>
     requires { first + length lines.now < 2 ^ 32 }
-    ensures exact { Answers result (spec.program_of first lines.now) }
+    ensures exact { AnswersLines result (spec.program_of first lines.now) }
     ensures rules { HasScriptRule result }
 {
     let labels = labels_of(alloc, lines)?;
@@ -37,8 +37,8 @@ fn script(
     first: u32,
 ) -> Result<Program, LineRefused>
     requires numbers { first + length lines.now < 2 ^ 32 }
-    requires labels { (name : List ℕ) → places_in labels.now name ≡ spec.label_from 0 lines.now name }
-    ensures { Answers result (spec.script (places_in labels.now) first 0 0 lines.now) }
+    requires labels { (name : List ℕ) → places_in labels.now name ≡ spec.label_in_lines 0 lines.now name }
+    ensures { AnswersLines result (spec.script (places_in labels.now) first 0 0 lines.now) }
 {
     let mut items = Vec::new(alloc);
     let mut statements: usize = 0;
@@ -67,8 +67,8 @@ fn script(
 
 /// How many statements stand before the line behind this one.
 fn count_line(before: usize, line: &[u8]) -> usize
-    requires { spec.counted before line.now < 2 ^ 64 }
-    ensures { result ≡ spec.counted before line.now }
+    requires { spec.statements_before before line.now < 2 ^ 64 }
+    ensures { result ≡ spec.statements_before before line.now }
 {
     if is_label_line(line) {
         before

@@ -1,10 +1,10 @@
 //! The statements, each by its word.
 ghost use Rattle.std.specs.Prelude.{◌≡◌, ◌≤◌, nat_le, ◌∷◌, [], ℕ, true, false, Ok, Some, None, IfOk, IfSome, IsTrue, is_some, is_none};
 ghost use Rattle.model_system.specs.Programs.{is_call, is_statement, is_function_of, is_message_function, ssas_allowed, takes_area, takes_ssas};
-ghost use Rattle.script_text.specs.Good.{places_in, are_printable, is_free, IsGood};
+ghost use Rattle.script_text.specs.GoodStatement.{places_in, are_all_printable, is_unlabelled, IsGood};
 ghost use Rattle.script_text.specs.Statements as spec;
 ghost use Rattle.script_text.specs.Values as values;
-ghost use Rattle.text_rows.specs.Lowest as lowest;
+ghost use Rattle.text_rows.specs.LowestRule as lowest;
 ghost use Rattle.text_rows.specs.Names as names;
 ghost use Rattle.script_text.specs.declared.line_word.LineWord.TheVariants as words_of_lines;
 
@@ -137,8 +137,8 @@ fn stands_at(place: Option<u32>, here: u32) -> bool
 #[tactic(auto, unfolding(crate::specs::Statements::set_of))]
 fn set_of(alloc: Global, mut words: Pieces<'_>) -> Result<Result<Statement, u8>, Memory>
     ensures value { IfOk result (λ read. read ≡ spec.set_of words.entry) }
-    ensures free { IfOk result (λ read. IfOk read (λ statement. IsTrue (is_free statement))) }
-    ensures allowed { IfOk result (λ read. IfOk read (λ statement. IsTrue (are_printable words.entry) → IsTrue (is_statement statement))) }
+    ensures free { IfOk result (λ read. IfOk read (λ statement. IsTrue (is_unlabelled statement))) }
+    ensures allowed { IfOk result (λ read. IfOk read (λ statement. IsTrue (are_all_printable words.entry) → IsTrue (is_statement statement))) }
 {
     let (Some(x), Some(first)) = (words.next(), words.next()) else {
         return Ok(Err(WRONG_COUNT));
@@ -152,7 +152,7 @@ fn set_of(alloc: Global, mut words: Pieces<'_>) -> Result<Result<Statement, u8>,
 #[tactic(auto, unfolding(crate::specs::Statements::word_of))]
 fn word_of(mut words: Pieces<'_>) -> Result<Statement, u8>
     ensures value { result ≡ spec.word_of words.entry }
-    ensures free { IfOk result (λ statement. IsTrue (is_free statement)) }
+    ensures free { IfOk result (λ statement. IsTrue (is_unlabelled statement)) }
     ensures allowed { IfOk result (λ statement. IsTrue (is_statement statement)) }
 {
     match (words.next(), words.next(), words.next(), words.next()) {
@@ -167,10 +167,10 @@ fn word_of(mut words: Pieces<'_>) -> Result<Statement, u8>
     }
 }
 
-#[tactic(auto, unfolding(crate::specs::Statements::cut_of))]
+#[tactic(auto, unfolding(crate::specs::Statements::read_cut))]
 fn cut_of(mut words: Pieces<'_>) -> Result<Statement, u8>
-    ensures value { result ≡ spec.cut_of words.entry }
-    ensures free { IfOk result (λ statement. IsTrue (is_free statement)) }
+    ensures value { result ≡ spec.read_cut words.entry }
+    ensures free { IfOk result (λ statement. IsTrue (is_unlabelled statement)) }
     ensures allowed { IfOk result (λ statement. IsTrue (is_statement statement)) }
 {
     match (
@@ -190,10 +190,10 @@ fn cut_of(mut words: Pieces<'_>) -> Result<Statement, u8>
     }
 }
 
-#[tactic(auto, unfolding(crate::specs::Statements::pad_of))]
+#[tactic(auto, unfolding(crate::specs::Statements::read_pad))]
 fn pad_of(mut words: Pieces<'_>) -> Result<Statement, u8>
-    ensures value { result ≡ spec.pad_of words.entry }
-    ensures free { IfOk result (λ statement. IsTrue (is_free statement)) }
+    ensures value { result ≡ spec.read_pad words.entry }
+    ensures free { IfOk result (λ statement. IsTrue (is_unlabelled statement)) }
     ensures allowed { IfOk result (λ statement. IsTrue (is_statement statement)) }
 {
     match (words.next(), words.next(), words.next()) {
@@ -217,7 +217,7 @@ fn pair_of(mut words: Pieces<'_>) -> Result<(Variable, Variable), u8>
 
 fn add_of(words: Pieces<'_>) -> Result<Statement, u8>
     ensures value { result ≡ spec.add_made (spec.pair_of words.entry) }
-    ensures free { IfOk result (λ statement. IsTrue (is_free statement)) }
+    ensures free { IfOk result (λ statement. IsTrue (is_unlabelled statement)) }
     ensures allowed { IfOk result (λ statement. IsTrue (is_statement statement)) }
 {
     let (x, y) = pair_of(words)?;
@@ -226,7 +226,7 @@ fn add_of(words: Pieces<'_>) -> Result<Statement, u8>
 
 fn less_of(words: Pieces<'_>) -> Result<Statement, u8>
     ensures value { result ≡ spec.less_made (spec.pair_of words.entry) }
-    ensures free { IfOk result (λ statement. IsTrue (is_free statement)) }
+    ensures free { IfOk result (λ statement. IsTrue (is_unlabelled statement)) }
     ensures allowed { IfOk result (λ statement. IsTrue (is_statement statement)) }
 {
     let (x, y) = pair_of(words)?;
@@ -287,7 +287,7 @@ fn if_with(
     goto: &[u8],
     label: &[u8],
 ) -> Result<Result<Statement, u8>, Memory>
-    ensures value { IfOk result (λ read. read ≡ lowest.also (spec.if_made (lowest.both (lowest.both (values.text_of left.now) (values.comparison_of comparison.now)) (lowest.both (values.text_of right.now) (values.target_of (places_in labels.now) label.now)))) (values.goto_word goto.now)) }
+    ensures value { IfOk result (λ read. read ≡ lowest.also (spec.if_made (lowest.both (lowest.both (values.read_text_of left.now) (values.comparison_of comparison.now)) (lowest.both (values.read_text_of right.now) (values.read_target (places_in labels.now) label.now)))) (values.goto_word goto.now)) }
     ensures good { (here : ℕ) → IfOk result (λ read. IfOk read (IsGood (places_in labels.now) here (left.now ∷ comparison.now ∷ right.now ∷ goto.now ∷ label.now ∷ []) false None)) }
 {
     let front = both(text_of(alloc, left)?, comparison_of(comparison));
@@ -298,12 +298,8 @@ fn if_with(
 fn if_made(parts: Result<((Text, Comparison), (Text, Target)), u8>) -> Result<Statement, u8>
     ensures { result ≡ spec.if_made parts }
 {
-    match parts {
-        Ok(((left, comparison), (right, target))) => {
-            Ok(Statement::If(left, comparison, right, target))
-        }
-        Err(rule) => Err(rule),
-    }
+    let ((left, comparison), (right, target)) = parts?;
+    Ok(Statement::If(left, comparison, right, target))
 }
 
 fn on_pcb(function: Function, pcb: Result<u8, u8>) -> Result<u8, u8>
@@ -421,7 +417,7 @@ fn call_with(
     requires within { IfOk pcb (λ number. number ≤ 8) }
     requires above { IfOk pcb (λ number. above ≡ nat_le 1 number) }
     ensures value { IfOk result (λ read. read ≡ spec.call_with (Ok function) pcb above words.entry) }
-    ensures free { IfOk result (λ read. IfOk read (λ statement. IsTrue (is_free statement))) }
+    ensures free { IfOk result (λ read. IfOk read (λ statement. IsTrue (is_unlabelled statement))) }
     ensures allowed { IfOk result (λ read. IfOk read (λ statement. IsTrue (is_statement statement))) }
 {
     let operands = area_of(alloc, function, above, words)?;
@@ -431,10 +427,10 @@ fn call_with(
     }
 }
 
-#[tactic(auto, using(crate::proofs::PcbNumbers::above_is), unfolding(crate::specs::Statements::call_of))]
+#[tactic(auto, using(crate::proofs::PcbNumbers::above_is), unfolding(crate::specs::Statements::read_call))]
 fn call_of(alloc: Global, mut words: Pieces<'_>) -> Result<Result<Statement, u8>, Memory>
-    ensures value { IfOk result (λ read. read ≡ spec.call_of words.entry) }
-    ensures free { IfOk result (λ read. IfOk read (λ statement. IsTrue (is_free statement))) }
+    ensures value { IfOk result (λ read. read ≡ spec.read_call words.entry) }
+    ensures free { IfOk result (λ read. IfOk read (λ statement. IsTrue (is_unlabelled statement))) }
     ensures allowed { IfOk result (λ read. IfOk read (λ statement. IsTrue (is_statement statement))) }
 {
     let (Some(word), Some(number)) = (words.next(), words.next()) else {
@@ -447,10 +443,10 @@ fn call_of(alloc: Global, mut words: Pieces<'_>) -> Result<Result<Statement, u8>
     }
 }
 
-#[tactic(auto, unfolding(crate::specs::Statements::abend_of))]
+#[tactic(auto, unfolding(crate::specs::Statements::read_abend))]
 fn abend_of(mut words: Pieces<'_>) -> Result<Statement, u8>
-    ensures value { result ≡ spec.abend_of words.entry }
-    ensures free { IfOk result (λ statement. IsTrue (is_free statement)) }
+    ensures value { result ≡ spec.read_abend words.entry }
+    ensures free { IfOk result (λ statement. IsTrue (is_unlabelled statement)) }
     ensures allowed { IfOk result (λ statement. IsTrue (is_statement statement)) }
 {
     match (words.next(), words.next()) {
@@ -474,8 +470,8 @@ pub(crate) fn nothing_behind(mut words: Pieces<'_>) -> Result<(), u8>
 }
 
 fn end_of(words: Pieces<'_>) -> Result<Statement, u8>
-    ensures value { result ≡ spec.ended (spec.nothing_behind words.entry) }
-    ensures free { IfOk result (λ statement. IsTrue (is_free statement)) }
+    ensures value { result ≡ spec.line_ended (spec.nothing_behind words.entry) }
+    ensures free { IfOk result (λ statement. IsTrue (is_unlabelled statement)) }
     ensures allowed { IfOk result (λ statement. IsTrue (is_statement statement)) }
 {
     nothing_behind(words)?;

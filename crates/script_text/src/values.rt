@@ -4,7 +4,7 @@ ghost use Rattle.std.specs.List.{list_all};
 ghost use Rattle.std.specs.Option.{option_copied};
 ghost use Rattle.tm_types.specs.Segment.{is_printable};
 ghost use Rattle.model_system.specs.Programs.{is_plain};
-ghost use Rattle.script_text.specs.Good.{places_in, are_printable};
+ghost use Rattle.script_text.specs.GoodStatement.{places_in, are_all_printable};
 ghost use Rattle.script_text.specs.Values as spec;
 ghost use Rattle.script_text.specs.WordLists as lists;
 ghost use Rattle.text_rows.specs.Lines as row;
@@ -31,9 +31,9 @@ pub(crate) fn variable_of(word: &[u8]) -> Result<Variable, u8>
 }
 
 /// The text that the word names: rule 3 where it names none, rule 4 where its literal isn't closed.
-#[tactic(auto, unfolding(crate::specs::Values::text_of))]
+#[tactic(auto, unfolding(crate::specs::Values::read_text_of))]
 pub(crate) fn text_of(alloc: Global, word: &[u8]) -> Result<Result<Text, u8>, Memory>
-    ensures value { IfOk result (λ read. read ≡ spec.text_of word.now) }
+    ensures value { IfOk result (λ read. read ≡ spec.read_text_of word.now) }
     ensures plain { IfOk result (λ read. IfOk read (λ text. IsTrue (list_all is_printable word.now) → IsTrue (is_plain text))) }
 {
     match word {
@@ -44,7 +44,7 @@ pub(crate) fn text_of(alloc: Global, word: &[u8]) -> Result<Result<Text, u8>, Me
 }
 
 fn literal(alloc: Global, rest: &[u8]) -> Result<Result<Text, u8>, Memory>
-    ensures value { IfOk result (λ read. read ≡ spec.closed (row.split_at 34 rest.now)) }
+    ensures value { IfOk result (λ read. read ≡ spec.quote_closed (row.split_at 34 rest.now)) }
     ensures plain { IfOk result (λ read. IfOk read (λ text. IsTrue (list_all is_printable rest.now) → IsTrue (is_plain text))) }
 {
     match split_at(b'"', rest) {
@@ -61,16 +61,13 @@ fn named_text(word: &[u8]) -> Result<Text, u8>
     if is_word(word, b"STATUS") {
         return Ok(Text::Status);
     }
-    match variable_of(word) {
-        Ok(x) => Ok(Text::Variable(x)),
-        Err(rule) => Err(rule),
-    }
+    Ok(Text::Variable(variable_of(word)?))
 }
 
 /// A number from 1 or 0 to its limit that a byte holds: rule 7 where the word is none.
-#[tactic(auto, unfolding(crate::specs::Values::number_of))]
+#[tactic(auto, unfolding(crate::specs::Values::operand_number))]
 pub(crate) fn byte_of(low: u8, high: u8, word: &[u8]) -> Result<u8, u8>
-    ensures value { result ≡ spec.number_of low high word.now }
+    ensures value { result ≡ spec.operand_number low high word.now }
     ensures within { IfOk result (λ number. (low ≤ number) × (number ≤ high)) }
 {
     match number_between(u32::from(low), u32::from(high), word) {
@@ -80,9 +77,9 @@ pub(crate) fn byte_of(low: u8, high: u8, word: &[u8]) -> Result<u8, u8>
 }
 
 /// A number from 1 to its limit that two bytes hold: rule 7 where the word is none.
-#[tactic(auto, unfolding(crate::specs::Values::number_of))]
+#[tactic(auto, unfolding(crate::specs::Values::operand_number))]
 pub(crate) fn short_of(low: u16, high: u16, word: &[u8]) -> Result<u16, u8>
-    ensures value { result ≡ spec.number_of low high word.now }
+    ensures value { result ≡ spec.operand_number low high word.now }
     ensures within { IfOk result (λ number. (low ≤ number) × (number ≤ high)) }
 {
     match number_between(u32::from(low), u32::from(high), word) {
@@ -130,9 +127,9 @@ pub(crate) fn place_of(labels: &BTreeMap<Name, u32>, name: &Name) -> Option<u32>
 }
 
 /// The label that the word is, with its place: rule 5 where it is none.
-#[tactic(auto, unfolding(crate::specs::Values::target_of))]
+#[tactic(auto, unfolding(crate::specs::Values::read_target))]
 pub(crate) fn target_of(labels: &BTreeMap<Name, u32>, word: &[u8]) -> Result<Target, u8>
-    ensures value { result ≡ spec.target_of (places_in labels.now) word.now }
+    ensures value { result ≡ spec.read_target (places_in labels.now) word.now }
     ensures placed { IfOk result (λ target. places_in labels.now target.label ≡ Some target.place) }
 {
     let Ok(label) = name_of(word) else {
@@ -237,8 +234,8 @@ pub(crate) fn texts_of(
     first: &[u8],
     words: Pieces<'_>,
 ) -> Result<Result<Texts, u8>, Memory>
-    ensures value { IfOk result (λ read. read ≡ spec.texts_of (first.now ∷ words.entry)) }
-    ensures plain { IfOk result (λ read. IfOk read (λ texts. IsTrue (are_printable (first.now ∷ words.entry)) → IsTrue (list_all is_plain texts))) }
+    ensures value { IfOk result (λ read. read ≡ spec.read_texts (first.now ∷ words.entry)) }
+    ensures plain { IfOk result (λ read. IfOk read (λ texts. IsTrue (are_all_printable (first.now ∷ words.entry)) → IsTrue (list_all is_plain texts))) }
 {
     let mut texts = and_text(Ok(Texts::new(alloc)), text_of(alloc, first)?)?;
     for word in words {

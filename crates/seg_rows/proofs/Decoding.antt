@@ -9,8 +9,8 @@ use Rattle.tm_types.specs.declared.dbd.Dbd.{Dbd}
 use Rattle.tm_types.specs.SegTypes.{IsHierarchy}
 use Rattle.model_data.specs.declared.row.Row.{Row}
 use Rattle.model_data.specs.Path.{root_of}
-use Rattle.model_data.specs.Record.{IsUnder, Spells, SpellsRecord, IsLongestRecord, spelling, row_spelling, record_limit}
-use Rattle.model_data.specs.Reading.{last_path, next_row}
+use Rattle.model_data.specs.Record.{IsUnder, Spells, SpellsRecord, IsLongestRecord, rows_spelling, row_spelling, record_limit}
+use Rattle.model_data.specs.RowsOfBytes.{last_path, next_row}
 use Rattle.model_data.proofs.Prefixes.{IsStuck, stuck_longest, next_under, none_under, row_spelled, spelling_append, length_row, no_spelling, one_record}
 use Rattle.seg_rows.specs.DecodeFault.{RefusesBytes}
 use Rattle.seg_rows.specs.declared.decode.DecodeFault.TheVariants.{Bad}
@@ -19,8 +19,8 @@ use Rattle.seg_rows.specs.declared.decode.DecodeFault.TheVariants.{Bad}
 pub record IsDecoded (dbd : Dbd) (bytes : List ℕ) (image : List Row) (place : ℕ) : Type 0 where
   pub root : List ℕ
   pub under : IsUnder dbd.types root image
-  pub spelled : spelling image ++ drop place bytes ≡ bytes
-  pub long : length (spelling image) ≡ place
+  pub spelled : rows_spelling image ++ drop place bytes ≡ bytes
+  pub long : length (rows_spelling image) ≡ place
   pub within : place ≤ record_limit dbd
 
 pub decoded_none : (dbd : Dbd) (bytes : List ℕ) → IsDecoded dbd bytes [] 0
@@ -39,27 +39,27 @@ module _ (dbd : Dbd) (all : IsHierarchy dbd.types) (bytes : List ℕ) (image : L
       → IsDecoded dbd bytes (image ++ row ∷ []) (place + (1 + length row.bytes))
   decoded_more row next fits =
       let found = row_spelled dbd.types (last_path image) (drop place bytes) row next in
-      let one : spelling (row ∷ []) ≡ row_spelling row = append-nil (row_spelling row) in
-      let front : spelling (image ++ row ∷ []) ≡ spelling image ++ row_spelling row = spelling_append image (row ∷ []) ∙ ap (λ b. spelling image ++ b) one in
-      let whole : spelling (image ++ row ∷ []) ++ found.0 ≡ bytes =
-      ap (λ b. b ++ found.0) front ∙ (append_assoc (spelling image) (row_spelling row) found.0 ∙ (ap (λ b. spelling image ++ b) (sym found.1) ∙ so_far.spelled)) in
-      let long : length (spelling (image ++ row ∷ [])) ≡ place + (1 + length row.bytes) =
-      omega (arith, ap length front, length-append (spelling image) (row_spelling row), length_row row, so_far.long) in
+      let one : rows_spelling (row ∷ []) ≡ row_spelling row = append-nil (row_spelling row) in
+      let front : rows_spelling (image ++ row ∷ []) ≡ rows_spelling image ++ row_spelling row = spelling_append image (row ∷ []) ∙ ap (λ b. rows_spelling image ++ b) one in
+      let whole : rows_spelling (image ++ row ∷ []) ++ found.0 ≡ bytes =
+      ap (λ b. b ++ found.0) front ∙ (append_assoc (rows_spelling image) (row_spelling row) found.0 ∙ (ap (λ b. rows_spelling image ++ b) (sym found.1) ∙ so_far.spelled)) in
+      let long : length (rows_spelling (image ++ row ∷ [])) ≡ place + (1 + length row.bytes) =
+      omega (arith, ap length front, length-append (rows_spelling image) (row_spelling row), length_row row, so_far.long) in
       let rest : drop (place + (1 + length row.bytes)) bytes ≡ found.0 =
-      ap (λ n. drop n bytes) (sym long) ∙ (ap (drop (length (spelling (image ++ row ∷ [])))) (sym whole) ∙ drop-append_seam (spelling (image ++ row ∷ [])) found.0) in
+      ap (λ n. drop n bytes) (sym long) ∙ (ap (drop (length (rows_spelling (image ++ row ∷ [])))) (sym whole) ∙ drop-append_seam (rows_spelling (image ++ row ∷ [])) found.0) in
       record {
         root = root_of row.path;
         under = next_under dbd.types all image so_far.root so_far.under (drop place bytes) row next;
-        spelled = ap (λ b. spelling (image ++ row ∷ []) ++ b) rest ∙ whole;
+        spelled = ap (λ b. rows_spelling (image ++ row ∷ []) ++ b) rest ∙ whole;
         long = long;
         within = omega (arith, fits, so_far.within);
       }
 
   longest_here : IsStuck dbd image (drop place bytes) → IsLongestRecord dbd bytes place
   longest_here stuck =
-      let fits : length (spelling image) ≤ record_limit dbd = omega (arith, so_far.long, so_far.within) in
+      let fits : length (rows_spelling image) ≤ record_limit dbd = omega (arith, so_far.long, so_far.within) in
       subst (λ n. IsLongestRecord dbd bytes n) so_far.long
-      (subst (λ b. IsLongestRecord dbd b (length (spelling image))) so_far.spelled
+      (subst (λ b. IsLongestRecord dbd b (length (rows_spelling image))) so_far.spelled
       (stuck_longest dbd all image so_far.root (drop place bytes) so_far.under fits stuck))
 
   refused_here : IsStuck dbd image (drop place bytes) → place < length bytes → RefusesBytes dbd bytes (Bad 21 place)
@@ -89,7 +89,7 @@ module _ (dbd : Dbd) (all : IsHierarchy dbd.types) (bytes : List ℕ) (image : L
           whole = record { some = some; under = so_far.under };
           within = omega (arith, so_far.long, so_far.within);
         };
-        spelled = sym (append-nil (spelling image)) ∙ (ap (λ b. spelling image ++ b) (sym (nothing_left bytes place ended)) ∙ so_far.spelled);
+        spelled = sym (append-nil (rows_spelling image)) ∙ (ap (λ b. rows_spelling image ++ b) (sym (nothing_left bytes place ended)) ∙ so_far.spelled);
       }
     where
       nothing_left : (bs : List ℕ) (n : ℕ) → length bs ≤ n → drop n bs ≡ []

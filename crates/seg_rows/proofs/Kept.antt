@@ -13,22 +13,22 @@ use Rattle.std.proofs.lemmas.Bool.{false≢true, eq-eqb, ne_eqb, cond-true, cond
 use Rattle.tm_types.specs.declared.dbd.Dbd.{Dbd}
 use Rattle.model_data.specs.declared.row.Row.{Row}
 use Rattle.model_data.specs.Path.{key_cmp}
-use Rattle.model_data.specs.Record.{IsRecord, spelling, record_limit}
-use Rattle.model_data.specs.Rows.{record_of, with_record, roots, next_root, rows_of, IsImage, passes_roots, passes_length, AreRows}
+use Rattle.model_data.specs.Record.{IsRecord, rows_spelling, record_limit}
+use Rattle.model_data.specs.Rows.{record_of, with_record, roots, next_root, rows_of_records, IsImage, passes_roots, passes_length, AreRows}
 use Rattle.model_data.proofs.Entries.{entries_record, entries_insert, entries_remove}
 use Rattle.model_data.proofs.Roots.{AreRecords, records_rooted, entries_roots, entries_rows}
 use Rattle.std.proofs.lemmas.Cmp.{tied_itself}
 use Rattle.model_data.proofs.Order.{key_total}
 use Rattle.model_data.proofs.Records.{is_eq-true}
-use Rattle.seg_rows.specs.PlainRows.{AreKept}
+use Rattle.seg_rows.specs.PlainRows.{ArePlainRowsKept}
 use Rattle.seg_rows.specs.NextRecord.{next_record}
 use Rattle.seg_rows.specs.StoreRefused.{set_refusal}
 use Rattle.seg_rows.specs.declared.rows.StoreRefused.TheVariants.{RootLimit, RecordTooLong}
 
-pub kept_rows : (dbd : Dbd) (es : List (List ℕ × List Row)) → AreKept dbd es → AreRows dbd (rows_of es)
+pub kept_rows : (dbd : Dbd) (es : List (List ℕ × List Row)) → ArePlainRowsKept dbd es → AreRows dbd (rows_of_records es)
 kept_rows dbd es h = entries_rows dbd h.types es h.ascending h.each h.few
 
-pub kept_record : (dbd : Dbd) (es : List (List ℕ × List Row)) (root : List ℕ) → AreKept dbd es → record_of root (rows_of es) ≡ unwrap_or (lookup (is_at (key_cmp root)) es) []
+pub kept_record : (dbd : Dbd) (es : List (List ℕ × List Row)) (root : List ℕ) → ArePlainRowsKept dbd es → record_of root (rows_of_records es) ≡ unwrap_or (lookup (is_at (key_cmp root)) es) []
 kept_record dbd es root h = entries_record root es h.ascending (records_rooted dbd es h.each)
 
 -- an image that is found has rows
@@ -42,16 +42,16 @@ found_some dbd (f ∷ es) root image h e = by (is_at (key_cmp root) f.0) refl e 
     by false q g rec = rec g
 
 -- the look-up tells the record, and that there is none
-pub kept_found : (dbd : Dbd) (es : List (List ℕ × List Row)) (root : List ℕ) (image : List Row) → AreKept dbd es → lookup (is_at (key_cmp root)) es ≡ Some image
-    → record_of root (rows_of es) ≡ image
+pub kept_found : (dbd : Dbd) (es : List (List ℕ × List Row)) (root : List ℕ) (image : List Row) → ArePlainRowsKept dbd es → lookup (is_at (key_cmp root)) es ≡ Some image
+    → record_of root (rows_of_records es) ≡ image
 kept_found dbd es root image h e = kept_record dbd es root h ∙ ap (λ o. unwrap_or o []) e
 
-pub kept_none : (dbd : Dbd) (es : List (List ℕ × List Row)) (root : List ℕ) → AreKept dbd es → lookup (is_at (key_cmp root)) es ≡ None
-    → record_of root (rows_of es) ≡ []
+pub kept_none : (dbd : Dbd) (es : List (List ℕ × List Row)) (root : List ℕ) → ArePlainRowsKept dbd es → lookup (is_at (key_cmp root)) es ≡ None
+    → record_of root (rows_of_records es) ≡ []
 kept_none dbd es root h e = kept_record dbd es root h ∙ ap (λ o. unwrap_or o []) e
 
-pub kept_some : (dbd : Dbd) (es : List (List ℕ × List Row)) (root : List ℕ) (image : List Row) → AreKept dbd es → lookup (is_at (key_cmp root)) es ≡ Some image
-    → record_of root (rows_of es) ≢ []
+pub kept_some : (dbd : Dbd) (es : List (List ℕ × List Row)) (root : List ℕ) (image : List Row) → ArePlainRowsKept dbd es → lookup (is_at (key_cmp root)) es ≡ Some image
+    → record_of root (rows_of_records es) ≢ []
 kept_some dbd es root image h e none = found_some dbd es root image h.each e (sym (kept_found dbd es root image h e) ∙ none)
 
 length_keys : (es : List (List ℕ × List Row)) → length (keys_of es) ≡ length es
@@ -63,39 +63,39 @@ some_length [] h = absurd (h refl)
 some_length (r ∷ rows) h = ne_eqb (length (r ∷ rows)) 0 (λ e. absurd (omega arith))
 
 -- the test for room is that of the rows
-pub kept_passes : (dbd : Dbd) (es : List (List ℕ × List Row)) (root : List ℕ) (image : List Row) → AreKept dbd es → image ≢ []
-    → passes_roots dbd root image (rows_of es) ≡ (not (is_some (lookup (is_at (key_cmp root)) es)) && leb dbd.roots (length es))
+pub kept_passes : (dbd : Dbd) (es : List (List ℕ × List Row)) (root : List ℕ) (image : List Row) → ArePlainRowsKept dbd es → image ≢ []
+    → passes_roots dbd root image (rows_of_records es) ≡ (not (is_some (lookup (is_at (key_cmp root)) es)) && leb dbd.roots (length es))
 kept_passes dbd es root image h some = λ i. not (some_length image some i) && absent i && leb dbd.roots (count i)
   where
-    count : length (roots (rows_of es)) ≡ length es
+    count : length (roots (rows_of_records es)) ≡ length es
     count = ap length (entries_roots dbd h.types es h.each) ∙ length_keys es
 
-    absent : eqb (length (record_of root (rows_of es))) 0 ≡ not (is_some (lookup (is_at (key_cmp root)) es))
+    absent : eqb (length (record_of root (rows_of_records es))) 0 ≡ not (is_some (lookup (is_at (key_cmp root)) es))
     absent = by (lookup (is_at (key_cmp root)) es) refl
       where
-        by : (o : Option (List Row)) → lookup (is_at (key_cmp root)) es ≡ o → eqb (length (record_of root (rows_of es))) 0 ≡ not (is_some (lookup (is_at (key_cmp root)) es))
-        by None e = eq-eqb (length (record_of root (rows_of es))) 0 (ap length (kept_none dbd es root h e)) ∙ sym (ap (λ o. not (is_some o)) e)
-        by (Some rows) e = some_length (record_of root (rows_of es)) (kept_some dbd es root rows h e) ∙ sym (ap (λ o. not (is_some o)) e)
+        by : (o : Option (List Row)) → lookup (is_at (key_cmp root)) es ≡ o → eqb (length (record_of root (rows_of_records es))) 0 ≡ not (is_some (lookup (is_at (key_cmp root)) es))
+        by None e = eq-eqb (length (record_of root (rows_of_records es))) 0 (ap length (kept_none dbd es root h e)) ∙ sym (ap (λ o. not (is_some o)) e)
+        by (Some rows) e = some_length (record_of root (rows_of_records es)) (kept_some dbd es root rows h e) ∙ sym (ap (λ o. not (is_some o)) e)
 
 -- which refusal is due
-pub due_roots : (dbd : Dbd) (es : List (List ℕ × List Row)) (root : List ℕ) (image : List Row) → AreKept dbd es → image ≢ []
-    → (not (is_some (lookup (is_at (key_cmp root)) es)) && leb dbd.roots (length es)) ≡ true → set_refusal dbd root image (rows_of es) ≡ Some RootLimit
+pub due_roots : (dbd : Dbd) (es : List (List ℕ × List Row)) (root : List ℕ) (image : List Row) → ArePlainRowsKept dbd es → image ≢ []
+    → (not (is_some (lookup (is_at (key_cmp root)) es)) && leb dbd.roots (length es)) ≡ true → set_refusal dbd root image (rows_of_records es) ≡ Some RootLimit
 due_roots dbd es root image h some full =
-    cond-true (passes_roots dbd root image (rows_of es)) (Some RootLimit) (cond (passes_length dbd image) (Some RecordTooLong) None) (kept_passes dbd es root image h some ∙ full)
+    cond-true (passes_roots dbd root image (rows_of_records es)) (Some RootLimit) (cond (passes_length dbd image) (Some RecordTooLong) None) (kept_passes dbd es root image h some ∙ full)
 
-pub due_length : (dbd : Dbd) (es : List (List ℕ × List Row)) (root : List ℕ) (image : List Row) → AreKept dbd es → image ≢ []
-    → (not (is_some (lookup (is_at (key_cmp root)) es)) && leb dbd.roots (length es)) ≡ false → record_limit dbd < length (spelling image)
-    → set_refusal dbd root image (rows_of es) ≡ Some RecordTooLong
+pub due_length : (dbd : Dbd) (es : List (List ℕ × List Row)) (root : List ℕ) (image : List Row) → ArePlainRowsKept dbd es → image ≢ []
+    → (not (is_some (lookup (is_at (key_cmp root)) es)) && leb dbd.roots (length es)) ≡ false → record_limit dbd < length (rows_spelling image)
+    → set_refusal dbd root image (rows_of_records es) ≡ Some RecordTooLong
 due_length dbd es root image h some room long =
-    cond-false (passes_roots dbd root image (rows_of es)) (Some RootLimit) (cond (passes_length dbd image) (Some RecordTooLong) None) (kept_passes dbd es root image h some ∙ room)
-    ∙ cond-true (passes_length dbd image) (Some RecordTooLong) None (lt-ltb (record_limit dbd) (length (spelling image)) long)
+    cond-false (passes_roots dbd root image (rows_of_records es)) (Some RootLimit) (cond (passes_length dbd image) (Some RecordTooLong) None) (kept_passes dbd es root image h some ∙ room)
+    ∙ cond-true (passes_length dbd image) (Some RecordTooLong) None (lt-ltb (record_limit dbd) (length (rows_spelling image)) long)
 
-pub due_none : (dbd : Dbd) (es : List (List ℕ × List Row)) (root : List ℕ) (image : List Row) → AreKept dbd es → image ≢ []
-    → (not (is_some (lookup (is_at (key_cmp root)) es)) && leb dbd.roots (length es)) ≡ false → length (spelling image) ≤ record_limit dbd
-    → set_refusal dbd root image (rows_of es) ≡ None
+pub due_none : (dbd : Dbd) (es : List (List ℕ × List Row)) (root : List ℕ) (image : List Row) → ArePlainRowsKept dbd es → image ≢ []
+    → (not (is_some (lookup (is_at (key_cmp root)) es)) && leb dbd.roots (length es)) ≡ false → length (rows_spelling image) ≤ record_limit dbd
+    → set_refusal dbd root image (rows_of_records es) ≡ None
 due_none dbd es root image h some room fits =
-    cond-false (passes_roots dbd root image (rows_of es)) (Some RootLimit) (cond (passes_length dbd image) (Some RecordTooLong) None) (kept_passes dbd es root image h some ∙ room)
-    ∙ cond-false (passes_length dbd image) (Some RecordTooLong) None (le-ltb (record_limit dbd) (length (spelling image)) fits)
+    cond-false (passes_roots dbd root image (rows_of_records es)) (Some RootLimit) (cond (passes_length dbd image) (Some RecordTooLong) None) (kept_passes dbd es root image h some ∙ room)
+    ∙ cond-false (passes_length dbd image) (Some RecordTooLong) None (le-ltb (record_limit dbd) (length (rows_spelling image)) fits)
 
 -- an image without rows passes no limit
 pub due_removed : (dbd : Dbd) (rows : List Row) (root : List ℕ) (image : List Row) → image ≡ [] → set_refusal dbd root image rows ≡ None
@@ -123,11 +123,11 @@ all_remove dbd test (e ∷ es) h =
     ]
 
 -- an image that is set within the limit is a record
-pub image_record : (dbd : Dbd) (root : List ℕ) (image : List Row) → IsImage dbd root image → image ≢ [] → length (spelling image) ≤ record_limit dbd → IsRecord dbd root image
+pub image_record : (dbd : Dbd) (root : List ℕ) (image : List Row) → IsImage dbd root image → image ≢ [] → length (rows_spelling image) ≤ record_limit dbd → IsRecord dbd root image
 image_record dbd root image h some fits = ⊎_elim (λ e. absurd (some e)) (λ r. record { whole = r; within = fits }) h
 
-pub kept_insert : (dbd : Dbd) (root : List ℕ) (image : List Row) (es fs : List (List ℕ × List Row)) → AreKept dbd es → IsRecord dbd root image
-    → fs ≡ insert_entry key_cmp es root image → IsStrictlySortedBy key_cmp (keys_of fs) → length fs ≤ dbd.roots → AreKept dbd fs
+pub kept_insert : (dbd : Dbd) (root : List ℕ) (image : List Row) (es fs : List (List ℕ × List Row)) → ArePlainRowsKept dbd es → IsRecord dbd root image
+    → fs ≡ insert_entry key_cmp es root image → IsStrictlySortedBy key_cmp (keys_of fs) → length fs ≤ dbd.roots → ArePlainRowsKept dbd fs
 kept_insert dbd root image es fs h r e ordered few =
     record {
       types = h.types;
@@ -136,8 +136,8 @@ kept_insert dbd root image es fs h r e ordered few =
       few = few;
     }
 
-pub kept_remove : (dbd : Dbd) (root : List ℕ) (es fs : List (List ℕ × List Row)) → AreKept dbd es
-    → fs ≡ remove_entry (is_at (key_cmp root)) es → IsStrictlySortedBy key_cmp (keys_of fs) → length fs ≤ length es → AreKept dbd fs
+pub kept_remove : (dbd : Dbd) (root : List ℕ) (es fs : List (List ℕ × List Row)) → ArePlainRowsKept dbd es
+    → fs ≡ remove_entry (is_at (key_cmp root)) es → IsStrictlySortedBy key_cmp (keys_of fs) → length fs ≤ length es → ArePlainRowsKept dbd fs
 kept_remove dbd root es fs h e ordered fewer =
     record {
       types = h.types;
@@ -146,27 +146,27 @@ kept_remove dbd root es fs h e ordered fewer =
       few = omega (arith, fewer, h.few);
     }
 
-pub rows_inserted : (dbd : Dbd) (root : List ℕ) (image : List Row) (es fs : List (List ℕ × List Row)) → AreKept dbd es
-    → fs ≡ insert_entry key_cmp es root image → rows_of fs ≡ with_record root image (rows_of es)
-rows_inserted dbd root image es fs h e = ap rows_of e ∙ entries_insert root image es h.ascending (records_rooted dbd es h.each)
+pub rows_inserted : (dbd : Dbd) (root : List ℕ) (image : List Row) (es fs : List (List ℕ × List Row)) → ArePlainRowsKept dbd es
+    → fs ≡ insert_entry key_cmp es root image → rows_of_records fs ≡ with_record root image (rows_of_records es)
+rows_inserted dbd root image es fs h e = ap rows_of_records e ∙ entries_insert root image es h.ascending (records_rooted dbd es h.each)
 
-pub rows_removed : (dbd : Dbd) (root : List ℕ) (image : List Row) (es fs : List (List ℕ × List Row)) → AreKept dbd es
-    → fs ≡ remove_entry (is_at (key_cmp root)) es → image ≡ [] → rows_of fs ≡ with_record root image (rows_of es)
+pub rows_removed : (dbd : Dbd) (root : List ℕ) (image : List Row) (es fs : List (List ℕ × List Row)) → ArePlainRowsKept dbd es
+    → fs ≡ remove_entry (is_at (key_cmp root)) es → image ≡ [] → rows_of_records fs ≡ with_record root image (rows_of_records es)
 rows_removed dbd root image es fs h e none =
-    ap rows_of e ∙ (entries_remove root es h.ascending (records_rooted dbd es h.each) ∙ ap (λ im. with_record root im (rows_of es)) (sym none))
+    ap rows_of_records e ∙ (entries_remove root es h.ascending (records_rooted dbd es h.each) ∙ ap (λ im. with_record root im (rows_of_records es)) (sym none))
 
 -- the roots are the keys
-pub kept_roots : (dbd : Dbd) (es : List (List ℕ × List Row)) → AreKept dbd es → roots (rows_of es) ≡ keys_of es
+pub kept_roots : (dbd : Dbd) (es : List (List ℕ × List Row)) → ArePlainRowsKept dbd es → roots (rows_of_records es) ≡ keys_of es
 kept_roots dbd es h = entries_roots dbd h.types es h.each
 
 -- what a look-up that lends shows
-pub shows_record : (dbd : Dbd) (es : List (List ℕ × List Row)) (root : List ℕ) → AreKept dbd es → (r : Option (Bor (List Row)))
-    → option_map (λ b. b.now) r ≡ lookup (is_at (key_cmp root)) es → IfSome r (λ image. image.now ≡ record_of root (rows_of es))
+pub shows_record : (dbd : Dbd) (es : List (List ℕ × List Row)) (root : List ℕ) → ArePlainRowsKept dbd es → (r : Option (Bor (List Row)))
+    → option_map (λ b. b.now) r ≡ lookup (is_at (key_cmp root)) es → IfSome r (λ image. image.now ≡ record_of root (rows_of_records es))
 shows_record dbd es root h None e = tt
 shows_record dbd es root h (Some b) e = sym (kept_found dbd es root b.now h (sym e))
 
-pub shows_none : (dbd : Dbd) (es : List (List ℕ × List Row)) (root : List ℕ) → AreKept dbd es → (r : Option (Bor (List Row)))
-    → option_map (λ b. b.now) r ≡ lookup (is_at (key_cmp root)) es → IsNone r ↔ (record_of root (rows_of es) ≡ [])
+pub shows_none : (dbd : Dbd) (es : List (List ℕ × List Row)) (root : List ℕ) → ArePlainRowsKept dbd es → (r : Option (Bor (List Row)))
+    → option_map (λ b. b.now) r ≡ lookup (is_at (key_cmp root)) es → IsNone r ↔ (record_of root (rows_of_records es) ≡ [])
 shows_none dbd es root h None e = (λ _. kept_none dbd es root h (sym e), λ _. refl)
 shows_none dbd es root h (Some b) e = (λ n. let clash : true ≡ false = n in absurd (cc), λ none. absurd (kept_some dbd es root b.now h (sym e) none))
 
@@ -175,10 +175,10 @@ pub passed : (b : Bool) (m n : ℕ) → (b ≡ true) ↔ (m ≤ n) → b ≡ fal
 passed b m n h e = ⊎_elim (λ up. up) (λ down. let t : b ≡ true = h.1 down in absurd (cc)) (cases_lt n m)
 
 -- the entries after a record is set within the limits
-pub kept_set : (dbd : Dbd) (root : List ℕ) (image : List Row) (es fs : List (List ℕ × List Row)) (old : Option (List Row)) → AreKept dbd es
-    → IsImage dbd root image → image ≢ [] → length (spelling image) ≤ record_limit dbd → fs ≡ insert_entry key_cmp es root image → IsStrictlySortedBy key_cmp (keys_of fs)
+pub kept_set : (dbd : Dbd) (root : List ℕ) (image : List Row) (es fs : List (List ℕ × List Row)) (old : Option (List Row)) → ArePlainRowsKept dbd es
+    → IsImage dbd root image → image ≢ [] → length (rows_spelling image) ≤ record_limit dbd → fs ≡ insert_entry key_cmp es root image → IsStrictlySortedBy key_cmp (keys_of fs)
     → old ≡ lookup (is_at (key_cmp root)) es → length fs ≡ length es + cond (is_some old) 0 1
-    → (not (is_some (lookup (is_at (key_cmp root)) es)) && leb dbd.roots (length es)) ≡ false → AreKept dbd fs
+    → (not (is_some (lookup (is_at (key_cmp root)) es)) && leb dbd.roots (length es)) ≡ false → ArePlainRowsKept dbd fs
 kept_set dbd root image es fs old h im some fits e ordered found count room =
     kept_insert dbd root image es fs h (image_record dbd root image im some fits) e ordered (few old found count)
   where
@@ -261,18 +261,18 @@ image_found f (e ∷ es) = by (f e.0) refl (image_found f es)
         ∙ ap (λ b. option_map (at (e ∷ es)) (cond b (Some e.0) (find f (keys_of es)))) (sym q)))
 
 -- so it is the record of the first root after a key, or of all
-pub kept_next : (dbd : Dbd) (es : List (List ℕ × List Row)) (key : List ℕ) → AreKept dbd es
-    → option_map (λ e. e.1) (find (λ e. is_lt (key_cmp key e.0)) es) ≡ next_record (rows_of es) (Some key)
+pub kept_next : (dbd : Dbd) (es : List (List ℕ × List Row)) (key : List ℕ) → ArePlainRowsKept dbd es
+    → option_map (λ e. e.1) (find (λ e. is_lt (key_cmp key e.0)) es) ≡ next_record (rows_of_records es) (Some key)
 kept_next dbd es key h =
     image_found (λ other. is_lt (key_cmp key other)) es
     ∙ (ap (λ keys. option_map (λ root. unwrap_or (lookup (is_at (key_cmp root)) es) []) (find (λ other. is_lt (key_cmp key other)) keys)) (sym (kept_roots dbd es h))
-    ∙ ap (λ g. option_map g (next_root (rows_of es) (Some key))) (λ i root. sym (kept_record dbd es root h) i))
+    ∙ ap (λ g. option_map g (next_root (rows_of_records es) (Some key))) (λ i root. sym (kept_record dbd es root h) i))
 
-pub kept_first : (dbd : Dbd) (es : List (List ℕ × List Row)) → AreKept dbd es → option_map (λ e. e.1) (slice_get es 0) ≡ next_record (rows_of es) None
+pub kept_first : (dbd : Dbd) (es : List (List ℕ × List Row)) → ArePlainRowsKept dbd es → option_map (λ e. e.1) (slice_get es 0) ≡ next_record (rows_of_records es) None
 kept_first dbd es h =
     first es
     ∙ (ap (λ keys. option_map (λ root. unwrap_or (lookup (is_at (key_cmp root)) es) []) (slice_get keys 0)) (sym (kept_roots dbd es h))
-    ∙ ap (λ g. option_map g (next_root (rows_of es) None)) (λ i root. sym (kept_record dbd es root h) i))
+    ∙ ap (λ g. option_map g (next_root (rows_of_records es) None)) (λ i root. sym (kept_record dbd es root h) i))
   where
     first : (fs : List (List ℕ × List Row)) → option_map (λ e. e.1) (slice_get fs 0) ≡ option_map (λ root. unwrap_or (lookup (is_at (key_cmp root)) fs) []) (slice_get (keys_of fs) 0)
     first [] = refl

@@ -10,7 +10,7 @@ use Rattle.model_data.specs.Path.{key_cmp}
 use Rattle.model_data.specs.Record.{IsRecord}
 
 -- each entry is a record under its root, the roots ascend, and are no more than the database may have
-pub record AreKept (dbd : Dbd) (records : List (List ℕ × List Row)) : Type 0 where
+pub record ArePlainRowsKept (dbd : Dbd) (records : List (List ℕ × List Row)) : Type 0 where
   pub types : IsHierarchy dbd.types
   pub ascending : IsStrictlySortedBy key_cmp (keys_of records)
   pub each : AllByRecursion (λ entry. IsRecord dbd entry.0 entry.1) records

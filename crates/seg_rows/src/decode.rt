@@ -6,7 +6,7 @@ ghost use Rattle.tm_types.specs.SegTypes.{IsHierarchy, type_at};
 ghost use Rattle.model_data.specs.declared.row.Row.{Row};
 ghost use Rattle.model_data.specs.Path.{path_cmp, end_type};
 ghost use Rattle.model_data.specs.Record.{Spells};
-ghost use Rattle.model_data.specs.Reading.{down_to, may_follow, row_at, row_of_type, next_row};
+ghost use Rattle.model_data.specs.RowsOfBytes.{down_to, may_follow, row_at, row_of_type, next_row};
 ghost use Rattle.seg_rows.specs.DecodeFault.{RefusesBytes, DecodesTo};
 
 use crate::RecordImage;

@@ -1,6 +1,6 @@
 //! A record is written as bytes.
 ghost use Rattle.std.specs.Prelude.{◌≡◌, ◌≤◌, ◌++◌, ◌∷◌, length, IfOk, IfErr, OnOk};
-ghost use Rattle.model_data.specs.Record.{spelling, row_spelling, record_limit};
+ghost use Rattle.model_data.specs.Record.{rows_spelling, row_spelling, record_limit};
 ghost use Rattle.seg_rows.specs.EncodeRefused.{RefusesRecord};
 
 use crate::RecordImage;
@@ -24,8 +24,8 @@ pub enum EncodeRefused {
 /// It is refused as `TooLong` where these are more than 4,000 bytes for each sector that a record
 /// of the database has, and as `Memory`.
 pub fn encode_record(alloc: Global, dbd: &Dbd, image: &RecordImage) -> Result<Bytes, EncodeRefused>
-    ensures spelled { IfOk result (λ bytes. bytes ≡ spelling image.now) }
-    ensures within { OnOk result (length (spelling image.now) ≤ record_limit dbd.now) }
+    ensures spelled { IfOk result (λ bytes. bytes ≡ rows_spelling image.now) }
+    ensures within { OnOk result (length (rows_spelling image.now) ≤ record_limit dbd.now) }
     ensures refused { IfErr result (RefusesRecord dbd.now image.now) }
 {
     let Ok(bytes) = rows_as_bytes(alloc, image.as_slice()) else {
@@ -46,7 +46,7 @@ pub fn record_limit(dbd: &Dbd) -> usize
 
 /// The bytes of rows: of each in turn its type number and its data.
 pub fn rows_as_bytes(alloc: Global, rows: &[Row]) -> Result<Bytes, Memory>
-    ensures { IfOk result (λ bytes. bytes ≡ spelling rows.now) }
+    ensures { IfOk result (λ bytes. bytes ≡ rows_spelling rows.now) }
 {
     let mut bytes = Bytes::new(alloc);
     for row in rows {

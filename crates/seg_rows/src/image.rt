@@ -1,8 +1,8 @@
 //! The rows of a record.
 ghost use Rattle.std.specs.Prelude.{◌≡◌, ◌↔◌, ◌≤◌, ◌-◌, [], ◌∷◌, ◌++◌, length, slice_get, IsTrue, IfOk, OnOk, OnErr};
 ghost use Rattle.std.specs.Option.{option_copied};
-ghost use Rattle.model_data.specs.Record.{spelling, record_root};
-ghost use Rattle.model_data.specs.Reading.{last_path};
+ghost use Rattle.model_data.specs.Record.{rows_spelling, record_root};
+ghost use Rattle.model_data.specs.RowsOfBytes.{last_path};
 
 use model_data::Row;
 use std::alloc::Global;
@@ -84,14 +84,14 @@ impl RecordImage {
 
     /// Whether the rows have at most this many bytes as a record.
     pub fn fits(&self, limit: usize) -> bool
-        ensures { IsTrue result ↔ (length (spelling self.now) ≤ limit) }
+        ensures { IsTrue result ↔ (length (rows_spelling self.now) ≤ limit) }
     {
         rows_fit(&self.rows, limit)
     }
 }
 
 fn rows_fit(rows: &[Row], limit: usize) -> bool
-    ensures { IsTrue result ↔ (length (spelling rows.now) ≤ limit) }
+    ensures { IsTrue result ↔ (length (rows_spelling rows.now) ≤ limit) }
 {
     let mut room = limit;
     for row in rows {

@@ -21,14 +21,14 @@ pub struct PlainRows {
 }
 
 impl Model for PlainRows {
-    ghost use Rattle.model_data.specs.Rows.{Database, rows_of};
-    ghost use Rattle.seg_rows.specs.PlainRows.{AreKept};
+    ghost use Rattle.model_data.specs.Rows.{Database, rows_of_records};
+    ghost use Rattle.seg_rows.specs.PlainRows.{ArePlainRowsKept};
 
     ghost Value = { Database };
 
-    ghost view = { λ p. record { dbd = p.dbd; rows = rows_of p.records.entries } };
+    ghost view = { λ p. record { dbd = p.dbd; rows = rows_of_records p.records.entries } };
 
-    ghost invariant = { λ p. AreKept p.dbd p.records.entries };
+    ghost invariant = { λ p. ArePlainRowsKept p.dbd p.records.entries };
 }
 
 impl PlainRows {

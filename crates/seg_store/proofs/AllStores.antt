@@ -4,7 +4,7 @@ use Rattle.std.specs.Prelude.{map}
 use Rattle.std.specs.List.{slice_get}
 use Rattle.std.specs.Option.{option_map}
 use Rattle.std.proofs.lemmas.Option.{slice_get-map}
-use Rattle.seg_store.specs.Changed.{Kept, stored, all_stores}
+use Rattle.seg_store.specs.ChangedSlots.{Kept, stored, all_stores}
 use Rattle.seg_store.specs.Stores.{IsStoreOf, with_store}
 
 map_set : {A B : Type 0} (f : A → B) (xs : List A) (i : ℕ) (x : A) → map f (set xs i x) ≡ set (map f xs) i (f x)

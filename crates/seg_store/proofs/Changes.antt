@@ -7,7 +7,7 @@ use Rattle.std.specs.Cmp.{nat_cmp_is}
 use Rattle.std.specs.declared.cmp.Ordering.TheVariants.{Less}
 use Rattle.std.proofs.lemmas.Bool.{ltb-true, ltb-false, eqb-false, eq-eqb, ne_eqb}
 use Rattle.std.proofs.lemmas.Cmp.{ranked}
-use Rattle.seg_store.specs.Changed.{with_number, AreChanged}
+use Rattle.seg_store.specs.ChangedSlots.{with_number, AreChanged}
 use Rattle.seg_store.specs.Store.{count_below}
 
 -- a number that stands at its place is there already

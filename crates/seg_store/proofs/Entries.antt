@@ -18,11 +18,12 @@ use Rattle.model_data.specs.Rows.{roots, next_root}
 use Rattle.seg_store.specs.Store.{next_entry}
 use Rattle.model_data.proofs.Order.{key_total, turned_less, turned_greater}
 use Rattle.model_data.proofs.Lists.{all_then}
-use Rattle.model_data.proofs.Records.{is_lt-true, is_eq-true}
+use Rattle.model_data.proofs.Records.{is_eq-true}
 use Rattle.std.proofs.lemmas.List.{get_or-map, length-map, get_or_default}
 use Rattle.std.proofs.lemmas.Bool.{cases_lt}
 use Rattle.std.proofs.lemmas.Option.{slice_get_within}
 use Rattle.model_data.proofs.Entries.{other_keys, keys_above, keys_above_equal}
+use Rattle.model_data.proofs.Reading.{is_lt-true}
 
 -- how many entries have lower keys
 abbrev pub place_in : {X : Type 0} → List ℕ → List (List ℕ × X) → ℕ

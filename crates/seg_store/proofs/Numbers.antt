@@ -9,7 +9,7 @@ use Rattle.std.specs.declared.cmp.Ordering.TheVariants.{Less}
 use Rattle.std.proofs.lemmas.Bool.{lt-ltb, le-ltb, cases_lt}
 use Rattle.std.proofs.lemmas.Map.Keys.{below_from_sorted}
 use Rattle.model_data.specs.declared.row.Row.{Row}
-use Rattle.seg_store.specs.Slots.{is_free, lowest_free, free_slots}
+use Rattle.seg_store.specs.Slots.{is_slot_free, lowest_free, free_slots}
 use Rattle.seg_store.specs.Store.{free_numbers, count_below}
 
 pub numbers_front : (xs : List ℕ) (n m : ℕ) → IsStrictlySortedBy nat_cmp xs → m < length xs → ((d : ℕ) → get_or xs m d < n) → (k d : ℕ) → k < m + 1 → get_or xs k d < n
@@ -85,11 +85,11 @@ numbers_few n [] = omega arith
 numbers_few n ([] ∷ slots) = omega (arith, numbers_few (suc n) slots)
 numbers_few n ((row ∷ image) ∷ slots) = omega (arith, numbers_few (suc n) slots)
 
-pub numbers_fewer : (n : ℕ) (slots : List (List Row)) (i : ℕ) (old : List Row) → slice_get slots i ≡ Some old → is_free old ≡ false → length (free_numbers n slots) < length slots
+pub numbers_fewer : (n : ℕ) (slots : List (List Row)) (i : ℕ) (old : List Row) → slice_get slots i ≡ Some old → is_slot_free old ≡ false → length (free_numbers n slots) < length slots
 numbers_fewer n [] i old g t = let clash : None ≡ Some old = g in absurd (cc)
 numbers_fewer n ([] ∷ slots) zero old g t =
     let same : Some [] ≡ Some old = g in let parts : [] ≡ old = cc in
-    let clash : true ≡ false = ap is_free parts ∙ t in absurd (cc)
+    let clash : true ≡ false = ap is_slot_free parts ∙ t in absurd (cc)
 numbers_fewer n ([] ∷ slots) (suc i) old g t = omega (arith, numbers_fewer (suc n) slots i old g t)
 numbers_fewer n ((row ∷ image) ∷ slots) i old g t = omega (arith, numbers_few (suc n) slots)
 
@@ -104,7 +104,7 @@ number_there n ((row ∷ image) ∷ slots) zero m e g =
 number_there n ((row ∷ image) ∷ slots) (suc i) m e g = number_there (suc n) slots i m (omega arith) g
 
 -- a slot that is filled
-pub numbers_filled : (n : ℕ) (slots : List (List Row)) (i m : ℕ) (image : List Row) → m ≡ n + i → slice_get slots i ≡ Some [] → is_free image ≡ false
+pub numbers_filled : (n : ℕ) (slots : List (List Row)) (i m : ℕ) (image : List Row) → m ≡ n + i → slice_get slots i ≡ Some [] → is_slot_free image ≡ false
     → free_numbers n (set slots i image) ≡ remove (free_numbers n slots) (count_below m (free_numbers n slots))
 numbers_filled n [] i m image e g t = let clash : None ≡ Some [] = g in absurd (cc)
 numbers_filled n ([] ∷ slots) zero m [] e g t = let clash : true ≡ false = t in absurd (cc)
@@ -118,12 +118,12 @@ numbers_filled n ((row ∷ rows) ∷ slots) zero m image e g t =
 numbers_filled n ((row ∷ rows) ∷ slots) (suc i) m image e g t = numbers_filled (suc n) slots i m image (omega arith) g t
 
 -- a slot that is freed
-pub numbers_freed : (n : ℕ) (slots : List (List Row)) (i m : ℕ) (old : List Row) → m ≡ n + i → slice_get slots i ≡ Some old → is_free old ≡ false
+pub numbers_freed : (n : ℕ) (slots : List (List Row)) (i m : ℕ) (old : List Row) → m ≡ n + i → slice_get slots i ≡ Some old → is_slot_free old ≡ false
     → free_numbers n (set slots i []) ≡ insert (free_numbers n slots) (count_below m (free_numbers n slots)) m
 numbers_freed n [] i m old e g t = let clash : None ≡ Some old = g in absurd (cc)
 numbers_freed n ([] ∷ slots) zero m old e g t =
     let same : Some [] ≡ Some old = g in let parts : [] ≡ old = cc in
-    let clash : true ≡ false = ap is_free parts ∙ t in absurd (cc)
+    let clash : true ≡ false = ap is_slot_free parts ∙ t in absurd (cc)
 numbers_freed n ([] ∷ slots) (suc i) m old e g t =
     ap (λ xs. n ∷ xs) (numbers_freed (suc n) slots i m old (omega arith) g t)
     ∙ sym (ap (λ p. insert (n ∷ free_numbers (suc n) slots) p m) (one_below m n (free_numbers (suc n) slots) (omega arith)))
@@ -134,12 +134,12 @@ numbers_freed n ((row ∷ rows) ∷ slots) zero m old e g t =
 numbers_freed n ((row ∷ rows) ∷ slots) (suc i) m old e g t = numbers_freed (suc n) slots i m old (omega arith) g t
 
 -- a slot that stays taken
-pub numbers_kept : (n : ℕ) (slots : List (List Row)) (i : ℕ) (old image : List Row) → slice_get slots i ≡ Some old → is_free old ≡ false → is_free image ≡ false
+pub numbers_kept : (n : ℕ) (slots : List (List Row)) (i : ℕ) (old image : List Row) → slice_get slots i ≡ Some old → is_slot_free old ≡ false → is_slot_free image ≡ false
     → free_numbers n (set slots i image) ≡ free_numbers n slots
 numbers_kept n [] i old image g t u = refl
 numbers_kept n ([] ∷ slots) zero old image g t u =
     let same : Some [] ≡ Some old = g in let parts : [] ≡ old = cc in
-    let clash : true ≡ false = ap is_free parts ∙ t in absurd (cc)
+    let clash : true ≡ false = ap is_slot_free parts ∙ t in absurd (cc)
 numbers_kept n ((row ∷ rows) ∷ slots) zero old [] g t u = let clash : true ≡ false = u in absurd (cc)
 numbers_kept n ((row ∷ rows) ∷ slots) zero old (r ∷ image) g t u = refl
 numbers_kept n ([] ∷ slots) (suc i) old image g t u = ap (λ xs. n ∷ xs) (numbers_kept (suc n) slots i old image g t u)

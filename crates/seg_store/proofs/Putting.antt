@@ -7,10 +7,10 @@ use Rattle.std.proofs.lemmas.Bool.{cases_lt, cases_eq, eq-eqb, ne_eqb}
 use Rattle.std.proofs.lemmas.List.{get_or-set_same, get_or-set_other, length-set, set_past, take_more, map-append, get_or_default, take-append-drop}
 use Rattle.std.proofs.lemmas.Option.{slice_get-map, slice_get-get_or}
 use Rattle.model_data.specs.declared.row.Row.{Row}
-use Rattle.model_data.specs.Record.{spelling}
+use Rattle.model_data.specs.Record.{rows_spelling}
 use Rattle.tm_disk.specs.Disk.{Image, DiskState, sector_at, with_sector, MayWrite, Elapses, Follows, Within}
 use Rattle.tm_disk.proofs.Words.{within_on, follows_on}
-use Rattle.seg_store.specs.DataSectors.{data_sector, IsGivenAt, given_at, MayPut, HasPut, PutsFront, bytes_of}
+use Rattle.seg_store.specs.DataSectors.{data_sector, IsGivenAt, given_at, MayPut, HasPut, PutsFront, bytes_of_slots}
 
 -- a slot of a list is given to its place
 pub given_there : (first : ℕ) (slots : List (ℕ × List ℕ)) (i at : ℕ) (slot : ℕ × List ℕ) (sector : List ℕ) → slice_get slots i ≡ Some slot → first + slot.0 ≡ at → sector ≡ data_sector slot.1
@@ -114,37 +114,37 @@ module _ (first : ℕ) (images : List (List Row)) (numbers : List ℕ) (i : ℕ)
   image_is : image ≡ get_or images (get_or numbers i 0) []
   image_is = is ∙ get_or_default images (get_or numbers i 0) image [] number_within
 
-  pub given_number : (sector : List ℕ) → sector ≡ data_sector (spelling image) → IsGivenAt first (bytes_of images numbers) (first + get_or numbers i 0) sector
+  pub given_number : (sector : List ℕ) → sector ≡ data_sector (rows_spelling image) → IsGivenAt first (bytes_of_slots images numbers) (first + get_or numbers i 0) sector
   given_number sector sealed =
-      given_there first (bytes_of images numbers) i (first + get_or numbers i 0) (get_or numbers i 0, spelling (get_or images (get_or numbers i 0) [])) sector
-      (slice_get-map (λ number. (number, spelling (get_or images number []))) numbers i ∙ ap (option_map (λ number. (number, spelling (get_or images number [])))) (slice_get-get_or numbers i 0 lt))
-      refl (sealed ∙ ap (λ rows. data_sector (spelling rows)) image_is)
+      given_there first (bytes_of_slots images numbers) i (first + get_or numbers i 0) (get_or numbers i 0, rows_spelling (get_or images (get_or numbers i 0) [])) sector
+      (slice_get-map (λ number. (number, rows_spelling (get_or images number []))) numbers i ∙ ap (option_map (λ number. (number, rows_spelling (get_or images number [])))) (slice_get-get_or numbers i 0 lt))
+      refl (sealed ∙ ap (λ rows. data_sector (rows_spelling rows)) image_is)
 
-  pub has_number : (sector : List ℕ) (before mid after : Image) → sector ≡ data_sector (spelling image) → first + get_or numbers i 0 < length mid
-      → HasPut first (bytes_of images (take i numbers)) before mid → after ≡ with_sector mid (first + get_or numbers i 0) sector → HasPut first (bytes_of images (take (i + 1) numbers)) before after
+  pub has_number : (sector : List ℕ) (before mid after : Image) → sector ≡ data_sector (rows_spelling image) → first + get_or numbers i 0 < length mid
+      → HasPut first (bytes_of_slots images (take i numbers)) before mid → after ≡ with_sector mid (first + get_or numbers i 0) sector → HasPut first (bytes_of_slots images (take (i + 1) numbers)) before after
   has_number sector before mid after sealed inside has new =
       subst (λ (slots : List (ℕ × List ℕ)). HasPut first slots before after) (sym next)
-      (has_step first (bytes_of images (take i numbers)) (get_or numbers i 0, spelling (get_or images (get_or numbers i 0) [])) (first + get_or numbers i 0) sector before mid after refl inside
-      (sealed ∙ ap (λ rows. data_sector (spelling rows)) image_is) has new)
+      (has_step first (bytes_of_slots images (take i numbers)) (get_or numbers i 0, rows_spelling (get_or images (get_or numbers i 0) [])) (first + get_or numbers i 0) sector before mid after refl inside
+      (sealed ∙ ap (λ rows. data_sector (rows_spelling rows)) image_is) has new)
     where
-      next : bytes_of images (take (i + 1) numbers) ≡ bytes_of images (take i numbers) ++ (get_or numbers i 0, spelling (get_or images (get_or numbers i 0) [])) ∷ []
+      next : bytes_of_slots images (take (i + 1) numbers) ≡ bytes_of_slots images (take i numbers) ++ (get_or numbers i 0, rows_spelling (get_or images (get_or numbers i 0) [])) ∷ []
       next =
-          ap (bytes_of images) (take_more numbers i 0 lt)
-          ∙ map-append (λ number. (number, spelling (get_or images number []))) (take i numbers) (get_or numbers i 0 ∷ [])
+          ap (bytes_of_slots images) (take_more numbers i 0 lt)
+          ∙ map-append (λ number. (number, rows_spelling (get_or images number []))) (take i numbers) (get_or numbers i 0 ∷ [])
 
   -- those up to a place, and those behind
-  front_is : (n : ℕ) (before after : Image) → HasPut first (bytes_of images (take n numbers)) before after → PutsFront first (bytes_of images numbers) before after
+  front_is : (n : ℕ) (before after : Image) → HasPut first (bytes_of_slots images (take n numbers)) before after → PutsFront first (bytes_of_slots images numbers) before after
   front_is n before after has = record {
-    front = bytes_of images (take n numbers);
-    rest = bytes_of images (drop n numbers);
-    all = ap (bytes_of images) (sym (take-append-drop n numbers)) ∙ map-append (λ number. (number, spelling (get_or images number []))) (take n numbers) (drop n numbers);
+    front = bytes_of_slots images (take n numbers);
+    rest = bytes_of_slots images (drop n numbers);
+    all = ap (bytes_of_slots images) (sym (take-append-drop n numbers)) ∙ map-append (λ number. (number, rows_spelling (get_or images number []))) (take n numbers) (drop n numbers);
     put = has;
   }
 
-  pub front_step : (sector : List ℕ) (before mid after : Image) → sector ≡ data_sector (spelling image) → first + get_or numbers i 0 < length mid
-      → HasPut first (bytes_of images (take i numbers)) before mid → MayWrite (first + get_or numbers i 0) sector mid after → PutsFront first (bytes_of images numbers) before after
+  pub front_step : (sector : List ℕ) (before mid after : Image) → sector ≡ data_sector (rows_spelling image) → first + get_or numbers i 0 < length mid
+      → HasPut first (bytes_of_slots images (take i numbers)) before mid → MayWrite (first + get_or numbers i 0) sector mid after → PutsFront first (bytes_of_slots images numbers) before after
   front_step sector before mid after sealed inside has wrote =
       ⊎_elim
-      (λ same. front_is i before after (subst (λ (a : Image). HasPut first (bytes_of images (take i numbers)) before a) (sym same) has))
+      (λ same. front_is i before after (subst (λ (a : Image). HasPut first (bytes_of_slots images (take i numbers)) before a) (sym same) has))
       (λ new. front_is (i + 1) before after (has_number sector before mid after sealed inside has new))
       wrote

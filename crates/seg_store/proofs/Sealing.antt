@@ -1,21 +1,14 @@
 -- Bytes put into a sector of zeros, one behind the other.
 use Rattle.std.proofs.Common.{◌≡◌, ℕ, ◌+◌, ◌-◌, ◌≤◌, ◌<◌, ◌++◌, ◌∷◌, [], List, length, take, drop, refl, sym, ◌∙◌, ap, arith, append_assoc, append-nil, get_or}
 use Rattle.std.specs.Int.{w16, to_be_bytes}
-use Rattle.std.proofs.lemmas.List.{length-replicate, drop-replicate, drop_at, take_at, drop-drop, take-append-drop, length-append, take_more, take_all}
+use Rattle.std.proofs.lemmas.List.{drop_at, take_at, drop-drop, take-append-drop, length-append, take_more, take_all}
 use Rattle.std.proofs.lemmas.Grind.{flat_map-append}
 use Rattle.tm_disk.specs.Sector.{zeros, blank}
 use Rattle.model_data.specs.declared.row.Row.{Row}
 use Rattle.model_data.specs.Path.{end_type}
-use Rattle.model_data.specs.Record.{spelling, row_spelling}
+use Rattle.model_data.specs.Record.{rows_spelling, row_spelling}
 use Rattle.seg_store.specs.DataSectors.{data_sector}
-
-length-zeros : (n : ℕ) → length (zeros n) ≡ n
-unfolding zeros
-length-zeros n = length-replicate n 0
-
-drop-zeros : (m n : ℕ) → drop m (zeros n) ≡ zeros (n - m)
-unfolding zeros
-drop-zeros m n = drop-replicate m n 0
+use Rattle.tm_disk.proofs.Zeros.{length-zeros, drop-zeros}
 
 pub blank_is : blank ≡ zeros 2 ++ zeros 4094
 unfolding blank zeros
@@ -71,40 +64,40 @@ put_after body h sector is h_is fits =
     ∙ ap (λ (l : List ℕ). l ++ body ++ zeros (4094 - length body)) h_is)
 
 -- rows, one more at a time
-pub spelled_more : (rows : List Row) (i : ℕ) (row : Row) → take (i + 1) rows ≡ take i rows ++ row ∷ [] → spelling (take (i + 1) rows) ≡ spelling (take i rows) ++ row_spelling row
+pub spelled_more : (rows : List Row) (i : ℕ) (row : Row) → take (i + 1) rows ≡ take i rows ++ row ∷ [] → rows_spelling (take (i + 1) rows) ≡ rows_spelling (take i rows) ++ row_spelling row
 spelled_more rows i row e =
-    ap spelling e ∙ (flat_map-append row_spelling (take i rows) (row ∷ []) ∙ ap (λ (l : List ℕ). spelling (take i rows) ++ l) nil)
+    ap rows_spelling e ∙ (flat_map-append row_spelling (take i rows) (row ∷ []) ∙ ap (λ (l : List ℕ). rows_spelling (take i rows) ++ l) nil)
   where
     nil : row_spelling row ++ [] ≡ row_spelling row
     nil = simp append-nil
 
-pub spelled_front : (rows : List Row) (i : ℕ) → length (spelling (take i rows)) ≤ length (spelling rows)
+pub spelled_front : (rows : List Row) (i : ℕ) → length (rows_spelling (take i rows)) ≤ length (rows_spelling rows)
 spelled_front rows i =
-    let parts : spelling (take i rows) ++ spelling (drop i rows) ≡ spelling rows =
-    sym (flat_map-append row_spelling (take i rows) (drop i rows)) ∙ ap spelling (take-append-drop i rows) in
-    omega (arith, length-append (spelling (take i rows)) (spelling (drop i rows)), ap (length {A = ℕ}) parts)
+    let parts : rows_spelling (take i rows) ++ rows_spelling (drop i rows) ≡ rows_spelling rows =
+    sym (flat_map-append row_spelling (take i rows) (drop i rows)) ∙ ap rows_spelling (take-append-drop i rows) in
+    omega (arith, length-append (rows_spelling (take i rows)) (rows_spelling (drop i rows)), ap (length {A = ℕ}) parts)
 
-next_spelled : (rows : List Row) (i : ℕ) (row : Row) → i < length rows → row ≡ get_or rows i row → spelling (take (i + 1) rows) ≡ spelling (take i rows) ++ row_spelling row
+next_spelled : (rows : List Row) (i : ℕ) (row : Row) → i < length rows → row ≡ get_or rows i row → rows_spelling (take (i + 1) rows) ≡ rows_spelling (take i rows) ++ row_spelling row
 next_spelled rows i row lt is = spelled_more rows i row (take_more rows i row lt ∙ ap (λ r. take i rows ++ r ∷ []) (sym is))
 
 -- a row behind others
-module _ (rows : List Row) (i at t : ℕ) (row : Row) (lt : i < length rows) (is : row ≡ get_or rows i row) (type_is : t ≡ end_type row.path) (end : at ≡ 2 + length (spelling (take i rows))) (fits : length (spelling rows) ≤ 4000) where
-  next_length : length (spelling (take (i + 1) rows)) ≡ length (spelling (take i rows)) + (1 + length row.bytes)
+module _ (rows : List Row) (i at t : ℕ) (row : Row) (lt : i < length rows) (is : row ≡ get_or rows i row) (type_is : t ≡ end_type row.path) (end : at ≡ 2 + length (rows_spelling (take i rows))) (fits : length (rows_spelling rows) ≤ 4000) where
+  next_length : length (rows_spelling (take (i + 1) rows)) ≡ length (rows_spelling (take i rows)) + (1 + length row.bytes)
   next_length =
-      let spelled : length (spelling (take (i + 1) rows)) ≡ length (spelling (take i rows) ++ row_spelling row) = ap (length {A = ℕ}) (next_spelled rows i row lt is) in
-      omega (arith, spelled, length-append (spelling (take i rows)) (row_spelling row))
+      let spelled : length (rows_spelling (take (i + 1) rows)) ≡ length (rows_spelling (take i rows) ++ row_spelling row) = ap (length {A = ℕ}) (next_spelled rows i row lt is) in
+      omega (arith, spelled, length-append (rows_spelling (take i rows)) (row_spelling row))
 
   pub next_fits : at + (1 + length row.bytes) ≤ 4096
   next_fits = omega (arith, next_length, spelled_front rows (i + 1), end, fits)
 
-  pub next_end : at + (1 + length row.bytes) ≡ 2 + length (spelling (take (i + 1) rows))
+  pub next_end : at + (1 + length row.bytes) ≡ 2 + length (rows_spelling (take (i + 1) rows))
   next_end = omega (arith, next_length, end)
 
-  pub next_sector : (bytes sector typed after : List ℕ) → bytes ≡ row.bytes → sector ≡ zeros 2 ++ spelling (take i rows) ++ zeros (4094 - length (spelling (take i rows)))
+  pub next_sector : (bytes sector typed after : List ℕ) → bytes ≡ row.bytes → sector ≡ zeros 2 ++ rows_spelling (take i rows) ++ zeros (4094 - length (rows_spelling (take i rows)))
       → typed ≡ take at sector ++ (t ∷ []) ++ drop (at + 1) sector → after ≡ take (at + 1) typed ++ bytes ++ drop (at + 1 + length bytes) typed
-      → after ≡ zeros 2 ++ spelling (take (i + 1) rows) ++ zeros (4094 - length (spelling (take (i + 1) rows)))
+      → after ≡ zeros 2 ++ rows_spelling (take (i + 1) rows) ++ zeros (4094 - length (rows_spelling (take (i + 1) rows)))
   next_sector bytes sector typed after bytes_is sector_is typed_is after_is =
-      let body = spelling (take i rows) in
+      let body = rows_spelling (take i rows) in
       let k = 4094 - length body in
       let one : typed ≡ zeros 2 ++ (body ++ (t ∷ [])) ++ zeros (k - 1) =
       typed_is ∙ put_behind body (t ∷ []) sector at k sector_is end (omega (arith, next_fits, end)) in
@@ -112,19 +105,19 @@ module _ (rows : List Row) (i at t : ℕ) (row : Row) (lt : i < length rows) (is
       let room : length bytes ≤ k - 1 = omega (arith, next_fits, end, ap (length {A = ℕ}) bytes_is) in
       let two : after ≡ zeros 2 ++ ((body ++ (t ∷ [])) ++ bytes) ++ zeros (k - 1 - length bytes) =
       after_is ∙ put_behind (body ++ (t ∷ [])) bytes typed (at + 1) (k - 1) one place room in
-      let whole : (body ++ (t ∷ [])) ++ bytes ≡ spelling (take (i + 1) rows) =
+      let whole : (body ++ (t ∷ [])) ++ bytes ≡ rows_spelling (take (i + 1) rows) =
       append_assoc body (t ∷ []) bytes ∙ ((λ j. body ++ (type_is j ∷ bytes_is j)) ∙ sym (next_spelled rows i row lt is)) in
-      let left : k - 1 - length bytes ≡ 4094 - length (spelling (take (i + 1) rows)) = omega (arith, next_length, ap (length {A = ℕ}) bytes_is) in
+      let left : k - 1 - length bytes ≡ 4094 - length (rows_spelling (take (i + 1) rows)) = omega (arith, next_length, ap (length {A = ℕ}) bytes_is) in
       two ∙ (λ j. zeros 2 ++ whole j ++ zeros (left j))
 
-pub begins : (rows : List Row) (sector : List ℕ) → sector ≡ blank → sector ≡ zeros 2 ++ spelling (take 0 rows) ++ zeros (4094 - length (spelling (take 0 rows)))
+pub begins : (rows : List Row) (sector : List ℕ) → sector ≡ blank → sector ≡ zeros 2 ++ rows_spelling (take 0 rows) ++ zeros (4094 - length (rows_spelling (take 0 rows)))
 begins rows sector is = is ∙ (blank_is ∙ ap (λ (l : List ℕ). l ++ zeros 4094) (sym (append-nil (zeros 2))))
 
 -- the length of all rows before them
-pub ends : (rows : List Row) (i at : ℕ) (h sector after : List ℕ) → i ≡ length rows → at ≡ 2 + length (spelling (take i rows)) → sector ≡ zeros 2 ++ spelling (take i rows) ++ zeros (4094 - length (spelling (take i rows)))
-    → h ≡ to_be_bytes w16 (at - 2) → after ≡ take 0 sector ++ h ++ drop (0 + length h) sector → after ≡ data_sector (spelling rows)
+pub ends : (rows : List Row) (i at : ℕ) (h sector after : List ℕ) → i ≡ length rows → at ≡ 2 + length (rows_spelling (take i rows)) → sector ≡ zeros 2 ++ rows_spelling (take i rows) ++ zeros (4094 - length (rows_spelling (take i rows)))
+    → h ≡ to_be_bytes w16 (at - 2) → after ≡ take 0 sector ++ h ++ drop (0 + length h) sector → after ≡ data_sector (rows_spelling rows)
 ends rows i at h sector after all end sector_is h_is after_is =
-    let body = spelling (take i rows) in
-    let whole : body ≡ spelling rows = ap spelling (ap (λ n. take n rows) all ∙ take_all (length rows) rows (omega arith)) in
+    let body = rows_spelling (take i rows) in
+    let whole : body ≡ rows_spelling rows = ap rows_spelling (ap (λ n. take n rows) all ∙ take_all (length rows) rows (omega arith)) in
     let count : at - 2 ≡ length body = omega (arith, end) in
     after_is ∙ (put_length body h sector (4094 - length body) sector_is (h_is ∙ ap (to_be_bytes w16) count) refl ∙ ap data_sector whole)

@@ -6,13 +6,13 @@ use Rattle.std.specs.Option.{option_or, unwrap_or}
 use Rattle.std.proofs.lemmas.List.Sums.{sum_by-cons, sum_by-take-le}
 use Rattle.std.proofs.lemmas.List.{append-nil, map-append}
 use Rattle.model_data.specs.declared.row.Row.{Row}
-use Rattle.model_data.specs.Record.{spelling}
+use Rattle.model_data.specs.Record.{rows_spelling}
 use Rattle.tm_disk.specs.Disk.{Image, DiskState, sector_at, Follows, Within}
 use Rattle.tm_disk.proofs.Words.{follows_on, follows_more, within_more, within_within}
 use Rattle.seg_store.specs.Slots.{Stored, AreSlots}
-use Rattle.seg_store.specs.Changed.{Kept, stored, all_stores}
-use Rattle.seg_store.specs.DataSectors.{data_sector, IsGivenAt, given_at, MayPut, HasPut, PutsFront, bytes_of}
-use Rattle.seg_store.specs.WriteBack.{slot_count, changed_count, bytes_behind, all_bytes, all_written, kept_bytes, kept_slots, kept_count, written_kept}
+use Rattle.seg_store.specs.ChangedSlots.{Kept, stored, all_stores}
+use Rattle.seg_store.specs.DataSectors.{data_sector, IsGivenAt, given_at, MayPut, HasPut, PutsFront, bytes_of_slots}
+use Rattle.seg_store.specs.WrittenSlots.{slot_count, changed_count, bytes_behind, all_bytes, all_written, kept_bytes, kept_slots, kept_count, written_kept}
 
 -- ---- lists of slots, one behind another
 
@@ -38,14 +38,14 @@ is_given_back first [] ys at sector given = given
 is_given_back first (x ∷ xs) ys at sector given = inr (is_given_back first xs ys at sector given)
 
 -- the slots of a database behind others, by their own first sector
-pub given_behind : (first others : ℕ) (images : List (List Row)) (numbers : List ℕ) (at : ℕ) → given_at (first + others) (bytes_of images numbers) at ≡ given_at first (bytes_behind others images numbers) at
+pub given_behind : (first others : ℕ) (images : List (List Row)) (numbers : List ℕ) (at : ℕ) → given_at (first + others) (bytes_of_slots images numbers) at ≡ given_at first (bytes_behind others images numbers) at
 given_behind first others images [] at = refl
 given_behind first others images (n ∷ numbers) at =
     let place : (first + others) + n ≡ first + (others + n) = omega arith in
-    ap (λ o. option_or o (if eqb ((first + others) + n) at then Some (data_sector (spelling (slice_index_or images n []))) else None)) (given_behind first others images numbers at)
-    ∙ ap (λ k. option_or (given_at first (bytes_behind others images numbers) at) (if eqb k at then Some (data_sector (spelling (slice_index_or images n []))) else None)) place
+    ap (λ o. option_or o (if eqb ((first + others) + n) at then Some (data_sector (rows_spelling (slice_index_or images n []))) else None)) (given_behind first others images numbers at)
+    ∙ ap (λ k. option_or (given_at first (bytes_behind others images numbers) at) (if eqb k at then Some (data_sector (rows_spelling (slice_index_or images n []))) else None)) place
 
-pub is_given_behind : (first others : ℕ) (images : List (List Row)) (numbers : List ℕ) (at : ℕ) (sector : List ℕ) → IsGivenAt (first + others) (bytes_of images numbers) at sector → IsGivenAt first (bytes_behind others images numbers) at sector
+pub is_given_behind : (first others : ℕ) (images : List (List Row)) (numbers : List ℕ) (at : ℕ) (sector : List ℕ) → IsGivenAt (first + others) (bytes_of_slots images numbers) at sector → IsGivenAt first (bytes_behind others images numbers) at sector
 is_given_behind first others images [] at sector given = given
 is_given_behind first others images (n ∷ numbers) at sector given =
     let place : (first + others) + n ≡ first + (others + n) = omega arith in
@@ -79,16 +79,16 @@ has_both first xs ys a b c one two = record {
   by None p s = refl
   by (Some x) p s = refl
 
-pub has_behind : (first others : ℕ) (images : List (List Row)) (numbers : List ℕ) (a b : Image) → HasPut (first + others) (bytes_of images numbers) a b → HasPut first (bytes_behind others images numbers) a b
+pub has_behind : (first others : ℕ) (images : List (List Row)) (numbers : List ℕ) (a b : Image) → HasPut (first + others) (bytes_of_slots images numbers) a b → HasPut first (bytes_behind others images numbers) a b
 has_behind first others images numbers a b has = record { size = has.size; each = λ at. has.each at ∙ ap (λ o. unwrap_or o (sector_at a at)) (given_behind first others images numbers at) }
 
 -- the same of any slots
 abbrev behind : ℕ → List (ℕ × List ℕ) → List (ℕ × List ℕ)
 behind others slots = map (λ slot. (others + slot.0, slot.1)) slots
 
-bytes_are_behind : (others : ℕ) (images : List (List Row)) (numbers : List ℕ) → bytes_behind others images numbers ≡ behind others (bytes_of images numbers)
+bytes_are_behind : (others : ℕ) (images : List (List Row)) (numbers : List ℕ) → bytes_behind others images numbers ≡ behind others (bytes_of_slots images numbers)
 bytes_are_behind others images [] = refl
-bytes_are_behind others images (n ∷ numbers) = ap (λ (l : List (ℕ × List ℕ)). (others + n, spelling (slice_index_or images n [])) ∷ l) (bytes_are_behind others images numbers)
+bytes_are_behind others images (n ∷ numbers) = ap (λ (l : List (ℕ × List ℕ)). (others + n, rows_spelling (slice_index_or images n [])) ∷ l) (bytes_are_behind others images numbers)
 
 any_behind : (first others : ℕ) (slots : List (ℕ × List ℕ)) (at : ℕ) → given_at (first + others) slots at ≡ given_at first (behind others slots) at
 any_behind first others [] at = refl
@@ -101,7 +101,7 @@ has_any_behind : (first others : ℕ) (slots : List (ℕ × List ℕ)) (a b : Im
 has_any_behind first others slots a b has = record { size = has.size; each = λ at. has.each at ∙ ap (λ o. unwrap_or o (sector_at a at)) (any_behind first others slots at) }
 
 -- those of a database behind others, up to one of them
-front_behind : (first others : ℕ) (images : List (List Row)) (numbers : List ℕ) (a b : Image) → PutsFront (first + others) (bytes_of images numbers) a b → PutsFront first (bytes_behind others images numbers) a b
+front_behind : (first others : ℕ) (images : List (List Row)) (numbers : List ℕ) (a b : Image) → PutsFront (first + others) (bytes_of_slots images numbers) a b → PutsFront first (bytes_behind others images numbers) a b
 front_behind first others images numbers a b puts = record {
   front = behind others puts.front;
   rest = behind others puts.rest;
@@ -167,7 +167,7 @@ up_to others (k ∷ kept) (suc i) =
     ∙ sym (append_assoc (bytes_behind others k.slots k.changed) (kept_bytes (others + k.dbd.roots) (take i kept)) (kept_bytes (others + kept_slots (take (suc i) (k ∷ kept))) (drop i kept))))
 
 -- the slots of one store are among those of all
-pub one_is_given : (first : ℕ) (kept : List Kept) (i : ℕ) (one : Kept) → slice_get kept i ≡ Some one → (at : ℕ) (sector : List ℕ) → IsGivenAt (first + kept_slots (take i kept)) (bytes_of one.slots one.changed) at sector → IsGivenAt first (kept_bytes 0 kept) at sector
+pub one_is_given : (first : ℕ) (kept : List Kept) (i : ℕ) (one : Kept) → slice_get kept i ≡ Some one → (at : ℕ) (sector : List ℕ) → IsGivenAt (first + kept_slots (take i kept)) (bytes_of_slots one.slots one.changed) at sector → IsGivenAt first (kept_bytes 0 kept) at sector
 one_is_given first kept i one found at sector given =
     in_front first 0 kept (i + 1) at sector
     (subst (λ (l : List (ℕ × List ℕ)). IsGivenAt first l at sector) (sym (one_more 0 kept i one found))
@@ -176,22 +176,22 @@ one_is_given first kept i one found at sector given =
     (is_given_behind first (kept_slots (take i kept)) one.slots one.changed at sector given))))
 
 module _ (first : ℕ) (kept : List Kept) (i : ℕ) (one : Kept) (found : slice_get kept i ≡ Some one) (at : ℕ) (is : at ≡ first + kept_slots (take i kept)) where
-  may_one : (a b : Image) → MayPut at (bytes_of one.slots one.changed) a b → MayPut first (kept_bytes 0 kept) a b
-  may_one a b may = may_more first at (bytes_of one.slots one.changed) (kept_bytes 0 kept) a b (λ k sector given. one_is_given first kept i one found k sector (subst (λ n. IsGivenAt n (bytes_of one.slots one.changed) k sector) is given)) may
+  may_one : (a b : Image) → MayPut at (bytes_of_slots one.slots one.changed) a b → MayPut first (kept_bytes 0 kept) a b
+  may_one a b may = may_more first at (bytes_of_slots one.slots one.changed) (kept_bytes 0 kept) a b (λ k sector given. one_is_given first kept i one found k sector (subst (λ n. IsGivenAt n (bytes_of_slots one.slots one.changed) k sector) is given)) may
 
-  pub next_within : (old mid new : DiskState) → Within (MayPut first (kept_bytes 0 kept)) old mid → Follows (MayPut first (kept_bytes 0 kept)) old mid → Within (MayPut at (bytes_of one.slots one.changed)) mid new → Within (MayPut first (kept_bytes 0 kept)) old new
+  pub next_within : (old mid new : DiskState) → Within (MayPut first (kept_bytes 0 kept)) old mid → Follows (MayPut first (kept_bytes 0 kept)) old mid → Within (MayPut at (bytes_of_slots one.slots one.changed)) mid new → Within (MayPut first (kept_bytes 0 kept)) old new
   next_within old mid new before follows after =
       within_within (MayPut first (kept_bytes 0 kept)) (MayPut first (kept_bytes 0 kept)) (MayPut first (kept_bytes 0 kept)) old mid new (λ a c may. may) (may_both first (kept_bytes 0 kept))
-      before follows (within_more (MayPut at (bytes_of one.slots one.changed)) (MayPut first (kept_bytes 0 kept)) mid new may_one after)
+      before follows (within_more (MayPut at (bytes_of_slots one.slots one.changed)) (MayPut first (kept_bytes 0 kept)) mid new may_one after)
 
-  pub next_follows : (old mid new : DiskState) → Follows (MayPut first (kept_bytes 0 kept)) old mid → Follows (MayPut at (bytes_of one.slots one.changed)) mid new → Follows (MayPut first (kept_bytes 0 kept)) old new
+  pub next_follows : (old mid new : DiskState) → Follows (MayPut first (kept_bytes 0 kept)) old mid → Follows (MayPut at (bytes_of_slots one.slots one.changed)) mid new → Follows (MayPut first (kept_bytes 0 kept)) old new
   next_follows old mid new before after =
       follows_on (MayPut first (kept_bytes 0 kept)) (MayPut first (kept_bytes 0 kept)) (MayPut first (kept_bytes 0 kept)) old mid new (may_both first (kept_bytes 0 kept)) before
-      (follows_more (MayPut at (bytes_of one.slots one.changed)) (MayPut first (kept_bytes 0 kept)) mid new may_one after)
+      (follows_more (MayPut at (bytes_of_slots one.slots one.changed)) (MayPut first (kept_bytes 0 kept)) mid new may_one after)
 
-  pub next_front : (a b c : Image) → HasPut first (kept_bytes 0 (take i kept)) a b → PutsFront at (bytes_of one.slots one.changed) b c → PutsFront first (kept_bytes 0 kept) a c
+  pub next_front : (a b c : Image) → HasPut first (kept_bytes 0 (take i kept)) a b → PutsFront at (bytes_of_slots one.slots one.changed) b c → PutsFront first (kept_bytes 0 kept) a c
   next_front a b c before puts =
-      let here : PutsFront (first + kept_slots (take i kept)) (bytes_of one.slots one.changed) b c = subst (λ n. PutsFront n (bytes_of one.slots one.changed) b c) is puts in
+      let here : PutsFront (first + kept_slots (take i kept)) (bytes_of_slots one.slots one.changed) b c = subst (λ n. PutsFront n (bytes_of_slots one.slots one.changed) b c) is puts in
       let later : PutsFront first (bytes_behind (0 + kept_slots (take i kept)) one.slots one.changed) b c =
       subst (λ n. PutsFront first (bytes_behind n one.slots one.changed) b c) (omega arith) (front_behind first (kept_slots (take i kept)) one.slots one.changed b c here) in
       let more = kept_bytes (0 + kept_slots (take (i + 1) kept)) (drop (i + 1) kept) in
@@ -199,9 +199,9 @@ module _ (first : ℕ) (kept : List Kept) (i : ℕ) (one : Kept) (found : slice_
       (sym (up_to 0 kept (i + 1) ∙ ap (λ (l : List (ℕ × List ℕ)). l ++ more) (one_more 0 kept i one found)))
       (front_both first (kept_bytes 0 (take i kept)) (bytes_behind (0 + kept_slots (take i kept)) one.slots one.changed) more a b c before later)
 
-  pub next_has : (a b c : Image) → HasPut first (kept_bytes 0 (take i kept)) a b → HasPut at (bytes_of one.slots one.changed) b c → HasPut first (kept_bytes 0 (take (i + 1) kept)) a c
+  pub next_has : (a b c : Image) → HasPut first (kept_bytes 0 (take i kept)) a b → HasPut at (bytes_of_slots one.slots one.changed) b c → HasPut first (kept_bytes 0 (take (i + 1) kept)) a c
   next_has a b c before after =
-      let here : HasPut (first + kept_slots (take i kept)) (bytes_of one.slots one.changed) b c = subst (λ n. HasPut n (bytes_of one.slots one.changed) b c) is after in
+      let here : HasPut (first + kept_slots (take i kept)) (bytes_of_slots one.slots one.changed) b c = subst (λ n. HasPut n (bytes_of_slots one.slots one.changed) b c) is after in
       let behind : HasPut first (bytes_behind (0 + kept_slots (take i kept)) one.slots one.changed) b c = subst (λ n. HasPut first (bytes_behind n one.slots one.changed) b c) (omega arith) (has_behind first (kept_slots (take i kept)) one.slots one.changed b c here) in
       subst (λ (l : List (ℕ × List ℕ)). HasPut first l a c) (sym (one_more 0 kept i one found)) (has_both first (kept_bytes 0 (take i kept)) (bytes_behind (0 + kept_slots (take i kept)) one.slots one.changed) a b c before behind)
 

@@ -5,7 +5,7 @@ use Rattle.std.specs.Int.{w16, to_be_bytes}
 use Rattle.tm_disk.specs.Disk.{Image, sector_at}
 use Rattle.tm_disk.specs.Sector.{zeros}
 use Rattle.model_data.specs.declared.row.Row.{Row}
-use Rattle.model_data.specs.Record.{spelling}
+use Rattle.model_data.specs.Record.{rows_spelling}
 
 -- a sector with these bytes of a record, of which there are at most 4,000: how many they are, the bytes, and zeros to
 -- the end; no record has no bytes
@@ -41,5 +41,5 @@ pub record PutsFront (first : ℕ) (slots : List (ℕ × List ℕ)) (before afte
   pub put : HasPut first front before after
 
 -- these slots of a database, with the bytes of their records
-abbrev pub bytes_of : List (List Row) → List ℕ → List (ℕ × List ℕ)
-bytes_of images numbers = map (λ number. (number, spelling (slice_index_or images number []))) numbers
+abbrev pub bytes_of_slots : List (List Row) → List ℕ → List (ℕ × List ℕ)
+bytes_of_slots images numbers = map (λ number. (number, rows_spelling (slice_index_or images number []))) numbers

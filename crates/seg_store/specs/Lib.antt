@@ -2,5 +2,5 @@ pub mod Slots
 pub mod Store
 pub mod Stores
 pub mod DataSectors
-pub mod Changed
-pub mod WriteBack
+pub mod ChangedSlots
+pub mod WrittenSlots

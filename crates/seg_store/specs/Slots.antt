@@ -27,9 +27,9 @@ has_root root [] = false
 has_root root (row ∷ rows) = is_eq (key_cmp root (root_of row.path))
 
 -- whether a slot with this image is free
-abbrev pub is_free : List Row → Bool
-is_free [] = true
-is_free (row ∷ rows) = false
+abbrev pub is_slot_free : List Row → Bool
+is_slot_free [] = true
+is_slot_free (row ∷ rows) = false
 
 -- the first place whose element passes
 abbrev pub place_of : {A : Type 0} → (A → Bool) → List A → Option ℕ
@@ -42,21 +42,21 @@ AtMostOne test [] = Unit {0}
 AtMostOne test (x ∷ xs) = (IsTrue (test x) → place_of test xs ≡ None) × AtMostOne test xs
 
 -- the slot of the record with this root
-abbrev pub slot_of : List ℕ → List (List Row) → Option ℕ
-slot_of root slots = place_of (has_root root) slots
+abbrev pub slot_of_root : List ℕ → List (List Row) → Option ℕ
+slot_of_root root slots = place_of (has_root root) slots
 
 -- the lowest free slot
 abbrev pub lowest_free : List (List Row) → Option ℕ
-lowest_free slots = place_of is_free slots
+lowest_free slots = place_of is_slot_free slots
 
 -- the first of two options that is there
-abbrev pub first_of : Option ℕ → Option ℕ → Option ℕ
-first_of None other = other
-first_of (Some n) other = Some n
+abbrev pub first_slot_of : Option ℕ → Option ℕ → Option ℕ
+first_slot_of None other = other
+first_slot_of (Some n) other = Some n
 
 -- the slot of the record with this root, or else the lowest free one, which a new record takes
 abbrev pub slot_for : List ℕ → List (List Row) → Option ℕ
-slot_for root slots = first_of (slot_of root slots) (lowest_free slots)
+slot_for root slots = first_slot_of (slot_of_root root slots) (lowest_free slots)
 
 -- the slots with this image in one of them, if there is one
 abbrev pub with_image : Option ℕ → List Row → List (List Row) → List (List Row)

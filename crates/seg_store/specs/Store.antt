@@ -8,8 +8,8 @@ use Rattle.std.specs.Map.{keys_of, lookup}
 use Rattle.tm_types.specs.declared.dbd.Dbd.{Dbd}
 use Rattle.model_data.specs.declared.row.Row.{Row}
 use Rattle.model_data.specs.Path.{key_cmp}
-use Rattle.seg_store.specs.Slots.{AreSlots, slot_of}
-use Rattle.seg_store.specs.Changed.{AreChanged}
+use Rattle.seg_store.specs.Slots.{AreSlots, slot_of_root}
+use Rattle.seg_store.specs.ChangedSlots.{AreChanged}
 
 -- the numbers of the free slots, the first slot having this number
 abbrev pub free_numbers : ℕ → List (List Row) → List ℕ
@@ -22,10 +22,10 @@ abbrev pub count_below : ℕ → List ℕ → ℕ
 count_below number numbers = prefix_len (λ n. nat_lt n number) numbers
 
 -- the index tells the slot of each root, the free slots are known, and both have room for all
-pub record AreIndexed (dbd : Dbd) (slots : List (List Row)) (index : List (List ℕ × ℕ)) (index_room : ℕ) (free : List ℕ) (free_room : ℕ) : Type 0 where
+pub record AreSlotsIndexed (dbd : Dbd) (slots : List (List Row)) (index : List (List ℕ × ℕ)) (index_room : ℕ) (free : List ℕ) (free_room : ℕ) : Type 0 where
   pub valid : AreSlots dbd slots
   pub ascending : IsStrictlySortedBy key_cmp (keys_of index)
-  pub found : (root : List ℕ) → lookup (is_at (key_cmp root)) index ≡ slot_of root slots
+  pub found : (root : List ℕ) → lookup (is_at (key_cmp root)) index ≡ slot_of_root root slots
   pub index_enough : dbd.roots ≤ index_room
   pub free_is : free ≡ free_numbers 0 slots
   pub free_enough : dbd.roots ≤ free_room
@@ -36,7 +36,7 @@ next_entry index None = slice_get index 0
 next_entry index (Some root) = find (λ entry. is_lt (key_cmp root entry.0)) index
 
 -- and the changed slots are known, with room for all
-pub record IsKept (dbd : Dbd) (slots : List (List Row)) (index : List (List ℕ × ℕ)) (index_room : ℕ) (free : List ℕ) (free_room : ℕ) (changed : List ℕ) (changed_room : ℕ) : Type 0 where
-  pub indexed : AreIndexed dbd slots index index_room free free_room
+pub record IsStoreKept (dbd : Dbd) (slots : List (List Row)) (index : List (List ℕ × ℕ)) (index_room : ℕ) (free : List ℕ) (free_room : ℕ) (changed : List ℕ) (changed_room : ℕ) : Type 0 where
+  pub indexed : AreSlotsIndexed dbd slots index index_room free free_room
   pub changes : AreChanged dbd.roots changed
   pub changed_enough : dbd.roots ≤ changed_room

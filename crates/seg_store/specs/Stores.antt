@@ -3,7 +3,7 @@ use Rattle.std.specs.Prelude.{◌≡◌, ℕ, ◌-◌, [], List, Some, map, slic
 use Rattle.std.specs.Borrow.{Lends, MutBor, Fml}
 use Rattle.tm_types.specs.declared.dbd.Dbd.{Dbd}
 use Rattle.seg_store.specs.Slots.{Stored, free_slots}
-use Rattle.seg_store.specs.Changed.{Kept, stored, AllStores}
+use Rattle.seg_store.specs.ChangedSlots.{Kept, stored, AllStores}
 use Rattle.seg_store.specs.contracts.store.Store as store
 use Rattle.seg_store.specs.contracts.stores.Stores as stores
 

@@ -3,7 +3,7 @@ ghost use Rattle.std.specs.Prelude.{◌≡◌, ◌≤◌, ◌↔◌, length, sli
 ghost use Rattle.std.specs.List.Sorted.{IsStrictlySortedBy};
 ghost use Rattle.std.specs.Ordering.{nat_cmp};
 ghost use Rattle.std.specs.Vec.{vec_capacity};
-ghost use Rattle.seg_store.specs.Changed.{with_number};
+ghost use Rattle.seg_store.specs.ChangedSlots.{with_number};
 
 use crate::free::place_among;
 

@@ -3,8 +3,8 @@ ghost use Rattle.std.specs.Prelude.{◌≡◌, ◌+◌, ◌<◌, ◌≤◌, IsTr
 ghost use Rattle.std.specs.List.{AllByRecursion};
 ghost use Rattle.std.specs.Int.{w16, to_be_bytes};
 ghost use Rattle.tm_disk.specs.Disk.{Stays, Within, Follows, WritesAtMost, FailedSince};
-ghost use Rattle.model_data.specs.Record.{spelling};
-ghost use Rattle.seg_store.specs.DataSectors.{data_sector, MayPut, HasPut, PutsFront, bytes_of};
+ghost use Rattle.model_data.specs.Record.{rows_spelling};
+ghost use Rattle.seg_store.specs.DataSectors.{data_sector, MayPut, HasPut, PutsFront, bytes_of_slots};
 
 use model_data::Row;
 use seg_rows::RecordImage;
@@ -31,8 +31,8 @@ fn header(used: u16) -> [u8; HEADER_BYTES]
 
 // The data sector with these rows of a record, or with none.
 fn seal_rows(rows: &[Row]) -> Sector
-    requires { length (spelling rows.now) ≤ 4000 }
-    ensures { result ≡ data_sector (spelling rows.now) }
+    requires { length (rows_spelling rows.now) ≤ 4000 }
+    ensures { result ≡ data_sector (rows_spelling rows.now) }
 {
     let mut sector = Sector::blank();
     let mut end = HEADER_BYTES;
@@ -54,13 +54,13 @@ pub fn put_slots<D: Disk>(
 ) -> Result<(), DiskFault>
     requires area { first + length slots.now ≤ (D.state disk.old).size }
     requires within { AllByRecursion (λ slot. slot < length slots.now) numbers.now }
-    requires fits { AllByRecursion (λ image. length (spelling image) ≤ 4000) slots.now }
+    requires fits { AllByRecursion (λ image. length (rows_spelling image) ≤ 4000) slots.now }
     ensures stays { Stays (D.state disk.old) (D.state disk.new) }
-    ensures any_moment { Within (MayPut first (bytes_of slots.now numbers.now)) (D.state disk.old) (D.state disk.new) }
-    ensures follows { Follows (MayPut first (bytes_of slots.now numbers.now)) (D.state disk.old) (D.state disk.new) }
-    ensures shown { OnOk result (IsTrue (D.state disk.old).tells → HasPut first (bytes_of slots.now numbers.now) (D.state disk.old).shown (D.state disk.new).shown) }
+    ensures any_moment { Within (MayPut first (bytes_of_slots slots.now numbers.now)) (D.state disk.old) (D.state disk.new) }
+    ensures follows { Follows (MayPut first (bytes_of_slots slots.now numbers.now)) (D.state disk.old) (D.state disk.new) }
+    ensures shown { OnOk result (IsTrue (D.state disk.old).tells → HasPut first (bytes_of_slots slots.now numbers.now) (D.state disk.old).shown (D.state disk.new).shown) }
     // Where the disk fails, the slots in front are written, and none behind.
-    ensures ascending { OnErr result (IsTrue (D.state disk.old).tells → PutsFront first (bytes_of slots.now numbers.now) (D.state disk.old).shown (D.state disk.new).shown) }
+    ensures ascending { OnErr result (IsTrue (D.state disk.old).tells → PutsFront first (bytes_of_slots slots.now numbers.now) (D.state disk.old).shown (D.state disk.new).shown) }
     ensures writes { WritesAtMost (length numbers.now) (D.state disk.old) (D.state disk.new) }
     ensures no_fault { OnOk result ((D.state disk.new).faults ≡ (D.state disk.old).faults) }
     ensures cause { OnErr result (FailedSince (D.state disk.old) (D.state disk.new)) }

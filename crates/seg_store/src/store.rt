@@ -6,9 +6,9 @@ ghost use Rattle.model_data.specs.Record.{IsRecord, IsLongRecord};
 ghost use Rattle.model_data.specs.Rows.{record_of, with_record, IsImage, AreRows};
 ghost use Rattle.seg_rows.specs.StoreRefused.{set_refusal};
 ghost use Rattle.tm_disk.specs.Disk.{Stays, Within, Follows, WritesAtMost, FailedSince};
-ghost use Rattle.seg_store.specs.Changed.{stored, with_number, with_changed, slot_changed, AreChanged};
-ghost use Rattle.seg_store.specs.DataSectors.{bytes_of, MayPut, HasPut, PutsFront};
-ghost use Rattle.seg_store.specs.Slots.{image_root, slot_of, lowest_free, slot_for, with_root, rows_of_slots, AreSlots, free_slots, without_root};
+ghost use Rattle.seg_store.specs.ChangedSlots.{stored, with_number, with_changed_number, slot_changed, AreChanged};
+ghost use Rattle.seg_store.specs.DataSectors.{bytes_of_slots, MayPut, HasPut, PutsFront};
+ghost use Rattle.seg_store.specs.Slots.{image_root, slot_of_root, lowest_free, slot_for, with_root, rows_of_slots, AreSlots, free_slots, without_root};
 
 use crate::changed::add_changed;
 use crate::copying::{copy_images, copy_list};
@@ -37,14 +37,14 @@ pub struct Store {
 
 impl Model for Store {
     ghost use Rattle.std.specs.Vec.{vec_capacity};
-    ghost use Rattle.seg_store.specs.Changed.{Kept, AreChanged};
-    ghost use Rattle.seg_store.specs.Store.{AreIndexed, IsKept};
+    ghost use Rattle.seg_store.specs.ChangedSlots.{Kept, AreChanged};
+    ghost use Rattle.seg_store.specs.Store.{AreSlotsIndexed, IsStoreKept};
 
     ghost Value = { Kept };
 
     ghost view = { λ s. record { dbd = s.dbd; slots = s.slots.items; changed = s.changed.items } };
 
-    ghost invariant = { λ s. IsKept s.dbd s.slots.items s.index.items (vec_capacity s.index) s.free.items (vec_capacity s.free) s.changed.items (vec_capacity s.changed) };
+    ghost invariant = { λ s. IsStoreKept s.dbd s.slots.items s.index.items (vec_capacity s.index) s.free.items (vec_capacity s.free) s.changed.items (vec_capacity s.changed) };
 }
 
 impl Store {
@@ -90,7 +90,7 @@ impl Store {
 
     /// Whether there is a record with this root.
     pub fn has_record(&self, root: &Key) -> bool
-        ensures { result ≡ is_some (slot_of root.now self.now.slots) }
+        ensures { result ≡ is_some (slot_of_root root.now self.now.slots) }
     {
         slot_of(&self.index, root).is_some()
     }
@@ -127,12 +127,12 @@ impl Store {
         requires sectors { self.old.dbd.sectors ≤ 1 }
         ensures stays { Stays (D.state disk.old) (D.state disk.new) }
         // Whenever a crash comes, each sector is as it was or has the record of its changed slot.
-        ensures any_moment { Within (MayPut first (bytes_of self.old.slots self.old.changed)) (D.state disk.old) (D.state disk.new) }
-        ensures follows { Follows (MayPut first (bytes_of self.old.slots self.old.changed)) (D.state disk.old) (D.state disk.new) }
+        ensures any_moment { Within (MayPut first (bytes_of_slots self.old.slots self.old.changed)) (D.state disk.old) (D.state disk.new) }
+        ensures follows { Follows (MayPut first (bytes_of_slots self.old.slots self.old.changed)) (D.state disk.old) (D.state disk.new) }
         // Then each of them is read, and a sync makes it last.
-        ensures shown { OnOk result (IsTrue (D.state disk.old).tells → HasPut first (bytes_of self.old.slots self.old.changed) (D.state disk.old).shown (D.state disk.new).shown) }
+        ensures shown { OnOk result (IsTrue (D.state disk.old).tells → HasPut first (bytes_of_slots self.old.slots self.old.changed) (D.state disk.old).shown (D.state disk.new).shown) }
         // Where the disk fails, the slots in front are written, and none behind: so they are written in ascending order.
-        ensures ascending { OnErr result (IsTrue (D.state disk.old).tells → PutsFront first (bytes_of self.old.slots self.old.changed) (D.state disk.old).shown (D.state disk.new).shown) }
+        ensures ascending { OnErr result (IsTrue (D.state disk.old).tells → PutsFront first (bytes_of_slots self.old.slots self.old.changed) (D.state disk.old).shown (D.state disk.new).shown) }
         ensures count { IfOk result (λ n. n ≡ length self.old.changed) }
         ensures few { length self.old.changed ≤ self.old.dbd.roots }
         ensures written { OnOk result (self.new ≡ record self.old { changed = [] }) }
@@ -154,12 +154,12 @@ impl Store {
         requires sectors { self.now.dbd.sectors ≤ 1 }
         ensures stays { Stays (D.state disk.old) (D.state disk.new) }
         // Whenever a crash comes, each sector is as it was or has the record of its changed slot.
-        ensures any_moment { Within (MayPut first (bytes_of self.now.slots self.now.changed)) (D.state disk.old) (D.state disk.new) }
-        ensures follows { Follows (MayPut first (bytes_of self.now.slots self.now.changed)) (D.state disk.old) (D.state disk.new) }
+        ensures any_moment { Within (MayPut first (bytes_of_slots self.now.slots self.now.changed)) (D.state disk.old) (D.state disk.new) }
+        ensures follows { Follows (MayPut first (bytes_of_slots self.now.slots self.now.changed)) (D.state disk.old) (D.state disk.new) }
         // Then each of them is read, and a sync makes it last.
-        ensures shown { OnOk result (IsTrue (D.state disk.old).tells → HasPut first (bytes_of self.now.slots self.now.changed) (D.state disk.old).shown (D.state disk.new).shown) }
+        ensures shown { OnOk result (IsTrue (D.state disk.old).tells → HasPut first (bytes_of_slots self.now.slots self.now.changed) (D.state disk.old).shown (D.state disk.new).shown) }
         // Where the disk fails, the slots in front are written, and none behind: so they are written in ascending order.
-        ensures ascending { OnErr result (IsTrue (D.state disk.old).tells → PutsFront first (bytes_of self.now.slots self.now.changed) (D.state disk.old).shown (D.state disk.new).shown) }
+        ensures ascending { OnErr result (IsTrue (D.state disk.old).tells → PutsFront first (bytes_of_slots self.now.slots self.now.changed) (D.state disk.old).shown (D.state disk.new).shown) }
         ensures count { IfOk result (λ n. n ≡ length self.now.changed) }
         ensures few { length self.now.changed ≤ self.now.dbd.roots }
         ensures writes { WritesAtMost (length self.now.changed) (D.state disk.old) (D.state disk.new) }
@@ -190,7 +190,7 @@ impl Store {
         ensures slots { self.new.slots ≡ with_root root.now [] self.old.slots }
         ensures freed { self.new.slots ≡ without_root root.now self.old.slots }
         ensures rows { rows_of_slots self.new.slots ≡ with_record root.now [] (rows_of_slots self.old.slots) }
-        ensures changed { self.new.changed ≡ with_changed (slot_of root.now self.old.slots) self.old.changed }
+        ensures changed { self.new.changed ≡ with_changed_number (slot_of_root root.now self.old.slots) self.old.changed }
         ensures database { self.new.dbd ≡ self.old.dbd }
         ensures valid { AreSlots self.new.dbd self.new.slots }
     {
@@ -206,7 +206,7 @@ impl Store {
     pub fn put_back(&mut self, slot: u16, image: RecordImage)
         requires free { slice_get self.old.slots slot ≡ Some [] }
         requires valid { IsRecord self.old.dbd (image_root image) image }
-        requires new { slot_of (image_root image) self.old.slots ≡ None }
+        requires new { slot_of_root (image_root image) self.old.slots ≡ None }
         ensures slots { self.new.slots ≡ slice_set self.old.slots slot image }
         ensures rows { rows_of_slots self.new.slots ≡ with_record (image_root image) image (rows_of_slots self.old.slots) }
         ensures changed { self.new.changed ≡ with_number slot self.old.changed }
@@ -223,7 +223,7 @@ impl Store {
     fn fill(&mut self, root: &Key, slot: u16, image: RecordImage)
         requires free { slice_get self.old.slots slot ≡ Some [] }
         requires valid { IsRecord self.old.dbd root.now image }
-        requires new { slot_of root.now self.old.slots ≡ None }
+        requires new { slot_of_root root.now self.old.slots ≡ None }
         ensures slots { self.new.slots ≡ slice_set self.old.slots slot image }
         ensures rows { rows_of_slots self.new.slots ≡ with_record root.now image (rows_of_slots self.old.slots) }
         ensures changed { self.new.changed ≡ with_number slot self.old.changed }
@@ -239,10 +239,10 @@ impl Store {
     // Adds a record in the lowest free slot.
     fn add(&mut self, root: &Key, image: RecordImage) -> Result<(), StoreRefused>
         requires image { IsLongRecord self.old.dbd.types root.now image }
-        requires new { slot_of root.now self.old.slots ≡ None }
+        requires new { slot_of_root root.now self.old.slots ≡ None }
         ensures slots { OnOk result (self.new.slots ≡ with_root root.now image self.old.slots) }
         ensures rows { OnOk result (rows_of_slots self.new.slots ≡ with_record root.now image (rows_of_slots self.old.slots)) }
-        ensures changed { OnOk result (self.new.changed ≡ with_changed (slot_for root.now self.old.slots) self.old.changed) }
+        ensures changed { OnOk result (self.new.changed ≡ with_changed_number (slot_for root.now self.old.slots) self.old.changed) }
         ensures kept { OnErr result (self.new ≡ self.old) }
         ensures accepted { OnOk result (set_refusal self.old.dbd root.now image (rows_of_slots self.old.slots) ≡ None) }
         ensures refused { IfErr result (λ refusal. set_refusal self.old.dbd root.now image (rows_of_slots self.old.slots) ≡ Some refusal) }
@@ -262,7 +262,7 @@ impl Store {
     // Puts a record in place of the one in its slot.
     fn replace(&mut self, root: &Key, slot: u16, image: RecordImage) -> Result<(), StoreRefused>
         requires image { IsLongRecord self.old.dbd.types root.now image }
-        requires there { slot_of root.now self.old.slots ≡ Some slot }
+        requires there { slot_of_root root.now self.old.slots ≡ Some slot }
         ensures slots { OnOk result (self.new.slots ≡ with_root root.now image self.old.slots) }
         ensures rows { OnOk result (rows_of_slots self.new.slots ≡ with_record root.now image (rows_of_slots self.old.slots)) }
         ensures changed { OnOk result (self.new.changed ≡ with_number slot self.old.changed) }
@@ -319,7 +319,7 @@ impl Rows for Store {
         ensures valid { AreRows self.new.dbd (rows_of_slots self.new.slots) }
         // What it leaves in the slots.
         ensures slots { OnOk result (self.new.slots ≡ with_root root.now image self.old.slots) }
-        ensures changed { OnOk result (self.new.changed ≡ with_changed (slot_changed root.now image self.old.slots) self.old.changed) }
+        ensures changed { OnOk result (self.new.changed ≡ with_changed_number (slot_changed root.now image self.old.slots) self.old.changed) }
         ensures valid_slots { AreSlots self.new.dbd self.new.slots }
         // A record is removed in any case.
         ensures removed { image ≡ [] → IsOk result }

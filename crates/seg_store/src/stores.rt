@@ -5,7 +5,7 @@ ghost use Rattle.std.specs.List.{AllByRecursion};
 ghost use Rattle.tm_disk.specs.Disk.{Stays, Within, Follows, WritesAtMost, FailedSince};
 ghost use Rattle.seg_store.specs.Slots.{AreSlots};
 ghost use Rattle.seg_store.specs.DataSectors.{MayPut, HasPut, PutsFront};
-ghost use Rattle.seg_store.specs.WriteBack.{slot_count, changed_count, changed_bytes, all_written};
+ghost use Rattle.seg_store.specs.WrittenSlots.{slot_count, changed_count, changed_bytes, all_written};
 
 use crate::Store;
 use crate::write_back::{settle_all, write_all};
@@ -21,7 +21,7 @@ pub struct Stores {
 }
 
 impl Model for Stores {
-    ghost use Rattle.seg_store.specs.Changed.{AllStores, all_stores};
+    ghost use Rattle.seg_store.specs.ChangedSlots.{AllStores, all_stores};
 
     ghost Value = { AllStores };
 
@@ -29,7 +29,7 @@ impl Model for Stores {
 }
 
 impl Stores {
-    ghost use Rattle.seg_store.specs.Changed.{all_stores};
+    ghost use Rattle.seg_store.specs.ChangedSlots.{all_stores};
     ghost use Rattle.seg_store.specs.Stores.{empty_stores, no_changed, IsStoreOf, LendsStore};
 
     /// A store without rows for each of these databases.

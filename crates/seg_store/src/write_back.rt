@@ -2,9 +2,9 @@
 ghost use Rattle.std.specs.Prelude.{◌≡◌, ◌+◌, ◌<◌, ◌≤◌, [], length, take, map, IsTrue, IfOk, OnOk, OnErr, Some, slice_get, slice_set};
 ghost use Rattle.std.specs.List.{AllByRecursion};
 ghost use Rattle.tm_disk.specs.Disk.{Stays, Within, Follows, WritesAtMost, FailedSince};
-ghost use Rattle.seg_store.specs.Changed.{Kept};
-ghost use Rattle.seg_store.specs.DataSectors.{MayPut, HasPut, PutsFront, bytes_of};
-ghost use Rattle.seg_store.specs.WriteBack.{kept_slots, kept_bytes, kept_count, written_kept};
+ghost use Rattle.seg_store.specs.ChangedSlots.{Kept};
+ghost use Rattle.seg_store.specs.DataSectors.{MayPut, HasPut, PutsFront, bytes_of_slots};
+ghost use Rattle.seg_store.specs.WrittenSlots.{kept_slots, kept_bytes, kept_count, written_kept};
 
 use crate::Store;
 use tm_disk::{Disk, DiskFault};
@@ -20,10 +20,10 @@ fn write_one<D: Disk>(
     requires area { (one : Kept) → slice_get stores.now.items place ≡ Some one → first + one.dbd.roots ≤ (D.state disk.old).size }
     requires sectors { (one : Kept) → slice_get stores.now.items place ≡ Some one → one.dbd.sectors ≤ 1 }
     ensures stays { Stays (D.state disk.old) (D.state disk.new) }
-    ensures any_moment { (one : Kept) → slice_get stores.now.items place ≡ Some one → Within (MayPut first (bytes_of one.slots one.changed)) (D.state disk.old) (D.state disk.new) }
-    ensures follows { (one : Kept) → slice_get stores.now.items place ≡ Some one → Follows (MayPut first (bytes_of one.slots one.changed)) (D.state disk.old) (D.state disk.new) }
-    ensures shown { (one : Kept) → slice_get stores.now.items place ≡ Some one → OnOk result (IsTrue (D.state disk.old).tells → HasPut first (bytes_of one.slots one.changed) (D.state disk.old).shown (D.state disk.new).shown) }
-    ensures ascending { (one : Kept) → slice_get stores.now.items place ≡ Some one → OnErr result (IsTrue (D.state disk.old).tells → PutsFront first (bytes_of one.slots one.changed) (D.state disk.old).shown (D.state disk.new).shown) }
+    ensures any_moment { (one : Kept) → slice_get stores.now.items place ≡ Some one → Within (MayPut first (bytes_of_slots one.slots one.changed)) (D.state disk.old) (D.state disk.new) }
+    ensures follows { (one : Kept) → slice_get stores.now.items place ≡ Some one → Follows (MayPut first (bytes_of_slots one.slots one.changed)) (D.state disk.old) (D.state disk.new) }
+    ensures shown { (one : Kept) → slice_get stores.now.items place ≡ Some one → OnOk result (IsTrue (D.state disk.old).tells → HasPut first (bytes_of_slots one.slots one.changed) (D.state disk.old).shown (D.state disk.new).shown) }
+    ensures ascending { (one : Kept) → slice_get stores.now.items place ≡ Some one → OnErr result (IsTrue (D.state disk.old).tells → PutsFront first (bytes_of_slots one.slots one.changed) (D.state disk.old).shown (D.state disk.new).shown) }
     ensures count { (one : Kept) → slice_get stores.now.items place ≡ Some one → IfOk result (λ n. n ≡ length one.changed) }
     ensures few { (one : Kept) → slice_get stores.now.items place ≡ Some one → length one.changed ≤ one.dbd.roots }
     ensures writes { (one : Kept) → slice_get stores.now.items place ≡ Some one → WritesAtMost (length one.changed) (D.state disk.old) (D.state disk.new) }

@@ -22,14 +22,14 @@ use Rattle.model_machine.specs.declared.entry.Acked.{Acked}
 use Rattle.model_machine.specs.declared.entry.Acked.TheVariants.{Removed, Already as AckAlready}
 use Rattle.model_machine.specs.declared.entry.AckRefused.{AckRefused}
 use Rattle.model_machine.specs.Machine.{LastingState, Moment, terminal_at, message_at}
-use Rattle.model_machine.specs.ModelMachineCommands.{lasting_command}
-use Rattle.model_machine.specs.Lasting.{LastingStep, KeptInput, with_last, stopped_terminal, applied, with_pad_by, discarded_pad, abend_outputs, commanded, kept_input}
-use Rattle.model_machine.specs.Lasting.LastingStep.{Accepts, Acknowledges, Completes, Discards, Commands}
-use Rattle.model_machine.specs.Steps.{by_number, accepts, acknowledges, input_answer, ack_answer, lasting_step}
+use Rattle.model_machine.specs.CommandAnswers.{lasting_command}
+use Rattle.model_machine.specs.LastingSteps.{LastingStep, KeptInput, with_last_number, stopped_terminal, applied, with_pad_by, discarded_pad, abend_outputs, commanded, kept_input}
+use Rattle.model_machine.specs.LastingSteps.LastingStep.{Accepts, Acknowledges, Completes, Discards, Commands}
+use Rattle.model_machine.specs.MachineCalls.{by_number, accepted_step, acknowledged_step, input_answer, ack_answer, lasting_step}
 use Rattle.model_machine.specs.History.{call_of, after_entry, is_fault}
 use Rattle.model_machine.proofs.Histories.{moment_after-append}
-use Rattle.model_session.specs.Lives.{LastLife, moment_of, now_in, longer}
-use Rattle.session_law.specs.Resending.{last_of, IsKeptBy, spares_input}
+use Rattle.model_session.specs.Lives.{LastLife, life_moment, now_in, longer}
+use Rattle.session_law.specs.ResentInputs.{last_number_of, IsKeptBy, spares_input}
 use Rattle.session_law.proofs.Sessions.{Leaving, EndsRest, last_in as last_entry_in, now_has}
 use Rattle.session_law.proofs.Steps.{FineBy, applied_by, turn_fine, command_fine}
 use Rattle.session_law.proofs.Inputs.{Reached, last_in, change_named, changed_here, changed_later, last_cons, finished_terminals, pad_terminals, answer_by, later_refusals, taken}
@@ -82,7 +82,7 @@ kept_at terminal other f names lasts (t ∷ ts) = by (bytes_eq t.name other) ref
 module _ (terminal : List ℕ) (last : ℕ) where
   -- the terminal's last number is this
   abbrev pub Stands : LastingState → Type 0
-  Stands lasting = last_of terminal lasting ≡ last
+  Stands lasting = last_number_of terminal lasting ≡ last
 
   commanded_stands : (command : LastingCommand) (lasting : LastingState) → Stands lasting → Stands (commanded command lasting)
   commanded_stands (StartTransaction code) lasting h = h
@@ -102,7 +102,7 @@ module _ (terminal : List ℕ) (last : ℕ) where
   SparesBy (Commands command) = Unit {0}
 
   step_stands : (step : LastingStep) (lasting : LastingState) → SparesBy step → Stands lasting → Stands (applied step lasting)
-  step_stands (Accepts other number kept) lasting apart h = same_at terminal other (with_last number) (λ t. refl) apart lasting.terminals ∙ h
+  step_stands (Accepts other number kept) lasting apart h = same_at terminal other (with_last_number number) (λ t. refl) apart lasting.terminals ∙ h
   step_stands (Acknowledges other) lasting is h = h
   step_stands (Completes id rows outputs pad) lasting is h =
       ap (λ ts. last_in terminal ts)
@@ -114,12 +114,12 @@ module _ (terminal : List ℕ) (last : ℕ) where
       ∙ pad_terminals (message_at lasting.messages id) discarded_pad lasting) ∙ h
   step_stands (Commands command) lasting is h = commanded_stands command lasting h
 
-  accepts_spare : (other : List ℕ) (number : ℕ) (kept : KeptInput) (answer : Result Taken InputRefused) → not (bytes_eq other terminal) ≡ true → FineBy SparesBy (accepts other number kept answer)
+  accepts_spare : (other : List ℕ) (number : ℕ) (kept : KeptInput) (answer : Result Taken InputRefused) → not (bytes_eq other terminal) ≡ true → FineBy SparesBy (accepted_step other number kept answer)
   accepts_spare other number kept (Ok (New id)) apart = apart
   accepts_spare other number kept (Ok Already) apart = tt
   accepts_spare other number kept (Err refused) apart = tt
 
-  acknowledges_spare : (other : List ℕ) (answer : Result Acked AckRefused) → FineBy SparesBy (acknowledges other answer)
+  acknowledges_spare : (other : List ℕ) (answer : Result Acked AckRefused) → FineBy SparesBy (acknowledged_step other answer)
   acknowledges_spare other (Ok Removed) = tt
   acknowledges_spare other (Ok AckAlready) = tt
   acknowledges_spare other (Err refused) = tt
@@ -146,10 +146,10 @@ module _ (terminal : List ℕ) (last : ℕ) where
 -- ---- the input's own call
 
 accepted_or : (terminal : List ℕ) (number last : ℕ) (kept : KeptInput) (lasting : LastingState) (answer : Result Taken InputRefused)
-    → ((id : ℕ) → answer ≡ Ok (New id) → Reached terminal number (option_map_or (λ step. applied step lasting) (accepts terminal number kept answer) lasting))
+    → ((id : ℕ) → answer ≡ Ok (New id) → Reached terminal number (option_map_or (λ step. applied step lasting) (accepted_step terminal number kept answer) lasting))
     → Stands terminal last lasting
-    → Stands terminal last (option_map_or (λ step. applied step lasting) (accepts terminal number kept answer) lasting)
-    ⊎ Reached terminal number (option_map_or (λ step. applied step lasting) (accepts terminal number kept answer) lasting)
+    → Stands terminal last (option_map_or (λ step. applied step lasting) (accepted_step terminal number kept answer) lasting)
+    ⊎ Reached terminal number (option_map_or (λ step. applied step lasting) (accepted_step terminal number kept answer) lasting)
 accepted_or terminal number last kept lasting (Ok (New id)) reached h = inr (reached id refl)
 accepted_or terminal number last kept lasting (Ok Already) reached h = inl h
 accepted_or terminal number last kept lasting (Err refused) reached h = inl h
@@ -174,7 +174,7 @@ cut_off system terminal number last segments life entry asked has kept state h =
     ⊎_elim
     (λ all.
     subst (λ (s : LastingState). Stands terminal last s ⊎ Reached terminal number s)
-    (sym (h.left ∙ ap (λ es. (moment_of system life es).lasting) all ∙ ap (λ (m : Moment). m.lasting) (moment_after-append system (moment_of system life []) life.history entry)))
+    (sym (h.left ∙ ap (λ es. (life_moment system life es).lasting) all ∙ ap (λ (m : Moment). m.lasting) (moment_after-append system (life_moment system life []) life.history entry)))
     (input_leaves system (now_in system life) terminal number last segments entry asked (now_has (Stands terminal last) system (spares_input terminal) life has)))
     (λ (ends : EndsRest life.history entry h.front h.rest). inl (has kept state (record {
       front = h.front;

@@ -16,17 +16,17 @@ use Rattle.model_machine.specs.declared.entry.AckRefused.{AckRefused}
 use Rattle.model_machine.specs.declared.entry.InputRefused.{InputRefused}
 use Rattle.model_machine.specs.declared.entry.Taken.{Taken}
 use Rattle.model_machine.specs.declared.entry.Taken.TheVariants.{New, Already}
-use Rattle.model_machine.specs.ModelMachineCommands.{CommandAnswer, command_answer, lasting_command, steps_by}
+use Rattle.model_machine.specs.CommandAnswers.{CommandAnswer, command_answer, lasting_command, steps_by}
 use Rattle.model_machine.specs.History.{after_entry, call_of, moment_after}
-use Rattle.model_machine.specs.Lasting.{LastingStep, KeptInput, applied, kept_input}
+use Rattle.model_machine.specs.LastingSteps.{LastingStep, KeptInput, applied, kept_input}
 use Rattle.model_machine.specs.Machine.{LastingState, Moment, Slot, message_at, slot_at}
 use Rattle.model_machine.specs.Requests.{blocked_now}
-use Rattle.model_machine.specs.Steps.{AtWork, accepts, acknowledges, ack_answer, ended_step, input_answer, lasting_step, step_in_turn, turn_step, unless_blocked, work_by}
+use Rattle.model_machine.specs.MachineCalls.{AtWork, accepted_step, acknowledged_step, ack_answer, ended_step, input_answer, lasting_step, step_in_turn, turn_step, unless_blocked, work_by}
 use Rattle.model_machine.specs.Trial.{Advance, Trial, advance, outputs_of, trial_of}
 use Rattle.model_machine.specs.Trial.Advance.{Goes, Stops}
 use Rattle.model_machine.specs.Trial.WorkEnd.{Ends, Syncs, Abends}
-use Rattle.model_machine.specs.Work.{given_now}
-use Rattle.system_types.specs.Valid.{IsSystem}
+use Rattle.model_machine.specs.WorkSoFar.{given_now}
+use Rattle.system_types.specs.ValidSystem.{IsSystem}
 use Rattle.image_law.proofs.Jobs.{job_found}
 use Rattle.session_law.specs.Counts.{LastsUpTo, most_raised}
 use Rattle.session_law.proofs.Outputs.{few_outputs}
@@ -72,12 +72,12 @@ module _ (system : System) (valid : IsSystem system) where
 
   -- ---- the other calls
 
-  accepts_few : (terminal : List ℕ) (number : ℕ) (kept : KeptInput) (answer : Result Taken InputRefused) → FewIfAny (accepts terminal number kept answer)
+  accepts_few : (terminal : List ℕ) (number : ℕ) (kept : KeptInput) (answer : Result Taken InputRefused) → FewIfAny (accepted_step terminal number kept answer)
   accepts_few terminal number kept (Ok (New id)) = tt
   accepts_few terminal number kept (Ok Already) = tt
   accepts_few terminal number kept (Err refused) = tt
 
-  acknowledges_few : (terminal : List ℕ) (answer : Result Acked AckRefused) → FewIfAny (acknowledges terminal answer)
+  acknowledges_few : (terminal : List ℕ) (answer : Result Acked AckRefused) → FewIfAny (acknowledged_step terminal answer)
   acknowledges_few terminal (Ok Removed) = tt
   acknowledges_few terminal (Ok AckAlready) = tt
   acknowledges_few terminal (Err refused) = tt

@@ -5,7 +5,6 @@ use Rattle.std.specs.List.{position_or_len}
 use Rattle.std.specs.Option.{is_some, option_map, option_map_or, option_and_then, option_or, unwrap_or}
 use Rattle.std.specs.Str.{bytes_eq}
 use Rattle.std.proofs.lemmas.Bool.{leb-false, ltb-false, le-leb}
-use Rattle.std.proofs.lemmas.Bool.Decides.{nat_tests}
 use Rattle.tm_types.specs.declared.message.Message.{Message}
 use Rattle.tm_types.specs.declared.command.LastingCommand.{LastingCommand}
 use Rattle.tm_types.specs.declared.command.LastingCommand.TheVariants.{StartTransaction, StopTransaction, StartTerminal, StopTerminal, DequeueFirst, DequeueAll, Exit}
@@ -26,19 +25,20 @@ use Rattle.model_machine.specs.declared.entry.AckRefused.{AckRefused}
 use Rattle.model_machine.specs.declared.entry.InputRefused.{InputRefused}
 use Rattle.model_machine.specs.declared.entry.InputRefused.TheVariants.{Terminal as NoTerminal, StoppedTerminal, Expected}
 use Rattle.model_machine.specs.Machine.{LastingState, Moment, terminal_at, terminal_place, output_at, message_at}
-use Rattle.model_machine.specs.ModelMachineCommands.{lasting_command}
+use Rattle.model_machine.specs.CommandAnswers.{lasting_command}
 use Rattle.model_machine.proofs.Histories.{moment_after-append}
 use Rattle.session_law.proofs.Steps.{FineBy, applied_by, turn_fine, command_fine}
-use Rattle.model_machine.specs.Lasting.{LastingStep, KeptInput, with_last, stopped_terminal, applied, sent, replied, switched, all_sent, finished_by, without_message, with_pad_by, discarded_pad, abend_outputs, commanded, kept_input}
-use Rattle.model_machine.specs.Lasting.LastingStep.{Accepts, Acknowledges, Completes, Discards, Commands}
-use Rattle.model_machine.specs.Steps.{Refusal, by_number, first_of, busy_conversation, unknown_code, stopped_code, many_segments, no_room, accepts, acknowledges, input_answer, ack_answer, lasting_step}
+use Rattle.model_machine.specs.LastingSteps.{LastingStep, KeptInput, with_last_number, stopped_terminal, applied, output_sent, replied, switched, all_sent, finished_by, without_message, with_pad_by, discarded_pad, abend_outputs, commanded, kept_input}
+use Rattle.model_machine.specs.LastingSteps.LastingStep.{Accepts, Acknowledges, Completes, Discards, Commands}
+use Rattle.model_machine.specs.MachineCalls.{Refusal, by_number, first_refusal, busy_conversation, unknown_code, stopped_code, many_segments, no_room, accepted_step, acknowledged_step, input_answer, ack_answer, lasting_step}
 use Rattle.model_machine.specs.History.{call_of, after_entry}
 use Rattle.model_session.specs.Blocks.{Block}
-use Rattle.model_session.specs.Lives.{LastLife, moment_of, now_in, longer}
-use Rattle.model_session.specs.Standing.{Setting, SessionState, gone_on}
+use Rattle.model_session.specs.Lives.{LastLife, life_moment, now_in, longer}
+use Rattle.model_session.specs.SessionState.{Setting, SessionState, life_gone_on}
 use Rattle.model_session.specs.Session.{AreServed}
-use Rattle.session_law.specs.Resending.{last_of, HasAlways, IsKeptBy, any_call, all_ask_only}
+use Rattle.session_law.specs.ResentInputs.{last_number_of, HasAlways, IsKeptBy, any_call, all_ask_only}
 use Rattle.session_law.proofs.Sessions.{kept_over, leaves_with, up_has}
+use Rattle.tm_types.proofs.Positions.{less_more, zero_less, found}
 
 -- ---- the terminal of a name
 
@@ -47,16 +47,6 @@ named name t = bytes_eq t.name name
 
 abbrev pub last_in : List ℕ → List TerminalState → ℕ
 last_in name ts = option_map_or (λ t. t.last) (terminal_at ts name) 0
-
-less_more : (k n : ℕ) → nat_lt (1 + k) (suc n) ≡ nat_lt k n
-less_more k n = grind (arith, nat_tests)
-
-zero_less : (n : ℕ) → nat_lt 0 (suc n) ≡ true
-zero_less n = grind (arith, nat_tests)
-
-found : (a b : Bool) (k : ℕ) → a ≡ b → cond a (Some (1 + k)) None ≡ option_map (λ n. suc n) (cond b (Some k) None)
-found a true k is = ap (λ (t : Bool). cond t (Some (1 + k)) None) is ∙ ap (λ (n : ℕ). Some n) (omega arith)
-found a false k is = ap (λ (t : Bool). cond t (Some (1 + k)) None) is
 
 place_more : (p : TerminalState → Bool) (x : TerminalState) (xs : List TerminalState) (b : Bool) → p x ≡ b → position p (x ∷ xs) ≡ cond b (Some 0) (option_map (λ n. suc n) (position p xs))
 place_more p x xs true h = rw (h) (ap (λ (t : Bool). cond t (Some 0) None) (zero_less (length xs)))
@@ -120,25 +110,25 @@ rises_at terminal other f names number (t ∷ ts) rises h = by (bytes_eq t.name 
       (more (λ u e. rises u (ap (λ c. cond c (Some t) (terminal_at ts other)) is ∙ e))) before))
 
 -- the number that is given is the last
-given_at : (name : List ℕ) (number : ℕ) (ts : List TerminalState) (t : TerminalState) → terminal_at ts name ≡ Some t → number ≤ last_in name (change_named name (with_last number) ts)
+given_at : (name : List ℕ) (number : ℕ) (ts : List TerminalState) (t : TerminalState) → terminal_at ts name ≡ Some t → number ≤ last_in name (change_named name (with_last_number number) ts)
 given_at name number [] t e = cc
 given_at name number (u ∷ ts) t e = by (bytes_eq u.name name) refl (λ there. given_at name number ts t there) where
   itself : (b : Bool) → b ≡ true → number ≤ cond b number (last_in name ts)
   itself true is = omega arith
   itself false is = cc
 
-  by : (b : Bool) → bytes_eq u.name name ≡ b → (terminal_at ts name ≡ Some t → number ≤ last_in name (change_named name (with_last number) ts)) → number ≤ last_in name (change_named name (with_last number) (u ∷ ts))
+  by : (b : Bool) → bytes_eq u.name name ≡ b → (terminal_at ts name ≡ Some t → number ≤ last_in name (change_named name (with_last_number number) ts)) → number ≤ last_in name (change_named name (with_last_number number) (u ∷ ts))
   by true is more =
-      subst (λ us. number ≤ last_in name us) (sym (changed_here name (with_last number) u ts is))
-      (subst (λ k. number ≤ k) (sym (last_cons name (with_last number u) ts)) (itself (bytes_eq u.name name) is))
+      subst (λ us. number ≤ last_in name us) (sym (changed_here name (with_last_number number) u ts is))
+      (subst (λ k. number ≤ k) (sym (last_cons name (with_last_number number u) ts)) (itself (bytes_eq u.name name) is))
   by false is more =
-      subst (λ us. number ≤ last_in name us) (sym (changed_later name (with_last number) u ts is))
-      (subst (λ k. number ≤ k) (sym (last_cons name u (change_named name (with_last number) ts) ∙ ap (λ c. cond c u.last (last_in name (change_named name (with_last number) ts))) is))
+      subst (λ us. number ≤ last_in name us) (sym (changed_later name (with_last_number number) u ts is))
+      (subst (λ k. number ≤ k) (sym (last_cons name u (change_named name (with_last_number number) ts) ∙ ap (λ c. cond c u.last (last_in name (change_named name (with_last_number number) ts))) is))
       (more (ap (λ c. cond c (Some u) (terminal_at ts name)) (sym is) ∙ e)))
 
 -- ---- what sends and pads leaves the terminals
 
-sent_terminals : (origin : List ℕ) (output : EndedMessage) (lasting : LastingState) → (sent origin output lasting).terminals ≡ lasting.terminals
+sent_terminals : (origin : List ℕ) (output : EndedMessage) (lasting : LastingState) → (output_sent origin output lasting).terminals ≡ lasting.terminals
 sent_terminals origin output lasting = by (is_some (output_at lasting.outputs output.to)) where
   by : (b : Bool) → (if b then replied output lasting else switched origin output lasting).terminals ≡ lasting.terminals
   by true = refl
@@ -146,7 +136,7 @@ sent_terminals origin output lasting = by (is_some (output_at lasting.outputs ou
 
 all_sent_terminals : (origin : List ℕ) (outputs : List EndedMessage) (lasting : LastingState) → (all_sent origin outputs lasting).terminals ≡ lasting.terminals
 all_sent_terminals origin [] lasting = refl
-all_sent_terminals origin (output ∷ outputs) lasting = all_sent_terminals origin outputs (sent origin output lasting) ∙ sent_terminals origin output lasting
+all_sent_terminals origin (output ∷ outputs) lasting = all_sent_terminals origin outputs (output_sent origin output lasting) ∙ sent_terminals origin output lasting
 
 pub finished_terminals : (message : Option Message) (outputs : Message → List EndedMessage) (lasting : LastingState) → (finished_by message outputs lasting).terminals ≡ lasting.terminals
 finished_terminals None outputs lasting = refl
@@ -162,7 +152,7 @@ pad_terminals (Some message) change lasting = refl
 module _ (terminal : List ℕ) (number : ℕ) where
   -- the number is at most the terminal's last
   abbrev pub Reached : LastingState → Type 0
-  Reached lasting = number ≤ last_of terminal lasting
+  Reached lasting = number ≤ last_number_of terminal lasting
 
   by_terminals : (old new : LastingState) → new.terminals ≡ old.terminals → Reached old → Reached new
   by_terminals old new same h = subst (λ ts. number ≤ last_in terminal ts) (sym same) h
@@ -178,14 +168,14 @@ module _ (terminal : List ℕ) (number : ℕ) where
 
   -- A step keeps it; an accepted input's number is above its terminal's last.
   abbrev IsAbove : LastingStep → LastingState → Type 0
-  IsAbove (Accepts other above kept) lasting = Rises other (with_last above) lasting.terminals
+  IsAbove (Accepts other above kept) lasting = Rises other (with_last_number above) lasting.terminals
   IsAbove (Acknowledges other) lasting = Unit {0}
   IsAbove (Completes id rows outputs pad) lasting = Unit {0}
   IsAbove (Discards id abend) lasting = Unit {0}
   IsAbove (Commands command) lasting = Unit {0}
 
   step_keeps : (step : LastingStep) (lasting : LastingState) → IsAbove step lasting → Reached lasting → Reached (applied step lasting)
-  step_keeps (Accepts other above kept) lasting rises h = rises_at terminal other (with_last above) (λ t. refl) number lasting.terminals rises h
+  step_keeps (Accepts other above kept) lasting rises h = rises_at terminal other (with_last_number above) (λ t. refl) number lasting.terminals rises h
   step_keeps (Acknowledges other) lasting is h = h
   step_keeps (Completes id rows outputs pad) lasting is h =
       by_terminals lasting (applied (Completes id rows outputs pad) lasting)
@@ -210,7 +200,7 @@ answer_by t number id later =
 
 abbrev pub later_refusals : System → Moment → List ℕ → List (List ℕ) → Refusal
 later_refusals system moment terminal segments =
-    first_of
+    first_refusal
     (busy_conversation moment.lasting terminal
     ∷ unknown_code system.codes (kept_input system moment.lasting terminal segments).code
     ∷ stopped_code system moment (kept_input system moment.lasting terminal segments).code
@@ -255,7 +245,7 @@ already system moment terminal number segments t there running low =
 
 -- Whatever it is answered, an input that is sent under a number up to the last is not accepted.
 pub not_new : (system : System) (moment : Moment) (terminal : List ℕ) (number : ℕ) (segments : List (List ℕ)) (id : ℕ)
-    → 0 < number → number ≤ last_of terminal moment.lasting → input_answer system moment terminal number segments ≢ Ok (New id)
+    → 0 < number → number ≤ last_number_of terminal moment.lasting → input_answer system moment terminal number segments ≢ Ok (New id)
 not_new system moment terminal number segments id some low new =
     by (there_by (terminal_at moment.lasting.terminals terminal) number moment.lasting.next_id id (later_refusals system moment terminal segments) new)
   where
@@ -268,12 +258,12 @@ not_new system moment terminal number segments id some low new =
 -- ---- all calls
 
 accepts_fine : (terminal other : List ℕ) (number above : ℕ) (kept : KeptInput) (lasting : LastingState) (answer : Result Taken InputRefused)
-    → ((id : ℕ) → answer ≡ Ok (New id) → Rises other (with_last above) lasting.terminals) → FineBy (λ s. IsAbove terminal number s lasting) (accepts other above kept answer)
+    → ((id : ℕ) → answer ≡ Ok (New id) → Rises other (with_last_number above) lasting.terminals) → FineBy (λ s. IsAbove terminal number s lasting) (accepted_step other above kept answer)
 accepts_fine terminal other number above kept lasting (Ok (New id)) rises = rises id refl
 accepts_fine terminal other number above kept lasting (Ok Already) rises = tt
 accepts_fine terminal other number above kept lasting (Err refused) rises = tt
 
-acknowledges_fine : (terminal other : List ℕ) (number : ℕ) (lasting : LastingState) (answer : Result Acked AckRefused) → FineBy (λ s. IsAbove terminal number s lasting) (acknowledges other answer)
+acknowledges_fine : (terminal other : List ℕ) (number : ℕ) (lasting : LastingState) (answer : Result Acked AckRefused) → FineBy (λ s. IsAbove terminal number s lasting) (acknowledged_step other answer)
 acknowledges_fine terminal other number lasting (Ok Removed) = tt
 acknowledges_fine terminal other number lasting (Ok AckAlready) = tt
 acknowledges_fine terminal other number lasting (Err refused) = tt
@@ -308,10 +298,10 @@ pub taken : (system : System) (moment : Moment) (terminal : List ℕ) (number : 
     → input_answer system moment terminal number segments ≡ Ok (New id)
     → Reached terminal number (after_entry system moment (Accept terminal number segments (Ok (New id)))).lasting
 taken system moment terminal number segments id new =
-    subst (λ answer. Reached terminal number (option_map_or (λ step. applied step moment.lasting) (accepts terminal number (kept_input system moment.lasting terminal segments) answer) moment.lasting)) (sym new)
+    subst (λ answer. Reached terminal number (option_map_or (λ step. applied step moment.lasting) (accepted_step terminal number (kept_input system moment.lasting terminal segments) answer) moment.lasting)) (sym new)
     (by (there_by (terminal_at moment.lasting.terminals terminal) number moment.lasting.next_id id (later_refusals system moment terminal segments) new))
   where
-    by : (u : TerminalState) × (terminal_at moment.lasting.terminals terminal ≡ Some u) → number ≤ last_in terminal (change_named terminal (with_last number) moment.lasting.terminals)
+    by : (u : TerminalState) × (terminal_at moment.lasting.terminals terminal ≡ Some u) → number ≤ last_in terminal (change_named terminal (with_last_number number) moment.lasting.terminals)
     by (u, e) = given_at terminal number moment.lasting.terminals u e
 
 -- Once an input was answered as accepted in a session, whatever a stop leaves behind any further lines, a cold start apart, has its
@@ -320,7 +310,7 @@ taken system moment terminal number segments id new =
 pub accepted_once : (setting : Setting) (terminal : List ℕ) (number id : ℕ) (segments : List (List ℕ)) (life : LastLife) (old mid new : SessionState) (blocks : List Block) (text : List ℕ)
     → setting.tells ≡ true
     → input_answer setting.system (now_in setting.system life) terminal number segments ≡ Ok (New id)
-    → mid ≡ gone_on old life (Accept terminal number segments (Ok (New id)) ∷ [])
+    → mid ≡ life_gone_on old life (Accept terminal number segments (Ok (New id)) ∷ [])
     → all_ask_only any_call setting.system blocks ≡ true → AreServed setting blocks mid new text
     → HasAlways (Reached terminal number) setting new.standing
 accepted_once setting terminal number id segments life old mid new blocks text tells new_input goes all served =
@@ -329,7 +319,7 @@ accepted_once setting terminal number id segments life old mid new blocks text t
     (up_has (Reached terminal number) setting any_call (λ region. refl) (numbers_kept terminal number setting.system)
     (longer life (entry ∷ []))
     (leaves_with (Reached terminal number) setting.system any_call life entry refl
-    (subst (λ (m : Moment). Reached terminal number m.lasting) (sym (moment_after-append setting.system (moment_of setting.system life []) life.history entry))
+    (subst (λ (m : Moment). Reached terminal number m.lasting) (sym (moment_after-append setting.system (life_moment setting.system life []) life.history entry))
     (taken setting.system (now_in setting.system life) terminal number segments id new_input)))))
   where
     entry : Entry

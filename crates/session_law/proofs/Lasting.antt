@@ -6,13 +6,13 @@ use Rattle.tm_types.specs.declared.command.LastingCommand.{LastingCommand}
 use Rattle.tm_types.specs.declared.command.LastingCommand.TheVariants.{StartTransaction, StopTransaction, StartTerminal, StopTerminal, DequeueFirst, DequeueAll, Exit}
 use Rattle.tm_types.specs.declared.message.Message.{Message}
 use Rattle.model_messages.specs.declared.replies.TerminalReplies.{TerminalReplies}
-use Rattle.model_messages.specs.Outputs.{fresh_terminal, is_of, with_terminal, with_reply, without_first}
+use Rattle.model_messages.specs.Outputs.{fresh_terminal, are_replies_of, with_terminal, with_reply, without_first}
 use Rattle.model_messages.specs.declared.conversation.PadChange.{PadChange}
 use Rattle.model_messages.specs.declared.ended_message.EndedMessage.{EndedMessage}
 use Rattle.model_system.specs.System.{System}
 use Rattle.model_machine.specs.Machine.{LastingState, message_at, output_at, empty_state}
-use Rattle.model_machine.specs.Lasting.{LastingStep, abend_outputs, acknowledged, all_sent, applied, changed, commanded, discarded_pad, finished, finished_by, replied, sent, switched, with_pad_by, without_replies}
-use Rattle.model_machine.specs.Lasting.LastingStep.{Accepts, Acknowledges, Completes, Discards, Commands}
+use Rattle.model_machine.specs.LastingSteps.{LastingStep, abend_outputs, acknowledged, all_sent, applied, changed, commanded, discarded_pad, finished, finished_by, replied, output_sent, switched, with_pad_by, without_replies}
+use Rattle.model_machine.specs.LastingSteps.LastingStep.{Accepts, Acknowledges, Completes, Discards, Commands}
 use Rattle.session_law.specs.Counts.{LastsUpTo, RepliesUpTo, most_raised}
 
 -- ---- higher bounds
@@ -43,7 +43,7 @@ empty_lasts system high le = record { next_id = omega (arith, le); steps = omega
 changed_replies : (name : List ℕ) (change : TerminalReplies → TerminalReplies) (low high : ℕ) → low ≤ high → ((t : TerminalReplies) → t.next ≤ low → (change t).next ≤ high) → (outputs : List TerminalReplies)
     → RepliesUpTo low outputs → RepliesUpTo high (with_terminal name change outputs)
 changed_replies name change low high le rises [] h = tt
-changed_replies name change low high le rises (t ∷ ts) h = by (is_of name t) (changed_replies name change low high le rises ts h.1) where
+changed_replies name change low high le rises (t ∷ ts) h = by (are_replies_of name t) (changed_replies name change low high le rises ts h.1) where
   by : (b : Bool) → RepliesUpTo high (with_terminal name change ts) → RepliesUpTo high (if b then change t ∷ ts else t ∷ with_terminal name change ts)
   by true rest = (rises t h.0, replies_higher low high le ts h.1)
   by false rest = (omega (arith, le, h.0), rest)
@@ -53,7 +53,7 @@ record SendsUpTo (high : ℕ) (lasting : LastingState) : Type 0 where
   next_id : lasting.next_id ≤ high
   replies : RepliesUpTo high lasting.outputs
 
-one_sent : (origin : List ℕ) (output : EndedMessage) (high : ℕ) (lasting : LastingState) → SendsUpTo high lasting → SendsUpTo (high + 1) (sent origin output lasting)
+one_sent : (origin : List ℕ) (output : EndedMessage) (high : ℕ) (lasting : LastingState) → SendsUpTo high lasting → SendsUpTo (high + 1) (output_sent origin output lasting)
 one_sent origin output high lasting h = by (is_some (output_at lasting.outputs output.to)) where
   by : (b : Bool) → SendsUpTo (high + 1) (if b then replied output lasting else switched origin output lasting)
   by true = record {
@@ -68,8 +68,8 @@ sends_higher low high lasting le h = record { next_id = omega (arith, le, h.next
 each_sent : (origin : List ℕ) (outputs : List EndedMessage) (high : ℕ) (lasting : LastingState) → SendsUpTo high lasting → SendsUpTo (high + length outputs) (all_sent origin outputs lasting)
 each_sent origin [] high lasting h = sends_higher high (high + 0) lasting (omega arith) h
 each_sent origin (output ∷ outputs) high lasting h =
-    sends_higher (high + 1 + length outputs) (high + length (output ∷ outputs)) (all_sent origin outputs (sent origin output lasting)) (omega arith)
-    (each_sent origin outputs (high + 1) (sent origin output lasting) (one_sent origin output high lasting h))
+    sends_higher (high + 1 + length outputs) (high + length (output ∷ outputs)) (all_sent origin outputs (output_sent origin output lasting)) (omega arith)
+    (each_sent origin outputs (high + 1) (output_sent origin output lasting) (one_sent origin output high lasting h))
 
 -- a message that is gone, with what it sent; or none
 few_sent : (message : Option Message) (outputs : Message → List EndedMessage) (high : ℕ) (lasting : LastingState) → ((m : Message) → length (outputs m) ≤ most_raised) → SendsUpTo high lasting

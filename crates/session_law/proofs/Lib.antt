@@ -8,6 +8,6 @@ pub mod Outputs
 pub mod Lasting
 pub mod Entries
 pub mod Blocks
-pub mod CounterLawSessions
+pub mod SessionMeasures
 pub mod Standing
 pub mod Spent

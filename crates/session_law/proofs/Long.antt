@@ -5,7 +5,7 @@ use Rattle.std.specs.Option.{is_some, option_and_then, option_map_or, option_or,
 use Rattle.std.proofs.lemmas.List.{append-nil, length-append, length-replicate, length-take-le, take_all}
 use Rattle.std.proofs.lemmas.Bool.Decides.{nat_tests}
 use Rattle.model_messages.specs.declared.conversation.Conversation.{Conversation}
-use Rattle.model_messages.specs.Input.{busy_id}
+use Rattle.model_messages.specs.ConversationInput.{busy_id}
 use Rattle.model_messages.specs.Terminals.{conversation_at}
 use Rattle.model_system.specs.declared.code.Code.{Code}
 use Rattle.model_system.specs.declared.code.SegmentKind.{SegmentKind}
@@ -20,11 +20,11 @@ use Rattle.model_machine.specs.declared.entry.InputRefused.{InputRefused}
 use Rattle.model_machine.specs.declared.entry.InputRefused.TheVariants.{Terminal as NoTerminal, StoppedTerminal, Expected, Code as NoCode, StoppedCode, SegmentsOver}
 use Rattle.model_machine.specs.declared.lasting.TerminalState.{TerminalState}
 use Rattle.model_machine.specs.Machine.{Moment, terminal_at}
-use Rattle.model_machine.specs.ModelMachineCommands.{state_now}
-use Rattle.model_machine.specs.Lasting.{KeptInput, code_word, kept_alone, kept_by, kept_by_code, kept_first, kept_input, without_word}
-use Rattle.model_machine.specs.Steps.{Refusal, accepts, busy_by, busy_conversation, by_count, by_number, input_answer, most_segments, no_room, stopped_by, stopped_code, lasting_step, stopped_terminal, unknown_terminal, wrong_number}
-use Rattle.model_session.specs.Bounded.{first_texts}
-use Rattle.session_law.specs.Long.{IsAnsweredAlike}
+use Rattle.model_machine.specs.CommandAnswers.{state_now}
+use Rattle.model_machine.specs.LastingSteps.{KeptInput, code_word, kept_alone, kept_by, kept_by_code, kept_first, kept_input, without_word}
+use Rattle.model_machine.specs.MachineCalls.{Refusal, accepted_step, busy_by, busy_conversation, by_count, by_number, input_answer, most_segments, no_room, stopped_by, stopped_code, lasting_step, stopped_terminal, unknown_terminal, wrong_number}
+use Rattle.model_session.specs.BoundedBlocks.{first_texts}
+use Rattle.session_law.specs.LongInputs.{IsAnsweredAlike}
 
 -- ---- the input as it is kept
 
@@ -60,7 +60,7 @@ last_by found stopped count room =
 
 -- it refuses, with anything but that the input is new
 abbrev IsRefusal : Result Taken InputRefused → Type 0
-IsRefusal answer = (terminal : List ℕ) (number : ℕ) (kept : KeptInput) → accepts terminal number kept answer ≡ None
+IsRefusal answer = (terminal : List ℕ) (number : ℕ) (kept : KeptInput) → accepted_step terminal number kept answer ≡ None
 
 abbrev MayRefuse : Refusal → Type 0
 MayRefuse None = ⊤
@@ -163,7 +163,7 @@ module _ (system : System) (moment : Moment) (terminal : List ℕ) (number : ℕ
       behind_refuses (last_of kept.code (length kept.segments) (no_room system moment kept.segments))
       (last_refuses (code_at system.codes kept.code) (stopped_code system moment kept.code) (length kept.segments) (no_room system moment kept.segments) over (may_stop kept.code (state_now system moment kept.code)))
 
-  not_new : (r : Refusal) (kept : KeptInput) → Refuses r → accepts terminal number kept (unwrap_or r (Ok (New moment.lasting.next_id))) ≡ None
+  not_new : (r : Refusal) (kept : KeptInput) → Refuses r → accepted_step terminal number kept (unwrap_or r (Ok (New moment.lasting.next_id))) ≡ None
   not_new None kept r = absurd r
   not_new (Some answer) kept r = r terminal number kept
 
@@ -171,7 +171,7 @@ module _ (system : System) (moment : Moment) (terminal : List ℕ) (number : ℕ
       → unwrap_or (refusal a) (Ok (New moment.lasting.next_id)) ≡ unwrap_or (refusal b) (Ok (New moment.lasting.next_id))
   same_answer a b alike over = ap (λ (r : Refusal). unwrap_or r (Ok (New moment.lasting.next_id))) (same_refusal a b alike over)
 
-  no_step : (kept : KeptInput) → 16 < length kept.segments → accepts terminal number kept (unwrap_or (refusal kept) (Ok (New moment.lasting.next_id))) ≡ None
+  no_step : (kept : KeptInput) → 16 < length kept.segments → accepted_step terminal number kept (unwrap_or (refusal kept) (Ok (New moment.lasting.next_id))) ≡ None
   no_step kept over = not_new (refusal kept) kept (refused kept over)
 
   kept_count : (c : Option Conversation) (texts : List (List ℕ)) → length (kept_by system c texts).segments ≡ length texts

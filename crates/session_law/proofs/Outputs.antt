@@ -1,5 +1,5 @@
 -- A unit sends at most 32 outputs.
-use Rattle.std.proofs.Common.{◌≡◌, ℕ, ◌+◌, ◌≤◌, Bool, true, false, not, ◌&&◌, List, [], ◌∷◌, ◌++◌, Option, Some, None, length, map, refl, arith}
+use Rattle.std.proofs.Common.{◌≡◌, ℕ, ◌+◌, ◌≤◌, Bool, true, false, ◌&&◌, List, [], ◌∷◌, ◌++◌, Option, Some, None, length, map, refl, arith}
 use Rattle.std.specs.Prelude.{if◌then◌else◌, nat_le, nat_lt, slice_get, slice_set}
 use Rattle.std.specs.List.{flat_map}
 use Rattle.std.specs.Option.{is_some, option_map_or}
@@ -8,7 +8,6 @@ use Rattle.std.proofs.lemmas.List.{length-append}
 use Rattle.std.proofs.lemmas.List.Sums.{sum_by-cons}
 use Rattle.tm_types.specs.declared.function.Function.{Function}
 use Rattle.tm_types.specs.declared.function.Function.TheVariants.{GU, GN, ISRT, PURG, CHNG, ROLB}
-use Rattle.tm_types.specs.declared.status.Status.TheVariants.{Blank, A3, A6, A7}
 use Rattle.tm_types.specs.Segment.{segment_length}
 use Rattle.model_data.specs.declared.row.Row.{Row}
 use Rattle.model_system.specs.declared.pcb.Pcb.{Pcb}
@@ -17,12 +16,13 @@ use Rattle.model_system.specs.Jobs.{Job}
 use Rattle.model_system.specs.Lists.{change_at}
 use Rattle.model_system.specs.System.{System}
 use Rattle.model_messages.specs.declared.open_pcb.OpenPcb.{OpenPcb}
-use Rattle.model_messages.specs.Work.{MessageWork, destination_of, ended_by, ended_to, fresh_pcb, without_message}
-use Rattle.model_messages.specs.Calls.{change_status, change_work, destination_at, destination_named, ended_at, gives_back, insert_work, is_blank, next_work, purge_status, purge_work, reset_pcb, returned_pad, segment_status, segment_work, texts_of, with_chosen, with_segment, without_blanks, work_by}
+use Rattle.model_messages.specs.MessageWork.{MessageWork, destination_of, output_ended_by, ended_to, fresh_pcb, without_output}
+use Rattle.model_messages.specs.MessageCalls.{change_status, change_work, destination_at, destination_named, ended_at, gives_back, insert_work, is_blank, next_work, purge_status, purge_work, reset_pcb, returned_pad, segment_status, segment_work, work_texts, with_chosen, with_output_segment, without_blanks, message_work_by}
 use Rattle.model_machine.specs.Trial.{Given, Trial, outputs_of, trial_of}
-use Rattle.image_law.specs.Sending.{open_count, open_segments}
+use Rattle.image_law.specs.SentMessages.{segments_built, open_segments}
 use Rattle.image_law.proofs.Changes.{sum_set, sum_more, sum_same, sum_mapped_zero}
 use Rattle.image_law.proofs.Trials.{IsJob, trial_has}
+use Rattle.image_law.proofs.Counts.{room_left}
 
 -- A unit inserts at most 32 segments, and each output that it has ended has one of them.
 record SendsFew (work : MessageWork) : Type 0 where
@@ -37,41 +37,33 @@ one_ends None segments = omega arith
 one_ends (Some to) [] = omega arith
 one_ends (Some to) (segment ∷ segments) = omega arith
 
-all_end : (pcbs : List OpenPcb) → length (flat_map ended_by pcbs) ≤ open_segments pcbs
+all_end : (pcbs : List OpenPcb) → length (flat_map output_ended_by pcbs) ≤ open_segments pcbs
 all_end [] = omega arith
-all_end (p ∷ pcbs) = omega (arith, length-append (ended_by p) (flat_map ended_by pcbs), sum_by-cons open_count p pcbs, one_ends (destination_of p) p.segments, all_end pcbs)
+all_end (p ∷ pcbs) = omega (arith, length-append (output_ended_by p) (flat_map output_ended_by pcbs), sum_by-cons segments_built p pcbs, one_ends (destination_of p) p.segments, all_end pcbs)
 
-purged : (pcbs : List OpenPcb) (pcb : ℕ) → open_segments (change_at pcbs (Some pcb) without_message) + length (ended_at pcbs pcb) ≤ open_segments pcbs
+purged : (pcbs : List OpenPcb) (pcb : ℕ) → open_segments (change_at pcbs (Some pcb) without_output) + length (ended_at pcbs pcb) ≤ open_segments pcbs
 purged pcbs pcb = by (slice_get pcbs pcb) refl where
   by : (found : Option OpenPcb) → slice_get pcbs pcb ≡ found
-      → open_segments (option_map_or (λ p. slice_set pcbs pcb (without_message p)) found pcbs) + length (option_map_or ended_by found []) ≤ open_segments pcbs
+      → open_segments (option_map_or (λ p. slice_set pcbs pcb (without_output p)) found pcbs) + length (option_map_or output_ended_by found []) ≤ open_segments pcbs
   by None e = omega arith
-  by (Some p) e = omega (arith, sum_set open_count pcbs pcb p (without_message p) e, one_ends (destination_of p) p.segments)
+  by (Some p) e = omega (arith, sum_set segments_built pcbs pcb p (without_output p) e, one_ends (destination_of p) p.segments)
 
 none_yet : (pcbs : List Pcb) → open_segments (map fresh_pcb pcbs) ≡ 0
 none_yet [] = refl
-none_yet (pcb ∷ pcbs) = omega (arith, sum_by-cons open_count (fresh_pcb pcb) (map fresh_pcb pcbs), none_yet pcbs)
+none_yet (pcb ∷ pcbs) = omega (arith, sum_by-cons segments_built (fresh_pcb pcb) (map fresh_pcb pcbs), none_yet pcbs)
 
 -- ---- calls
 
--- a segment is inserted where fewer than the count were
-room_left : (there long full : Bool) → is_blank (if not there then A3 else if long then A6 else if full then A7 else Blank) ≡ true
-    → full ≡ false
-room_left false long full e = cc
-room_left true true full e = cc
-room_left true false true e = cc
-room_left true false false e = refl
-
 segment_few : (work : MessageWork) (pcb : ℕ) (text : List ℕ) → SendsFew work → SendsFew (segment_work work pcb text)
 segment_few work pcb text s = by (is_blank (segment_status work pcb text)) refl where
-  by : (b : Bool) → is_blank (segment_status work pcb text) ≡ b → SendsFew (if b then record work { inserted = work.inserted + 1; pcbs = change_at work.pcbs (Some pcb) (with_segment text) } else work)
+  by : (b : Bool) → is_blank (segment_status work pcb text) ≡ b → SendsFew (if b then record work { inserted = work.inserted + 1; pcbs = change_at work.pcbs (Some pcb) (with_output_segment text) } else work)
   by true e =
       let full = room_left (is_some (destination_at work.pcbs pcb)) (nat_lt work.size_limit (segment_length text)) (nat_le work.count_limit work.inserted) e in
       let less = leb-false work.count_limit work.inserted full in
       record {
         count = s.count;
         inserted = omega (arith, less);
-        few = omega (arith, s.few, sum_more open_count work.pcbs pcb (with_segment text) (λ p. length-append p.segments (text ∷ [])));
+        few = omega (arith, s.few, sum_more segments_built work.pcbs pcb (with_output_segment text) (λ p. length-append p.segments (text ∷ [])));
       }
   by false e = s
 
@@ -83,7 +75,7 @@ insert_few work pcb text s = by (gives_back work pcb) (segment_few work pcb text
 
 purge_few : (work : MessageWork) (pcb : ℕ) → SendsFew work → SendsFew (purge_work work pcb)
 purge_few work pcb s = by (is_blank (purge_status work pcb)) where
-  by : (b : Bool) → SendsFew (if b then record work { pcbs = change_at work.pcbs (Some pcb) without_message; ended = work.ended ++ ended_at work.pcbs pcb } else work)
+  by : (b : Bool) → SendsFew (if b then record work { pcbs = change_at work.pcbs (Some pcb) without_output; ended = work.ended ++ ended_at work.pcbs pcb } else work)
   by true = record {
     count = s.count;
     inserted = s.inserted;
@@ -100,17 +92,17 @@ change_few system work pcb name s = by (is_blank (change_status system work pcb 
   by true = record {
     count = s.count;
     inserted = s.inserted;
-    few = omega (arith, s.few, sum_same open_count work.pcbs pcb (with_chosen to) (λ p. refl));
+    few = omega (arith, s.few, sum_same segments_built work.pcbs pcb (with_chosen to) (λ p. refl));
   }
   by false = s
 
 next_few : (work : MessageWork) → SendsFew work → SendsFew (next_work work)
-next_few work s = by (work.begun && nat_lt work.place (length (texts_of work))) where
+next_few work s = by (work.begun && nat_lt work.place (length (work_texts work))) where
   by : (b : Bool) → SendsFew (if b then record work { place = work.place + 1 } else work)
   by true = record { count = s.count; inserted = s.inserted; few = s.few }
   by false = s
 
-call_few : (function : Function) (system : System) (work : MessageWork) (pcb : ℕ) (text : List ℕ) → SendsFew work → SendsFew (work_by function system work pcb text)
+call_few : (function : Function) (system : System) (work : MessageWork) (pcb : ℕ) (text : List ℕ) → SendsFew work → SendsFew (message_work_by function system work pcb text)
 call_few GU system work pcb text s = record { count = s.count; inserted = s.inserted; few = s.few }
 call_few GN system work pcb text s = next_few work s
 call_few ISRT system work pcb text s = insert_few work pcb text s
@@ -119,7 +111,7 @@ call_few CHNG system work pcb text s = change_few system work pcb text s
 call_few ROLB system work pcb text s = record {
   count = s.count;
   inserted = omega arith;
-  few = omega (arith, sum_mapped_zero open_count reset_pcb work.pcbs (λ p. refl));
+  few = omega (arith, sum_mapped_zero segments_built reset_pcb work.pcbs (λ p. refl));
 }
 call_few _ system work pcb text s = s
 
@@ -128,4 +120,4 @@ few_outputs job is_job rows given calls trial e =
     let s =
     trial_has job rows given SendsFew (λ work call s. call_few call.function job.system work call.pcb call.area s)
     (record { count = is_job.count; inserted = omega arith; few = omega (arith, none_yet (Destination given.message.origin ∷ job.pcbs)) }) calls trial e in
-    omega (arith, s.count, s.inserted, s.few, length-append trial.work.ended (flat_map ended_by trial.work.pcbs), all_end trial.work.pcbs)
+    omega (arith, s.count, s.inserted, s.few, length-append trial.work.ended (flat_map output_ended_by trial.work.pcbs), all_end trial.work.pcbs)

@@ -14,7 +14,7 @@ use Rattle.model_messages.specs.declared.conversation.PadChange.{PadChange}
 use Rattle.model_messages.specs.declared.ended_message.EndedMessage.{EndedMessage}
 use Rattle.model_system.specs.System.{System}
 use Rattle.model_messages.specs.declared.replies.TerminalReplies.{TerminalReplies}
-use Rattle.model_messages.specs.Outputs.{is_of, replies_at, reply_at, with_terminal, with_reply, without_first}
+use Rattle.model_messages.specs.Outputs.{are_replies_of, replies_at, reply_at, with_terminal, with_reply, without_first}
 use Rattle.model_machine.specs.declared.lasting.TerminalState.{TerminalState}
 use Rattle.model_machine.specs.declared.entry.ShowAnswer.TheVariants.{Reply as Showed, Empty, Stopped as ShowStopped}
 use Rattle.model_machine.specs.declared.entry.ControlCall.{ControlCall}
@@ -26,15 +26,15 @@ use Rattle.model_machine.specs.declared.entry.Acked.{Acked}
 use Rattle.model_machine.specs.declared.entry.Acked.TheVariants.{Removed, Already as AckAlready}
 use Rattle.model_machine.specs.declared.entry.AckRefused.{AckRefused}
 use Rattle.model_machine.specs.Machine.{LastingState, Moment, terminal_at, output_at, message_at}
-use Rattle.model_machine.specs.ModelMachineCommands.{lasting_command}
-use Rattle.model_machine.specs.Lasting.{LastingStep, KeptInput, applied, sent, replied, switched, all_sent, finished_by, without_message, without_replies, with_pad_by, discarded_pad, abend_outputs, commanded, kept_input}
-use Rattle.model_machine.specs.Lasting.LastingStep.{Accepts, Acknowledges, Completes, Discards, Commands}
-use Rattle.model_machine.specs.Steps.{accepts, acknowledges, input_answer, ack_answer, show_to, show_by, show_answer, lasting_step}
+use Rattle.model_machine.specs.CommandAnswers.{lasting_command}
+use Rattle.model_machine.specs.LastingSteps.{LastingStep, KeptInput, applied, output_sent, replied, switched, all_sent, finished_by, without_message, without_replies, with_pad_by, discarded_pad, abend_outputs, commanded, kept_input}
+use Rattle.model_machine.specs.LastingSteps.LastingStep.{Accepts, Acknowledges, Completes, Discards, Commands}
+use Rattle.model_machine.specs.MachineCalls.{accepted_step, acknowledged_step, input_answer, ack_answer, show_to, show_by, show_answer, lasting_step}
 use Rattle.model_machine.specs.History.{call_of}
 use Rattle.model_session.specs.Blocks.{Block}
-use Rattle.model_session.specs.Standing.{Setting, SessionState}
+use Rattle.model_session.specs.SessionState.{Setting, SessionState}
 use Rattle.model_session.specs.Session.{AreServed}
-use Rattle.session_law.specs.Resending.{first_reply, HasAlways, IsKeptBy, spares, all_ask_only}
+use Rattle.session_law.specs.ResentInputs.{shown_reply, HasAlways, IsKeptBy, spares, all_ask_only}
 use Rattle.session_law.proofs.Sessions.{kept_over}
 use Rattle.session_law.proofs.Steps.{FineBy, applied_by, turn_fine, command_fine}
 
@@ -59,8 +59,8 @@ kept_at : (terminal other : List ℕ) (change : TerminalReplies → TerminalRepl
     → ((t : TerminalReplies) → bytes_eq t.terminal other ≡ true → bytes_eq t.terminal terminal ≡ true → slice_get t.replies 0 ≡ Some r → slice_get (change t).replies 0 ≡ Some r)
     → reply_at terminal 0 ts ≡ Some r → reply_at terminal 0 (with_terminal other change ts) ≡ Some r
 kept_at terminal other change names r [] keeps h = h
-kept_at terminal other change names r (t ∷ ts) keeps h = by (is_of other t) refl (λ first. kept_at terminal other change names r ts keeps first) where
-  by : (b : Bool) → is_of other t ≡ b → (reply_at terminal 0 ts ≡ Some r → reply_at terminal 0 (with_terminal other change ts) ≡ Some r)
+kept_at terminal other change names r (t ∷ ts) keeps h = by (are_replies_of other t) refl (λ first. kept_at terminal other change names r ts keeps first) where
+  by : (b : Bool) → are_replies_of other t ≡ b → (reply_at terminal 0 ts ≡ Some r → reply_at terminal 0 (with_terminal other change ts) ≡ Some r)
       → reply_at terminal 0 (if b then change t ∷ ts else t ∷ with_terminal other change ts) ≡ Some r
   by true is more =
       ap (λ n. first_of_all (bytes_eq n terminal) (change t) (replies_at terminal ts)) (names t)
@@ -84,14 +84,14 @@ other_name terminal other t apart is_other is_terminal =
 module _ (terminal : List ℕ) (r : Reply) where
   -- the terminal is to be shown this reply
   abbrev pub Waits : LastingState → Type 0
-  Waits lasting = first_reply terminal lasting ≡ Some r
+  Waits lasting = shown_reply terminal lasting ≡ Some r
 
   spared : (other : List ℕ) (change : TerminalReplies → TerminalReplies) → ((t : TerminalReplies) → (change t).terminal ≡ t.terminal) → (ts : List TerminalReplies)
       → not (bytes_eq other terminal) ≡ true → reply_at terminal 0 ts ≡ Some r → reply_at terminal 0 (with_terminal other change ts) ≡ Some r
   spared other change names ts apart h =
       kept_at terminal other change names r ts (λ t is_other is_terminal first. absurd (other_name terminal other t apart is_other is_terminal)) h
 
-  sent_keeps : (origin : List ℕ) (output : EndedMessage) (lasting : LastingState) → Waits lasting → Waits (sent origin output lasting)
+  sent_keeps : (origin : List ℕ) (output : EndedMessage) (lasting : LastingState) → Waits lasting → Waits (output_sent origin output lasting)
   sent_keeps origin output lasting h = by (is_some (output_at lasting.outputs output.to)) where
     by : (b : Bool) → Waits (if b then replied output lasting else switched origin output lasting)
     by true =
@@ -101,7 +101,7 @@ module _ (terminal : List ℕ) (r : Reply) where
 
   all_sent_keeps : (origin : List ℕ) (outputs : List EndedMessage) (lasting : LastingState) → Waits lasting → Waits (all_sent origin outputs lasting)
   all_sent_keeps origin [] lasting h = h
-  all_sent_keeps origin (output ∷ outputs) lasting h = all_sent_keeps origin outputs (sent origin output lasting) (sent_keeps origin output lasting h)
+  all_sent_keeps origin (output ∷ outputs) lasting h = all_sent_keeps origin outputs (output_sent origin output lasting) (sent_keeps origin output lasting h)
 
   finished_keeps : (message : Option Message) (outputs : Message → List EndedMessage) (lasting : LastingState) → Waits lasting → Waits (finished_by message outputs lasting)
   finished_keeps None outputs lasting h = h
@@ -150,12 +150,12 @@ module _ (terminal : List ℕ) (r : Reply) where
       (pad_keeps (message_at lasting.messages id) discarded_pad lasting h)
   step_keeps (Commands command) lasting is h = commanded_keeps command lasting is h
 
-  accepts_spare : (other : List ℕ) (number : ℕ) (kept : KeptInput) (answer : Result Taken InputRefused) → FineBy Spares (accepts other number kept answer)
+  accepts_spare : (other : List ℕ) (number : ℕ) (kept : KeptInput) (answer : Result Taken InputRefused) → FineBy Spares (accepted_step other number kept answer)
   accepts_spare other number kept (Ok (New id)) = tt
   accepts_spare other number kept (Ok Already) = tt
   accepts_spare other number kept (Err refused) = tt
 
-  acknowledges_spare : (other : List ℕ) (answer : Result Acked AckRefused) → not (bytes_eq other terminal) ≡ true → FineBy Spares (acknowledges other answer)
+  acknowledges_spare : (other : List ℕ) (answer : Result Acked AckRefused) → not (bytes_eq other terminal) ≡ true → FineBy Spares (acknowledged_step other answer)
   acknowledges_spare other (Ok Removed) is = is
   acknowledges_spare other (Ok AckAlready) is = tt
   acknowledges_spare other (Err refused) is = tt

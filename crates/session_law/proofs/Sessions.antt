@@ -13,39 +13,23 @@ use Rattle.model_session.specs.declared.asked.Asked.{Asked}
 use Rattle.model_session.specs.declared.asked.Asked.TheVariants.{Bad, BadCommand, Stopped, Call, Quiet, Power, PowerIn, Restart, ColdStart}
 use Rattle.model_session.specs.Blocks.{Block}
 use Rattle.model_session.specs.Lines.{asked_of}
-use Rattle.model_session.specs.Turns.{AreTurns, region_after}
-use Rattle.model_session.specs.Lives.{LastLife, Leaves, moment_of, now_in, longer, ends_life}
-use Rattle.model_session.specs.Standing.{Setting, SessionState, Outage, Standing, called_on}
-use Rattle.model_session.specs.Standing.Standing.{Up, Down}
-use Rattle.model_session.specs.Session.{AreServed, IsServedUp, IsServedDown, ServedBy, IsRestarted, IsCalled, IsCutOff, IsTurned, IsTurnedOff}
-use Rattle.session_law.specs.Resending.{HasAlways, IsKeptBy, asks_only, all_ask_only}
+use Rattle.model_session.specs.QuietTurns.{AreTurns, region_behind_turns}
+use Rattle.model_session.specs.Lives.{LastLife, LifeLeaves, life_moment, now_in, longer, ends_life}
+use Rattle.model_session.specs.SessionState.{Setting, SessionState, Outage, Standing, called_on}
+use Rattle.model_session.specs.SessionState.Standing.{Up, Down}
+use Rattle.model_session.specs.Session.{AreServed, IsServedUp, IsServedDown, ServedBy, IsRestarted, IsCalled, IsCallCutOff, IsQuietTurned, IsTurnedOff}
+use Rattle.session_law.specs.ResentInputs.{HasAlways, IsKeptBy, asks_only, all_ask_only}
+use Rattle.tm_types.proofs.Truths.{both}
+use Rattle.model_session.proofs.Kept.{head_is, tail_is}
+use Rattle.image_law.proofs.Bools.{first_of, second_of}
 
 -- ---- Booleans and lists
-
-first_of : (a b : Bool) → a && b ≡ true → a ≡ true
-first_of true b x = refl
-first_of false b x = x
-
-second_of : (a b : Bool) → a && b ≡ true → b ≡ true
-second_of true b x = x
-second_of false b x = cc
-
-both : (a b : Bool) → a ≡ true → b ≡ true → a && b ≡ true
-both true true x y = refl
-both true false x y = y
-both false b x y = x
 
 -- the last of a list belongs to its front or to its rest
 pub record EndsRest {X : Type 0} (xs : List X) (x : X) (front rest : List X) : Type 0 where
   pub others : List X
   pub before : xs ≡ front ++ others
   pub rest_is : rest ≡ others ++ x ∷ []
-
-head_is : {X : Type 0} (x y : X) (xs ys : List X) → x ∷ xs ≡ y ∷ ys → x ≡ y
-head_is x y xs ys e = cc
-
-tail_is : {X : Type 0} (x y : X) (xs ys : List X) → x ∷ xs ≡ y ∷ ys → xs ≡ ys
-tail_is x y xs ys e = cc
 
 none_left : {X : Type 0} (xs ys : List X) → [] ≡ xs ++ ys → xs ≡ []
 none_left [] ys e = refl
@@ -66,7 +50,7 @@ last_in {X} (z ∷ xs) x (y ∷ front) rest e =
 module _ (P : LastingState → Type 0) (system : System) (kind : ControlCall → Bool) where
   -- whatever this life leaves has it
   abbrev pub Leaving : LastLife → Type 0
-  Leaving life = (kept : ℕ) (state : LastingState) → Leaves system life kept state → P state
+  Leaving life = (kept : ℕ) (state : LastingState) → LifeLeaves system life kept state → P state
 
   pub now_has : (life : LastLife) → Leaving life → P (now_in system life).lasting
   now_has life has = has ((now_in system life).lasting.steps - life.opening.steps) (now_in system life).lasting (record {
@@ -81,8 +65,8 @@ module _ (P : LastingState → Type 0) (system : System) (kind : ControlCall →
   one_more : IsKeptBy P system kind → (life : LastLife) (entry : Entry) → kind (call_of entry) ≡ true → Leaving life → Leaving (longer life (entry ∷ []))
   one_more keeps life entry is has kept state h =
       ⊎_elim
-      (λ all. subst P (sym (h.left ∙ ap (λ es. (moment_of system life es).lasting) all))
-      (subst (λ (m : Moment). P m.lasting) (sym (moment_after-append system (moment_of system life []) life.history entry))
+      (λ all. subst P (sym (h.left ∙ ap (λ es. (life_moment system life es).lasting) all))
+      (subst (λ (m : Moment). P m.lasting) (sym (moment_after-append system (life_moment system life []) life.history entry))
       (keeps (now_in system life) entry is (now_has life has))))
       (λ (ends : EndsRest life.history entry h.front h.rest). has kept state (record {
         front = h.front;
@@ -105,13 +89,13 @@ module _ (P : LastingState → Type 0) (system : System) (kind : ControlCall →
   -- a life that has begun with a state that has it
   pub begun : (state : LastingState) → P state → Leaving (record { opening = state; history = [] })
   begun state has kept left h =
-      subst P (sym (h.left ∙ ap (λ es. (moment_of system (record { opening = state; history = [] }) es).lasting) (none_left h.front h.rest h.split))) has
+      subst P (sym (h.left ∙ ap (λ es. (life_moment system (record { opening = state; history = [] }) es).lasting) (none_left h.front h.rest h.split))) has
 
   -- a life that goes on with an answered entry has it, where it has it then
-  pub leaves_with : (life : LastLife) (entry : Entry) → is_fault entry ≡ false → P (moment_of system life (life.history ++ entry ∷ [])).lasting → Leaving (longer life (entry ∷ []))
+  pub leaves_with : (life : LastLife) (entry : Entry) → is_fault entry ≡ false → P (life_moment system life (life.history ++ entry ∷ [])).lasting → Leaving (longer life (entry ∷ []))
   leaves_with life entry fine has kept state h =
       ⊎_elim
-      (λ all. subst P (sym (h.left ∙ ap (λ es. (moment_of system life es).lasting) all)) has)
+      (λ all. subst P (sym (h.left ∙ ap (λ es. (life_moment system life es).lasting) all)) has)
       (λ (ends : EndsRest life.history entry h.front h.rest).
       absurd (differ (sym (first_of (is_fault entry) true
       (second_of (list_all is_fault ends.others) (is_fault entry && true)
@@ -125,7 +109,7 @@ module _ (P : LastingState → Type 0) (system : System) (kind : ControlCall →
   pub turned : ((region : ℕ) → kind (Turn region) ≡ true) → (turns : List Entry) (before : ℕ) (moment : Moment) → AreTurns system before moment turns → list_all (λ e. kind (call_of e)) turns ≡ true
   turned are [] before moment h = refl
   turned are (entry ∷ entries) before moment h =
-      both (kind (call_of entry)) (list_all (λ e. kind (call_of e)) entries) (ap kind h.1 ∙ are (region_after system before)) (turned are entries (suc before) (after_entry system moment entry) h.2)
+      both (kind (call_of entry)) (list_all (λ e. kind (call_of e)) entries) (ap kind h.1 ∙ are (region_behind_turns system before)) (turned are entries (suc before) (after_entry system moment entry) h.2)
 
 -- ---- what a session leaves
 
@@ -152,7 +136,7 @@ module _ (P : LastingState → Type 0) (setting : Setting) (kind : ControlCall �
   called false old life entries has = up_has (longer life entries) has
 
   by_call : (call : ControlCall) (old : SessionState) (life : LastLife) (new : SessionState) (text : List ℕ) → kind call ≡ true → HasAlways P setting (Up life)
-      → IsCalled setting.system call old life new text ⊎ IsCutOff setting.system call old life new text → HasAlways P setting new.standing
+      → IsCalled setting.system call old life new text ⊎ IsCallCutOff setting.system call old life new text → HasAlways P setting new.standing
   by_call call old life new text is has (inl h) =
       same (called_on (ends_life h.entry) old life (h.entry ∷ [])) new h.goes
       (called (ends_life h.entry) old life (h.entry ∷ []) (more P setting.system kind keeps life (h.entry ∷ []) (both (kind (call_of h.entry)) true (ap kind h.asked ∙ is) refl) (leaving life has)))
@@ -161,7 +145,7 @@ module _ (P : LastingState → Type 0) (setting : Setting) (kind : ControlCall �
       (down_has (longer life (h.entry ∷ [])) true (more P setting.system kind keeps life (h.entry ∷ []) (both (kind (call_of h.entry)) true (ap kind h.breaks.asked ∙ is) refl) (leaving life has)))
 
   by_turns : (most : ℕ) (old : SessionState) (life : LastLife) (new : SessionState) (text : List ℕ) → HasAlways P setting (Up life)
-      → IsTurned setting.system most old life new text ⊎ IsTurnedOff setting.system most old life new text → HasAlways P setting new.standing
+      → IsQuietTurned setting.system most old life new text ⊎ IsTurnedOff setting.system most old life new text → HasAlways P setting new.standing
   by_turns most old life new text has (inl h) =
       same _ new h.goes
       (up_has (longer life h.turns) (more P setting.system kind keeps life h.turns (turned P setting.system kind turns h.turns 0 (now_in setting.system life) h.quieted.turns) (leaving life has)))
@@ -172,7 +156,7 @@ module _ (P : LastingState → Type 0) (setting : Setting) (kind : ControlCall �
       (more P setting.system kind keeps life (h.turns ++ h.entry ∷ [])
       (list_all-append (λ e. kind (call_of e)) h.turns (h.entry ∷ [])
       ∙ both (list_all (λ e. kind (call_of e)) h.turns) (kind (call_of h.entry) && true) all
-      (both (kind (call_of h.entry)) true (ap kind h.breaks.asked ∙ turns (region_after setting.system (length h.turns))) refl))
+      (both (kind (call_of h.entry)) true (ap kind h.breaks.asked ∙ turns (region_behind_turns setting.system (length h.turns))) refl))
       (leaving life has)))
 
   served_up : (asked : Asked) (old : SessionState) (life : LastLife) (new : SessionState) (text : List ℕ) → asks_only kind asked ≡ true

@@ -5,20 +5,20 @@ use Rattle.std.specs.Option.{option_map}
 use Rattle.std.proofs.lemmas.Bool.Decides.{nat_tests}
 use Rattle.model_machine.specs.declared.counts.Counter.{Counter}
 use Rattle.model_messages.specs.declared.replies.TerminalReplies.{TerminalReplies}
-use Rattle.openings.specs.Opening.{counters, first_spent, output_counters}
+use Rattle.openings.specs.OpenedImage.{counters, first_spent, output_counters}
 use Rattle.model_machine.specs.Machine.{LastingState}
-use Rattle.system_types.specs.Valid.{IsSystem}
+use Rattle.system_types.specs.ValidSystem.{IsSystem}
 use Rattle.model_system.specs.System.{System}
 use Rattle.model_session.specs.Blocks.{Block}
 use Rattle.model_session.specs.Lives.{LifeState, now_in}
-use Rattle.model_session.specs.Standing.{AreAllLives, MayHold, SessionState, Setting, Standing, last_life}
-use Rattle.model_session.specs.Standing.Standing.{Up, Down}
-use Rattle.model_session.specs.Session.{AreServed, Begins, IsBegun}
-use Rattle.session_law.specs.Spent.{HasSpent, IsSpentAt, SpentBy}
+use Rattle.model_session.specs.SessionState.{AreAllLives, MayHold, SessionState, Setting, Standing, last_life}
+use Rattle.model_session.specs.SessionState.Standing.{Up, Down}
+use Rattle.model_session.specs.Session.{AreServed, BeginsSession, IsSessionBegun}
+use Rattle.session_law.specs.SpentCounters.{HasSpent, IsSpentAt, IsSpentBy}
 use Rattle.session_law.specs.Counts.{LastsUpTo, LivesUpTo, RepliesUpTo, most_raised}
 use Rattle.session_law.specs.Measures.{call_raises, limit, lives_measure, measure, most_measure, near_limit}
 use Rattle.session_law.proofs.Lasting.{lasts_higher}
-use Rattle.session_law.proofs.CounterLawSessions.{lives_behind, session_rises}
+use Rattle.session_law.proofs.SessionMeasures.{lives_behind, session_rises}
 use Rattle.session_law.proofs.Standing.{begun_stands, blocks_stand, held_lasts, turns_stand}
 
 -- ---- a counter that is spent
@@ -50,21 +50,21 @@ told_measure system state lives all = omega (arith, ap lives_measure all.are, li
 
 -- Whatever the disk holds behind a session counts up to what the image handed in had, and 4,096 more for each opening, entry and stop.
 pub session_lasts : (setting : Setting) → IsSystem setting.system → setting.tells ≡ true → (high : ℕ) → 1 ≤ high → ((state : LastingState) → setting.begins state → LastsUpTo high state)
-    → (blocks others : List Block) (first mid last : SessionState) (text : List ℕ) → Begins setting first → AreServed setting blocks first mid text → (last ≡ mid) ⊎ IsBegun setting.system others mid last
+    → (blocks others : List Block) (first mid last : SessionState) (text : List ℕ) → BeginsSession setting first → AreServed setting blocks first mid text → (last ≡ mid) ⊎ IsSessionBegun setting.system others mid last
     → (held : LastingState) → MayHold setting last.standing held → LastsUpTo (high + call_raises * measure last) held
 session_lasts setting valid tells high some handed blocks others first mid last text begins served behind held may =
     lasts_higher (high + most_raised * measure last) (high + call_raises * measure last) held (omega arith) (held_lasts setting valid high some last (by behind) held may) where
       stood : LivesUpTo setting high mid
       stood = blocks_stand setting valid tells high some blocks first mid text served (begun_stands setting valid tells high some first begins handed)
 
-      by : (last ≡ mid) ⊎ IsBegun setting.system others mid last → LivesUpTo setting high last
+      by : (last ≡ mid) ⊎ IsSessionBegun setting.system others mid last → LivesUpTo setting high last
       by (inl same) = subst (LivesUpTo setting high) (sym same) stood
       by (inr turned) = turns_stand setting valid tells high some others mid last turned stood
 
 -- So behind a session of at most a million lines a counter is spent only where the image handed in was near that: the disk's own counters
 -- rise no further than by 4,096 for each opening, entry and stop.
 pub near_where_spent : (setting : Setting) → IsSystem setting.system → setting.tells ≡ true → (high : ℕ) → 1 ≤ high → ((state : LastingState) → setting.begins state → LastsUpTo high state)
-    → (blocks others : List Block) (first mid last : SessionState) (text : List ℕ) → length blocks ≤ 1000000 → Begins setting first → AreServed setting blocks first mid text → (last ≡ mid) ⊎ IsBegun setting.system others mid last
+    → (blocks others : List Block) (first mid last : SessionState) (text : List ℕ) → length blocks ≤ 1000000 → BeginsSession setting first → AreServed setting blocks first mid text → (last ≡ mid) ⊎ IsSessionBegun setting.system others mid last
     → (held : LastingState) → MayHold setting last.standing held → (epoch sequence checkpoint unit : ℕ) (counter : Counter)
     → epoch ≤ high + call_raises * measure last → sequence ≤ high + call_raises * measure last → checkpoint ≤ high + call_raises * measure last → unit ≤ high + call_raises * measure last
     → first_spent (counters epoch sequence checkpoint unit held) ≡ Some counter → near_limit ≤ high
@@ -77,7 +77,7 @@ near_where_spent setting valid tells high some handed blocks others first mid la
 
 -- A session over a disk that tells its contents is told that a counter is spent only where the image handed in was near that.
 pub near_at_end : (setting : Setting) → IsSystem setting.system → setting.tells ≡ true → (counts : ℕ → Type 0) (high : ℕ) → 1 ≤ high → counts high → ((state : LastingState) → setting.begins state → LastsUpTo high state)
-    → (blocks others : List Block) (first mid last : SessionState) (text : List ℕ) → length blocks ≤ 1000000 → Begins setting first → AreServed setting blocks first mid text → (last ≡ mid) ⊎ IsBegun setting.system others mid last
+    → (blocks others : List Block) (first mid last : SessionState) (text : List ℕ) → length blocks ≤ 1000000 → BeginsSession setting first → AreServed setting blocks first mid text → (last ≡ mid) ⊎ IsSessionBegun setting.system others mid last
     → IsSpentAt counts setting last → near_limit ≤ high
 near_at_end setting valid tells counts high some counted handed blocks others first mid last text few begins served behind spent = by last.standing refl spent where
   of_held : (held : LastingState) → MayHold setting last.standing held → HasSpent counts (measure last) held → near_limit ≤ high
@@ -86,7 +86,7 @@ near_at_end setting valid tells counts high some counted handed blocks others fi
       near_where_spent setting valid tells high some handed blocks others first mid last text few begins served behind held may is.epoch is.sequence is.checkpoint is.unit is.counter
       own.epoch_low own.sequence_low own.checkpoint_low own.unit_low is.spent
 
-  by : (standing : Standing) → last.standing ≡ standing → SpentBy standing counts (measure last) setting → near_limit ≤ high
+  by : (standing : Standing) → last.standing ≡ standing → IsSpentBy standing counts (measure last) setting → near_limit ≤ high
   by (Up life) stands is = of_held (now_in setting.system life).lasting (subst (λ s. MayHold setting s (now_in setting.system life).lasting) (sym stands) refl) is
   by (Down outage) stands is =
       let finds = is tells in

@@ -3,39 +3,39 @@ use Rattle.std.proofs.Common.{◌≡◌, inl, inr, ℕ, ◌+◌, ◌*◌, ◌≤
 use Rattle.std.proofs.lemmas.List.{length-append}
 use Rattle.model_machine.specs.declared.entry.Entry.{Entry}
 use Rattle.model_machine.specs.Machine.{LastingState, start_of}
-use Rattle.system_types.specs.Valid.{IsSystem}
+use Rattle.system_types.specs.ValidSystem.{IsSystem}
 use Rattle.model_session.specs.declared.asked.Asked.{Asked}
 use Rattle.model_session.specs.declared.asked.Asked.TheVariants.{Bad, BadCommand, Stopped, Call, Quiet, Power, PowerIn, Restart, ColdStart}
 use Rattle.model_session.specs.Blocks.{Block}
 use Rattle.model_session.specs.Lines.{asked_of}
-use Rattle.model_session.specs.Lives.{LastLife, Leaves, ends_life, moment_of, with_life}
-use Rattle.model_session.specs.Standing.{IsLeft, MayBeFound, MayHold, Outage, SessionState, Setting, Standing, called_on, last_life, no_life, unbegun}
-use Rattle.model_session.specs.Standing.Standing.{Up, Down}
-use Rattle.model_session.specs.Session.{AreServed, Begins, FailsToOpen, IsBegun, IsBegunBy, IsRestarted, IsServedDown, IsServedUp, MayOpen, Opens, ServedBy}
+use Rattle.model_session.specs.Lives.{LastLife, LifeLeaves, ends_life, life_moment, with_life}
+use Rattle.model_session.specs.SessionState.{IsStateLeft, MayBeFound, MayHold, Outage, SessionState, Setting, Standing, called_on, last_life, no_life, unbegun}
+use Rattle.model_session.specs.SessionState.Standing.{Up, Down}
+use Rattle.model_session.specs.Session.{AreServed, BeginsSession, FailsToOpen, IsSessionBegun, IsBegunBy, IsRestarted, IsServedDown, IsServedUp, MayOpenWith, OpensSession, ServedBy}
 use Rattle.session_law.specs.Counts.{LastsUpTo, OpensUpTo, LivesUpTo, most_raised}
 use Rattle.session_law.specs.Measures.{last_measure, lives_measure, measure}
 use Rattle.session_law.proofs.Lasting.{empty_lasts, lasts_higher}
 use Rattle.session_law.proofs.Entries.{entries_last}
-use Rattle.session_law.proofs.CounterLawSessions.{lives_behind}
+use Rattle.session_law.proofs.SessionMeasures.{lives_behind}
 
 module _ (setting : Setting) (valid : IsSystem setting.system) where
   -- ---- what a life leaves
 
   -- behind some of its entries
   front_lasts : (high : ℕ) (life : LastLife) (front rest : List Entry) → life.history ≡ front ++ rest → LastsUpTo high life.opening
-      → LastsUpTo (high + most_raised * last_measure (Some life)) (moment_of setting.system life front).lasting
+      → LastsUpTo (high + most_raised * last_measure (Some life)) (life_moment setting.system life front).lasting
   front_lasts high life front rest split h =
-      lasts_higher (high + most_raised * length front) (high + most_raised * last_measure (Some life)) (moment_of setting.system life front).lasting
+      lasts_higher (high + most_raised * length front) (high + most_raised * last_measure (Some life)) (life_moment setting.system life front).lasting
       (omega (arith, ap length split, length-append front rest))
       (entries_last setting.system valid high (start_of setting.system life.opening) front h)
 
   -- whatever a stop leaves of it
-  pub left_lasts : (high : ℕ) (life : LastLife) (kept : ℕ) (state : LastingState) → Leaves setting.system life kept state → LastsUpTo high life.opening
+  pub left_lasts : (high : ℕ) (life : LastLife) (kept : ℕ) (state : LastingState) → LifeLeaves setting.system life kept state → LastsUpTo high life.opening
       → LastsUpTo (high + most_raised * last_measure (Some life)) state
   left_lasts high life kept state leaves h =
       subst (LastsUpTo (high + most_raised * last_measure (Some life))) (sym leaves.left) (front_lasts high life leaves.front leaves.rest leaves.split h)
 
-  is_left_lasts : (high : ℕ) (last : Option LastLife) (kept : ℕ) (state : LastingState) → IsLeft setting last kept state → OpensUpTo setting high last → LastsUpTo (high + most_raised * last_measure last) state
+  is_left_lasts : (high : ℕ) (last : Option LastLife) (kept : ℕ) (state : LastingState) → IsStateLeft setting last kept state → OpensUpTo setting high last → LastsUpTo (high + most_raised * last_measure last) state
   is_left_lasts high None kept state is h = lasts_higher high (high + most_raised * 0) state (omega arith) (h state is)
   is_left_lasts high (Some life) kept state is h = left_lasts high life kept state is h
 
@@ -67,7 +67,7 @@ module _ (setting : Setting) (valid : IsSystem setting.system) where
     abbrev At : SessionState → Standing → Type 0
     At state standing = OpensUpTo setting (high + most_raised * lives_measure state.lives) (last_life standing)
 
-    opening_lasts : (cold : Bool) (bound : ℕ) → 1 ≤ bound → (outage : Outage) (kept : ℕ) (state : LastingState) → MayOpen cold setting outage kept state → OpensUpTo setting bound outage.last
+    opening_lasts : (cold : Bool) (bound : ℕ) → 1 ≤ bound → (outage : Outage) (kept : ℕ) (state : LastingState) → MayOpenWith cold setting outage kept state → OpensUpTo setting bound outage.last
         → LastsUpTo (bound + most_raised * last_measure outage.last) state
     opening_lasts false bound one outage kept state may h = found_lasts bound one outage kept state may h
     opening_lasts true bound one outage kept state may h =
@@ -80,7 +80,7 @@ module _ (setting : Setting) (valid : IsSystem setting.system) where
     called_stands true old life entries h = h
     called_stands false old life entries h = h
 
-    opens_stands : (cold : Bool) (old new : SessionState) (outage : Outage) → Opens cold setting old outage new → At old (Down outage) → LivesUpTo setting high new
+    opens_stands : (cold : Bool) (old new : SessionState) (outage : Outage) → OpensSession cold setting old outage new → At old (Down outage) → LivesUpTo setting high new
     opens_stands cold old new outage opens h =
         let bound = high + most_raised * lives_measure old.lives in
         subst (LivesUpTo setting high) (sym opens.goes)
@@ -135,7 +135,7 @@ module _ (setting : Setting) (valid : IsSystem setting.system) where
         blocks_stand blocks h.mid new h.later h.on (served_stands old h.mid h.first (asked_of setting.system block) h.here at)
 
     -- It holds once the disk has been opened that was handed in, where that counts up to the bound.
-    pub begun_stands : (first : SessionState) → Begins setting first → ((state : LastingState) → setting.begins state → LastsUpTo high state) → LivesUpTo setting high first
+    pub begun_stands : (first : SessionState) → BeginsSession setting first → ((state : LastingState) → setting.begins state → LastsUpTo high state) → LivesUpTo setting high first
     begun_stands first (inl h) handed = opens_stands false unbegun first no_life h (λ state begins. lasts_higher high (high + most_raised * 0) state (omega arith) (handed state begins))
     begun_stands first (inr h) handed = fails_stands false unbegun first no_life h (λ state begins. lasts_higher high (high + most_raised * 0) state (omega arith) (handed state begins))
 
@@ -153,6 +153,6 @@ module _ (setting : Setting) (valid : IsSystem setting.system) where
     turned_stands Restart old new standing stands e at = same_stands old new standing stands e at
     turned_stands ColdStart old new standing stands e at = same_stands old new standing stands e at
 
-    pub turns_stand : (blocks : List Block) (old new : SessionState) → IsBegun setting.system blocks old new → LivesUpTo setting high old → LivesUpTo setting high new
+    pub turns_stand : (blocks : List Block) (old new : SessionState) → IsSessionBegun setting.system blocks old new → LivesUpTo setting high old → LivesUpTo setting high new
     turns_stand [] old new e at = subst (LivesUpTo setting high) (sym e) at
     turns_stand (block ∷ blocks) old new h at = turned_stands (asked_of setting.system block) old new old.standing refl h at

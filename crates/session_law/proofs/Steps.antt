@@ -11,15 +11,15 @@ use Rattle.model_messages.specs.declared.ended_message.EndedMessage.{EndedMessag
 use Rattle.model_system.specs.System.{System}
 use Rattle.model_machine.specs.declared.command.Command.{Command}
 use Rattle.model_machine.specs.declared.entry.ControlCall.TheVariants.{Turn}
-use Rattle.model_machine.specs.ModelMachineCommands.{CommandAnswer, steps_by, lasting_command, command_answer, command_step}
+use Rattle.model_machine.specs.CommandAnswers.{CommandAnswer, steps_by, lasting_command, command_answer, command_step}
 use Rattle.model_machine.specs.Trial.{Trial, Advance}
 use Rattle.model_machine.specs.Trial.WorkEnd.{Ends, Syncs, Abends}
 use Rattle.model_machine.specs.Trial.Advance.{Goes, Stops}
 use Rattle.model_machine.specs.Machine.{LastingState, Moment, Slot, slot_at}
-use Rattle.model_machine.specs.Lasting.{LastingStep, applied}
-use Rattle.model_machine.specs.Lasting.LastingStep.{Completes, Discards, Commands}
+use Rattle.model_machine.specs.LastingSteps.{LastingStep, applied}
+use Rattle.model_machine.specs.LastingSteps.LastingStep.{Completes, Discards, Commands}
 use Rattle.model_machine.specs.Requests.{blocked_now}
-use Rattle.model_machine.specs.Steps.{AtWork, slot_work, ended_step, turn_step, unless_blocked, step_in_turn, lasting_step}
+use Rattle.model_machine.specs.MachineCalls.{AtWork, slot_work, ended_step, turn_step, unless_blocked, step_in_turn, lasting_step}
 
 -- the step, if there is one, is of this kind
 abbrev pub FineBy : (LastingStep → Type 0) → Option LastingStep → Type 0

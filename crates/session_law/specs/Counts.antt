@@ -3,7 +3,7 @@ use Rattle.std.specs.Prelude.{ℕ, ◌+◌, ◌*◌, ◌≤◌, List, Option, So
 use Rattle.std.specs.List.{AllByRecursion}
 use Rattle.model_machine.specs.Machine.{LastingState}
 use Rattle.model_session.specs.Lives.{LastLife}
-use Rattle.model_session.specs.Standing.{Setting, SessionState, last_life}
+use Rattle.model_session.specs.SessionState.{Setting, SessionState, last_life}
 use Rattle.model_messages.specs.declared.replies.TerminalReplies.{TerminalReplies}
 use Rattle.session_law.specs.Measures.{lives_measure}
 

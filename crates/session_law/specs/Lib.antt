@@ -1,5 +1,5 @@
-pub mod Resending
-pub mod Long
+pub mod ResentInputs
+pub mod LongInputs
 pub mod Counts
 pub mod Measures
-pub mod Spent
+pub mod SpentCounters

@@ -4,7 +4,7 @@ use Rattle.model_machine.specs.declared.entry.Entry.{Entry}
 use Rattle.model_session.specs.declared.asked.Asked.{Asked}
 use Rattle.model_session.specs.declared.asked.Asked.TheVariants.{Quiet}
 use Rattle.model_session.specs.Lives.{LifeState, LastLife}
-use Rattle.model_session.specs.Standing.{SessionState, last_life}
+use Rattle.model_session.specs.SessionState.{SessionState, last_life}
 
 -- a life's opening and its entries
 abbrev pub life_measure : List Entry → ℕ
@@ -23,9 +23,9 @@ abbrev pub measure : SessionState → ℕ
 measure state = lives_measure state.lives + last_measure (last_life state.standing) + length state.stops
 
 -- What a block may add to it: an entry and a stop, and a QUIET the entries of its turns.
-abbrev pub weight : Asked → ℕ
-weight (Quiet most) = most + 1
-weight _ = 2
+abbrev pub block_weight : Asked → ℕ
+block_weight (Quiet most) = most + 1
+block_weight _ = 2
 
 -- what a block may add at most, as a QUIET names at most a million turns
 abbrev pub most_weight : ℕ

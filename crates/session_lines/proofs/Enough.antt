@@ -4,23 +4,23 @@ use Rattle.std.proofs.Common.{◌≡◌, ◌∙◌, ℕ, ◌≤◌, Bool, true, 
 use Rattle.std.specs.Prelude.{Option, Some, None, Result, Ok, Err, IfSome, find, if◌then◌else◌}
 use Rattle.std.specs.Option.{option_and_then, option_map}
 use Rattle.std.specs.Str.{bytes_eq}
-use Rattle.text_rows.specs.Lowest.{also}
+use Rattle.text_rows.specs.LowestRule.{also}
 use Rattle.model_system.specs.declared.fields.FieldValue.{FieldValue}
-use Rattle.model_system.specs.Formats.{FormatLines}
+use Rattle.model_system.specs.FormatLines.{FormatLines}
 use Rattle.model_system.specs.declared.screen.Screen.{Screen}
-use Rattle.model_system.specs.ModelSystemFormats.{format_named, format_of}
+use Rattle.model_system.specs.SystemFormats.{format_named, format_of}
 use Rattle.model_system.specs.System.{System}
 use Rattle.model_session.specs.declared.asked.Form.{Form}
 use Rattle.model_session.specs.declared.asked.Form.TheVariants.{Input as InputForm, Screen as ScreenForm, Receive as ReceiveForm, Acknowledge as AcknowledgeForm, Turn as TurnForm, Quiet as QuietForm, Power as PowerForm, PowerIn as PowerInForm}
 use Rattle.model_session.specs.declared.asked.Asked.{Asked}
 use Rattle.model_session.specs.declared.asked.Asked.TheVariants.{Bad}
-use Rattle.model_session.specs.Blocks.{Block, alone, and_field, and_line, and_text, is_screen, takes_further}
-use Rattle.model_session.specs.Bounded.{AsksAlike, HasScreens, whole, whole_input, whole_screen, with_lines}
-use Rattle.model_session.specs.Lines.{asked_by, asked_of, block_form, command_asked, entered_asked, first_long, form_of, further_forms, input_long, input_texts, is_command, printable_block, screen_asked, unless_long}
+use Rattle.model_session.specs.Blocks.{Block, block_alone, and_field, and_line, and_text, is_screen, takes_further}
+use Rattle.model_session.specs.BoundedBlocks.{AsksAlike, HasScreens, whole, whole_input, whole_screen, with_lines}
+use Rattle.model_session.specs.Lines.{asked_by, asked_of, block_form, command_asked, entered_asked, first_long, line_form, further_forms, input_long, input_texts, is_command, printable_block, screen_asked, unless_long}
 use Rattle.model_session.proofs.Bounded.{keeps_enough}
-use Rattle.model_machine.specs.Commands.{command_of}
-use Rattle.model_system.specs.Entering.{entered}
-use Rattle.session_lines.specs.Asking.{HasFew}
+use Rattle.model_machine.specs.CommandText.{command_of}
+use Rattle.model_system.specs.ScreenInput.{entered}
+use Rattle.session_lines.specs.BlockReading.{HasFew}
 
 -- ---- the system with the screen of one terminal alone
 
@@ -177,16 +177,16 @@ blocks_alike system kept all same few goes = by (is_command kept.line) (is_comma
   by true true e f few goes = inl (ap (λ (line : List ℕ). command_asked (command_of line)) same)
   by false false e f few goes =
       let whole_form : Result Form ℕ → Result Form ℕ = λ line. also line (besides_of all) in
-      subst (λ (line : List ℕ). AsksAlike (asked_by system kept form) (asked_by system all (whole_form (form_of (length system.regions) line)))) same
-      (formed_alike system kept all form (form_of (length system.regions) kept.line) (besides_of kept) (besides_of all) refl
-      (subst (λ (line : List ℕ). AsksAlike (asked_by (cut_by system form) kept form) (asked_by (cut_by system form) all (whole_form (form_of (length system.regions) line)))) (sym same)
+      subst (λ (line : List ℕ). AsksAlike (asked_by system kept form) (asked_by system all (whole_form (line_form (length system.regions) line)))) same
+      (formed_alike system kept all form (line_form (length system.regions) kept.line) (besides_of kept) (besides_of all) refl
+      (subst (λ (line : List ℕ). AsksAlike (asked_by (cut_by system form) kept form) (asked_by (cut_by system form) all (whole_form (line_form (length system.regions) line)))) (sym same)
       (goes (cut_screens system form (few refl)))))
   by true false e f few goes = cc
   by false true e f few goes = cc
 
 -- ---- the block that is kept, and all lines
 
-line_stays : (block : Block) (line : List ℕ) → (and_line block line).line ≡ block.line
+pub line_stays : (block : Block) (line : List ℕ) → (and_line block line).line ≡ block.line
 line_stays block line = by (is_screen block.line) where
   by : (b : Bool) → (if b then and_field block line else and_text block line).line ≡ block.line
   by true = refl
@@ -203,9 +203,9 @@ whole_stays line lines = by (is_screen line) where
   by false = refl
 
 pub enough_asked : (system : System) (line : List ℕ) (lines : List (List ℕ)) → takes_further line ≡ true
-    → (is_command (with_lines (alone line) lines).line ≡ false → HasFew system (block_form (length system.regions) (with_lines (alone line) lines)))
-    → AsksAlike (asked_of system (with_lines (alone line) lines)) (asked_of system (whole line lines))
+    → (is_command (with_lines (block_alone line) lines).line ≡ false → HasFew system (block_form (length system.regions) (with_lines (block_alone line) lines)))
+    → AsksAlike (asked_of system (with_lines (block_alone line) lines)) (asked_of system (whole line lines))
 enough_asked system line lines takes few =
-    let kept = with_lines (alone line) lines in
-    blocks_alike system kept (whole line lines) (lines_stay (alone line) lines ∙ sym (whole_stays line lines)) few
+    let kept = with_lines (block_alone line) lines in
+    blocks_alike system kept (whole line lines) (lines_stay (block_alone line) lines ∙ sym (whole_stays line lines)) few
     (λ screens. keeps_enough (cut_by system (block_form (length system.regions) kept)) line lines screens takes)

@@ -1,9 +1,9 @@
 -- A block with one more field line.
 use Rattle.std.proofs.Common.{◌≡◌, ◌∙◌, ℕ, List, ap, sym, refl}
 use Rattle.std.specs.Prelude.{Result, Ok, Err, OnOk}
-use Rattle.text_rows.specs.Lowest.{also}
+use Rattle.text_rows.specs.LowestRule.{also}
 use Rattle.model_system.specs.declared.fields.FieldValue.{FieldValue}
-use Rattle.model_session.specs.Blocks.{Block, and_field, and_value, field_of, first_values, judged, put_value}
+use Rattle.model_session.specs.Blocks.{Block, and_field, and_value, field_of, first_values, judged_field, put_value}
 
 no_more : (before : Result (Unit {0}) ℕ) → also {A = Unit {0}} {B = Unit {0}} before (Ok tt) ≡ before
 unfolding also
@@ -11,7 +11,7 @@ no_more (Ok value) = refl
 no_more (Err rule) = refl
 
 abbrev with_field : Block → Result FieldValue ℕ → Block
-with_field block read = record block { values = and_value block.values read; others = record block.others { fields = also block.others.fields (judged read) } }
+with_field block read = record block { values = and_value block.values read; others = record block.others { fields = also block.others.fields (judged_field read) } }
 
 -- its value is put among the others, and no rule is broken
 pub field_put : (block : Block) (line : List ℕ) (value : FieldValue) (values : List FieldValue) → field_of line ≡ Ok value → values ≡ first_values (put_value value block.values)

@@ -5,9 +5,9 @@ use Rattle.std.specs.Option.{option_map}
 use Rattle.tm_types.specs.Segment.{is_printable, are_printable}
 use Rattle.tm_types.specs.Words.{operands}
 use Rattle.text_rows.specs.Lines.{split_at}
-use Rattle.text_rows.specs.Lowest.{also}
+use Rattle.text_rows.specs.LowestRule.{also}
 use Rattle.model_system.specs.declared.fields.FieldValue.{FieldValue}
-use Rattle.model_session.specs.Blocks.{field_of, field_parts, has_operand, with_text}
+use Rattle.model_session.specs.Blocks.{field_of, field_parts, has_operand, with_field_text}
 use Rattle.model_session.specs.Numbers.{name_operand}
 use Rattle.session_lines.proofs.Printable.{all_drop, printable_operands}
 
@@ -15,7 +15,7 @@ use Rattle.session_lines.proofs.Printable.{all_drop, printable_operands}
 abbrev HasText : Result FieldValue ℕ → Type 0
 HasText read = IfOk read (λ value. are_printable value.text ≡ true)
 
-named_text : (name : Result (List ℕ) ℕ) (text : List ℕ) → are_printable text ≡ true → HasText (with_text text name)
+named_text : (name : Result (List ℕ) ℕ) (text : List ℕ) → are_printable text ≡ true → HasText (with_field_text text name)
 named_text (Ok name) text h = h
 named_text (Err rule) text h = tt
 

@@ -1,5 +1,5 @@
 -- A value that is put among the last values.
-use Rattle.std.proofs.Common.{◌≡◌, ◌∙◌, ℕ, ◌≤◌, Bool, true, false, ◌||◌, ◌&&◌, cond, nat_lt, ◌<◌, nat_eq, List, [], ◌∷◌, ◌++◌, length, take, length-append, is_some, ap, sym, refl, arith}
+use Rattle.std.proofs.Common.{◌≡◌, ◌∙◌, ℕ, ◌≤◌, Bool, true, false, ◌||◌, cond, nat_lt, ◌<◌, nat_eq, List, [], ◌∷◌, ◌++◌, length, take, length-append, is_some, ap, sym, refl, arith}
 use Rattle.std.specs.Prelude.{Option, Some}
 use Rattle.std.specs.List.{list_any}
 use Rattle.std.specs.Map.{lookup}
@@ -13,8 +13,9 @@ use Rattle.tm_types.specs.Segment.{are_printable}
 use Rattle.model_system.specs.declared.fields.FieldValue.{FieldValue}
 use Rattle.model_session.specs.Blocks.{first_values, put_value}
 use Rattle.mfs_edit.specs.Texts.{values_printable}
-use Rattle.session_lines.specs.Values.{is_kept, value_of, values_of}
+use Rattle.session_lines.specs.LastValues.{is_kept, last_value_of, values_of}
 use Rattle.session_lines.proofs.Printable.{both_of}
+use Rattle.tm_types.proofs.Truths.{both_true}
 
 -- names are the same from both sides
 same_names : (one other : List ℕ) → bytes_eq one other ≡ bytes_eq other one
@@ -41,22 +42,22 @@ has_entry name (entry ∷ entries) =
     found_by (bytes_eq name entry.0) (bytes_eq entry.0 name) entry.1 (lookup (pointwise nat_eq name) entries) (has_name name (values_of entries)) (same_names name entry.0) (has_entry name entries)
 
 pub as_many : (entries : List (List ℕ × List ℕ)) → length (values_of entries) ≡ length entries
-as_many entries = length-map entries value_of
+as_many entries = length-map entries last_value_of
 
 -- a value that is put into the map is put among the values
 put_by : (p q : Bool) (name other text : List ℕ) (entries put : List (List ℕ × List ℕ)) (values : List FieldValue) (first : FieldValue) → p ≡ q → (p ≡ true → name ≡ other) → values_of put ≡ values
-    → values_of (cond p ((other, text) ∷ entries) put) ≡ cond q (value_of (name, text) ∷ values_of entries) values
-put_by true true name other text entries put values first e same h = ap (λ (n : List ℕ). value_of (n, text) ∷ values_of entries) (sym (same refl))
+    → values_of (cond p ((other, text) ∷ entries) put) ≡ cond q (last_value_of (name, text) ∷ values_of entries) values
+put_by true true name other text entries put values first e same h = ap (λ (n : List ℕ). last_value_of (n, text) ∷ values_of entries) (sym (same refl))
 put_by false false name other text entries put values first e same h = h
 put_by true false name other text entries put values first e same h = cc
 put_by false true name other text entries put values first e same h = cc
 
-entry_put : (name text : List ℕ) (entries : List (List ℕ × List ℕ)) → values_of (insert_entry (pointwise nat_eq) entries name text) ≡ put_value (value_of (name, text)) (values_of entries)
+entry_put : (name text : List ℕ) (entries : List (List ℕ × List ℕ)) → values_of (insert_entry (pointwise nat_eq) entries name text) ≡ put_value (last_value_of (name, text)) (values_of entries)
 entry_put name text [] = refl
 entry_put name text (entry ∷ entries) =
     put_by (bytes_eq name entry.0) (bytes_eq entry.0 name) name entry.0 text entries (entry ∷ insert_entry (pointwise nat_eq) entries name text)
-    (value_of entry ∷ put_value (value_of (name, text)) (values_of entries)) (value_of entry) (same_names name entry.0) (bytes_eq-Decides name entry.0).0
-    (ap (λ (values : List FieldValue). value_of entry ∷ values) (entry_put name text entries))
+    (last_value_of entry ∷ put_value (last_value_of (name, text)) (values_of entries)) (last_value_of entry) (same_names name entry.0) (bytes_eq-Decides name entry.0).0
+    (ap (λ (values : List FieldValue). last_value_of entry ∷ values) (entry_put name text entries))
 
 -- ---- how many values there are
 
@@ -92,23 +93,18 @@ pub kept_value : (name text : List ℕ) (entries put : List (List ℕ × List �
 unfolding first_values
 kept_value name text entries put e few kept =
     ap values_of e ∙ entry_put name text entries
-    ∙ sym (take_all 1921 (put_value (value_of (name, text)) (values_of entries)) (few_put (value_of (name, text)) (values_of entries) (omega (arith, few, length-map entries value_of)) kept))
+    ∙ sym (take_all 1921 (put_value (last_value_of (name, text)) (values_of entries)) (few_put (last_value_of (name, text)) (values_of entries) (omega (arith, few, length-map entries last_value_of)) kept))
 
 pub left_value : (name text : List ℕ) (entries : List (List ℕ × List ℕ)) → length entries ≤ 1921 → is_kept name (values_of entries) ≡ false
     → values_of entries ≡ first_values (put_value (record { name = name; text = text }) (values_of entries))
 unfolding first_values
 left_value name text entries few left = by (has_name name (values_of entries)) (nat_lt (length (values_of entries)) 1921) refl refl left where
-  by : (b c : Bool) → has_name name (values_of entries) ≡ b → nat_lt (length (values_of entries)) 1921 ≡ c → (b || c) ≡ false → values_of entries ≡ take 1921 (put_value (value_of (name, text)) (values_of entries))
+  by : (b c : Bool) → has_name name (values_of entries) ≡ b → nat_lt (length (values_of entries)) 1921 ≡ c → (b || c) ≡ false → values_of entries ≡ take 1921 (put_value (last_value_of (name, text)) (values_of entries))
   by false false e f h =
-      let full : length (values_of entries) ≡ 1921 = grind (arith, nat_tests, length-map entries value_of) in
-      sym (take_at (values_of entries) (value_of (name, text) ∷ []) 1921 full) ∙ ap (λ (l : List FieldValue). take 1921 l) (sym (put_behind (value_of (name, text)) (values_of entries) e))
+      let full : length (values_of entries) ≡ 1921 = grind (arith, nat_tests, length-map entries last_value_of) in
+      sym (take_at (values_of entries) (last_value_of (name, text) ∷ []) 1921 full) ∙ ap (λ (l : List FieldValue). take 1921 l) (sym (put_behind (last_value_of (name, text)) (values_of entries) e))
   by true c e f h = cc
   by false true e f h = cc
-
--- the values stay printable
-both_true : (a b : Bool) → a ≡ true → b ≡ true → (a && b) ≡ true
-both_true true b e f = f
-both_true false b e f = cc
 
 put_printable : (value : FieldValue) (values : List FieldValue) → are_printable value.text ≡ true → values_printable values ≡ true → values_printable (put_value value values) ≡ true
 put_printable value [] h all = both_true (are_printable value.text) true h refl
@@ -121,14 +117,14 @@ put_printable value (first ∷ values) h all =
 
 stays_printable : (name text : List ℕ) (entries put : List (List ℕ × List ℕ)) → put ≡ insert_entry (pointwise nat_eq) entries name text → are_printable text ≡ true
     → values_printable (values_of entries) ≡ true → values_printable (values_of put) ≡ true
-stays_printable name text entries put e h all = ap values_printable (ap values_of e ∙ entry_put name text entries) ∙ put_printable (value_of (name, text)) (values_of entries) h all
+stays_printable name text entries put e h all = ap values_printable (ap values_of e ∙ entry_put name text entries) ∙ put_printable (last_value_of (name, text)) (values_of entries) h all
 
 stays_few : (name text : List ℕ) (entries put : List (List ℕ × List ℕ)) → put ≡ insert_entry (pointwise nat_eq) entries name text → length entries ≤ 1921 → is_kept name (values_of entries) ≡ true
     → length put ≤ 1921
 stays_few name text entries put e few kept =
-    let among = few_put (value_of (name, text)) (values_of entries) (omega (arith, few, length-map entries value_of)) kept in
+    let among = few_put (last_value_of (name, text)) (values_of entries) (omega (arith, few, length-map entries last_value_of)) kept in
     let same = ap (λ (l : List FieldValue). length l) (ap values_of e ∙ entry_put name text entries) in
-    omega (arith, among, same, length-map put value_of)
+    omega (arith, among, same, length-map put last_value_of)
 
 pub stays_latest : (name text : List ℕ) (entries put : List (List ℕ × List ℕ)) → put ≡ insert_entry (pointwise nat_eq) entries name text → are_printable text ≡ true → is_kept name (values_of entries) ≡ true
     → (values_printable (values_of entries) ≡ true) × (length entries ≤ 1921) → (values_printable (values_of put) ≡ true) × (length put ≤ 1921)

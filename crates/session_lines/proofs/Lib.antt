@@ -4,6 +4,6 @@ mod Places
 mod FieldTexts
 mod Latest
 mod FieldLines
-mod Enough
+pub mod Enough
 mod Screens
 mod Stops

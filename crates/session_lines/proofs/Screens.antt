@@ -5,8 +5,8 @@ use Rattle.std.specs.List.{list_all}
 use Rattle.std.proofs.lemmas.Bool.Decides.{nat_tests}
 use Rattle.tm_types.specs.Segment.{are_printable}
 use Rattle.model_system.specs.declared.fields.FieldValue.{FieldValue}
-use Rattle.model_system.specs.Entering.{entered}
-use Rattle.model_system.specs.Formats.{FormatLines}
+use Rattle.model_system.specs.ScreenInput.{entered}
+use Rattle.model_system.specs.FormatLines.{FormatLines}
 use Rattle.model_machine.specs.declared.entry.ControlCall.TheVariants.{Input}
 use Rattle.model_system.specs.System.{System}
 use Rattle.model_session.specs.declared.asked.Asked.{Asked}

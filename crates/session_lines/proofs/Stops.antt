@@ -2,7 +2,7 @@
 use Rattle.std.proofs.Common.{ℕ, Bool, true, false, cond, List, [], ◌∷◌, length, nat_lt}
 use Rattle.std.specs.Prelude.{Option, Some, None}
 use Rattle.model_session.specs.Lines.{first_long}
-use Rattle.session_lines.specs.Asking.{IsStop}
+use Rattle.session_lines.specs.BlockReading.{IsStop}
 use Rattle.session_lines.specs.declared.asking.Stop.{Stop}
 use Rattle.session_lines.specs.declared.asking.Stop.TheVariants.{TooLong, Memory}
 

@@ -1,2 +1,2 @@
-pub mod Asking
-pub mod Values
+pub mod BlockReading
+pub mod LastValues

@@ -1,14 +1,14 @@
 //! What a block asks for.
 ghost use Rattle.std.specs.Prelude.{◌≡◌, ℕ, ◌+◌, ◌<◌, ◌≤◌, ◌++◌, ◌∷◌, [], true, false, Some, None, Err, List, Result, IsTrue, IfOk, IfSome, IfErr, OnOk, OnErr, length, map, replicate};
 ghost use Rattle.std.specs.List.{list_all};
-ghost use Rattle.model_system.specs.Breaks.{KeepsRule};
-ghost use Rattle.model_system.specs.ModelSystemFormats.{format_of};
+ghost use Rattle.model_system.specs.FormatRule.{KeepsRule};
+ghost use Rattle.model_system.specs.SystemFormats.{format_of};
 ghost use Rattle.tm_types.specs.Segment.{are_printable};
 ghost use Rattle.model_session.specs.Lines as spec;
-ghost use Rattle.model_session.specs.Blocks.{alone, takes_further};
-ghost use Rattle.model_session.specs.Bounded.{AsksAlike, whole, with_lines};
-ghost use Rattle.mfs_edit.specs.Answers.{AnswersInput};
-ghost use Rattle.session_lines.specs.Asking.{HasFew, IsFullStop, IsPrintable, IsStop, IsWithin, MayWant, WantsInput};
+ghost use Rattle.model_session.specs.Blocks.{block_alone, takes_further};
+ghost use Rattle.model_session.specs.BoundedBlocks.{AsksAlike, whole, with_lines};
+ghost use Rattle.mfs_edit.specs.InputAnswers.{AnswersInput};
+ghost use Rattle.session_lines.specs.BlockReading.{HasFew, IsFullStop, IsPrintable, IsStop, IsFormWithin, MayWant, WantsInput};
 
 use crate::block::{Block, is_screen};
 use crate::commands::{command_asked, is_command};
@@ -34,7 +34,7 @@ pub fn read_block(alloc: Global, system: &System, block: &Block) -> Result<Asked
     ensures asked { IfOk result (λ asked. asked ≡ spec.asked_of system.now block.now) }
     ensures can { IfOk result (spec.CanAsk (length system.now.regions)) }
     ensures memory { OnErr result (MayWant (length system.now.regions) block.now) }
-    ensures enough { (line : List ℕ) (lines : List (List ℕ)) → IsTrue (takes_further line) → block.now ≡ with_lines (alone line) lines → IfOk result (λ asked. AsksAlike asked (spec.asked_of system.now (whole line lines))) }
+    ensures enough { (line : List ℕ) (lines : List (List ℕ)) → IsTrue (takes_further line) → block.now ≡ with_lines (block_alone line) lines → IfOk result (λ asked. AsksAlike asked (spec.asked_of system.now (whole line lines))) }
 {
     asked_block(alloc, system, block)
 }
@@ -83,7 +83,7 @@ fn lines_asked(alloc: Global, system: &System, block: &Block) -> Result<Asked, M
 fn block_form(regions: u32, block: &Block) -> Result<Form, u8>
     ensures value { result ≡ spec.block_form regions block.now }
     ensures printable { OnOk result (IsPrintable block.now) }
-    ensures within { IfOk result (IsWithin regions) }
+    ensures within { IfOk result (IsFormWithin regions) }
 {
     let lines = also(further_forms(block), printable_block(block));
     also(form_of(regions, block.line()), lines)

@@ -1,9 +1,9 @@
 //! A line, with the `+` lines that belong to it.
 ghost use Rattle.std.specs.Prelude.{◌≡◌, ◌+◌, ◌<◌, ◌≤◌, ◌^◌, false, IfOk, IfNone, IfSome, Err, OnOk, OnErr, IsTrue, length, nat_lt};
 ghost use Rattle.model_session.specs.Blocks as spec;
-ghost use Rattle.text_rows.specs.Lowest.{also};
+ghost use Rattle.text_rows.specs.LowestRule.{also};
 ghost use Rattle.mfs_edit.specs.Texts.{values_printable};
-ghost use Rattle.session_lines.specs.Values.{IsForKept};
+ghost use Rattle.session_lines.specs.LastValues.{IsForKept};
 
 use crate::fields::field_of;
 use crate::values::LastValues;
@@ -43,7 +43,7 @@ impl Model for Block {
 impl Block {
     /// A line without a `+` line. This takes no memory.
     pub fn alone(alloc: Global, line: Line) -> Block
-        ensures { result ≡ spec.alone line }
+        ensures { result ≡ spec.block_alone line }
     {
         Block {
             line,

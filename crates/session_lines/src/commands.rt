@@ -1,7 +1,7 @@
 //! Operator commands as session lines.
 ghost use Rattle.std.specs.Prelude.{◌≡◌, ℕ, take, Ok};
 ghost use Rattle.model_session.specs.Lines as spec;
-ghost use Rattle.model_machine.specs.Commands.{command_of};
+ghost use Rattle.model_machine.specs.CommandText.{command_of};
 
 use model_machine::{Command, ControlCall};
 use model_session::Asked;

@@ -19,7 +19,7 @@ pub(crate) fn field_of(line: &[u8]) -> Result<(Name, &[u8]), u8>
     judged_field(line)
 }
 
-#[tactic(auto, unfolding(model_session::specs::Blocks::field_of, text_rows::specs::Lowest::also))]
+#[tactic(auto, unfolding(model_session::specs::Blocks::field_of, text_rows::specs::LowestRule::also))]
 fn judged_field(line: &[u8]) -> Result<(Name, &[u8]), u8>
     ensures { MatchResult result (λ field. spec.field_of line.now ≡ Ok (record { name = field.0; text = field.1.now })) (λ rule. spec.field_of line.now ≡ Err rule) }
 {
@@ -44,7 +44,7 @@ fn field_parts(line: &[u8]) -> Result<(Name, &[u8]), u8>
 }
 
 fn with_text(name: Result<Name, u8>, text: &[u8]) -> Result<(Name, &[u8]), u8>
-    ensures { MatchResult result (λ field. spec.with_text text.now name ≡ Ok (record { name = field.0; text = field.1.now })) (λ rule. spec.with_text text.now name ≡ Err rule) }
+    ensures { MatchResult result (λ field. spec.with_field_text text.now name ≡ Ok (record { name = field.0; text = field.1.now })) (λ rule. spec.with_field_text text.now name ≡ Err rule) }
 {
     match name {
         Ok(name) => Ok((name, text)),
@@ -54,7 +54,7 @@ fn with_text(name: Result<Name, u8>, text: &[u8]) -> Result<(Name, &[u8]), u8>
 
 /// Rule 6 where a byte of the line isn't printable.
 fn printable_line(line: &[u8]) -> Result<(), u8>
-    ensures { result ≡ spec.printable_line line.now }
+    ensures { result ≡ spec.printable_block_line line.now }
 {
     if are_printable(line) {
         Ok(())

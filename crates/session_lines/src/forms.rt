@@ -1,7 +1,7 @@
 //! The forms of session lines.
 ghost use Rattle.std.specs.Prelude.{◌≡◌, ◌≤◌, ℕ, IfOk};
 ghost use Rattle.model_session.specs.Lines as spec;
-ghost use Rattle.session_lines.specs.Asking.{IsWithin};
+ghost use Rattle.session_lines.specs.BlockReading.{IsFormWithin};
 
 use crate::block::is_screen;
 use crate::numbers::{name_operand, number_operand};
@@ -28,7 +28,7 @@ fn message_number(text: &[u8]) -> Result<u64, u8>
 #[tactic(auto, unfolding(model_session::specs::Lines::input_form))]
 fn input_form(line: &[u8]) -> Result<Form, u8>
     ensures value { result ≡ spec.input_form line.now }
-    ensures within { IfOk result (λ form. (regions : ℕ) → IsWithin regions form) }
+    ensures within { IfOk result (λ form. (regions : ℕ) → IsFormWithin regions form) }
 {
     if operand_count(line) < 3 {
         return Err(WRONG_OPERANDS);
@@ -59,7 +59,7 @@ fn terminal_and_number(line: &[u8]) -> Result<(Name, u64), u8>
 #[tactic(auto, unfolding(model_session::specs::Lines::screen_form))]
 fn screen_form(line: &[u8]) -> Result<Form, u8>
     ensures value { result ≡ spec.screen_form line.now }
-    ensures within { IfOk result (λ form. (regions : ℕ) → IsWithin regions form) }
+    ensures within { IfOk result (λ form. (regions : ℕ) → IsFormWithin regions form) }
 {
     match terminal_and_number(line) {
         Ok((terminal, number)) => Ok(Form::Screen(terminal, number)),
@@ -71,7 +71,7 @@ fn screen_form(line: &[u8]) -> Result<Form, u8>
 #[tactic(auto, unfolding(model_session::specs::Lines::receive_form))]
 fn receive_form(line: &[u8]) -> Result<Form, u8>
     ensures value { result ≡ spec.receive_form line.now }
-    ensures within { IfOk result (λ form. (regions : ℕ) → IsWithin regions form) }
+    ensures within { IfOk result (λ form. (regions : ℕ) → IsFormWithin regions form) }
 {
     if operand_count(line) != 1 {
         return Err(WRONG_OPERANDS);
@@ -86,7 +86,7 @@ fn receive_form(line: &[u8]) -> Result<Form, u8>
 #[tactic(auto, unfolding(model_session::specs::Lines::acknowledge_form))]
 fn acknowledge_form(line: &[u8]) -> Result<Form, u8>
     ensures value { result ≡ spec.acknowledge_form line.now }
-    ensures within { IfOk result (λ form. (regions : ℕ) → IsWithin regions form) }
+    ensures within { IfOk result (λ form. (regions : ℕ) → IsFormWithin regions form) }
 {
     match terminal_and_number(line) {
         Ok((terminal, number)) => Ok(Form::Acknowledge(terminal, number)),
@@ -98,7 +98,7 @@ fn acknowledge_form(line: &[u8]) -> Result<Form, u8>
 #[tactic(auto, unfolding(model_session::specs::Lines::turn_form))]
 fn turn_form(regions: u32, line: &[u8]) -> Result<Form, u8>
     ensures value { result ≡ spec.turn_form regions line.now }
-    ensures within { IfOk result (IsWithin regions) }
+    ensures within { IfOk result (IsFormWithin regions) }
 {
     if operand_count(line) != 1 {
         return Err(WRONG_OPERANDS);
@@ -113,7 +113,7 @@ fn turn_form(regions: u32, line: &[u8]) -> Result<Form, u8>
 #[tactic(auto, unfolding(model_session::specs::Lines::quiet_form))]
 fn quiet_form(line: &[u8]) -> Result<Form, u8>
     ensures value { result ≡ spec.quiet_form line.now }
-    ensures within { IfOk result (λ form. (regions : ℕ) → IsWithin regions form) }
+    ensures within { IfOk result (λ form. (regions : ℕ) → IsFormWithin regions form) }
 {
     if operand_count(line) != 1 {
         return Err(WRONG_OPERANDS);
@@ -134,7 +134,7 @@ fn pick_number(text: &[u8]) -> Result<u64, u8>
 /// `POWER IN n p`
 fn power_in_form(line: &[u8]) -> Result<Form, u8>
     ensures value { result ≡ spec.power_in_form line.now }
-    ensures within { IfOk result (λ form. (regions : ℕ) → IsWithin regions form) }
+    ensures within { IfOk result (λ form. (regions : ℕ) → IsFormWithin regions form) }
 {
     if operand_count(line) != 3 {
         return Err(WRONG_OPERANDS);
@@ -151,7 +151,7 @@ fn power_in_form(line: &[u8]) -> Result<Form, u8>
 #[tactic(auto, unfolding(model_session::specs::Lines::power_form))]
 fn power_form(line: &[u8]) -> Result<Form, u8>
     ensures value { result ≡ spec.power_form line.now }
-    ensures within { IfOk result (λ form. (regions : ℕ) → IsWithin regions form) }
+    ensures within { IfOk result (λ form. (regions : ℕ) → IsFormWithin regions form) }
 {
     if first_word(operands(line)) == b"IN".as_slice() {
         return power_in_form(line);
@@ -169,7 +169,7 @@ fn power_form(line: &[u8]) -> Result<Form, u8>
 #[tactic(auto, unfolding(model_session::specs::Lines::lone_form))]
 fn lone_form(line: &[u8]) -> Result<Form, u8>
     ensures value { result ≡ spec.lone_form line.now }
-    ensures within { IfOk result (λ form. (regions : ℕ) → IsWithin regions form) }
+    ensures within { IfOk result (λ form. (regions : ℕ) → IsFormWithin regions form) }
 {
     if operand_count(line) == 0 {
         Err(WRONG_OPERANDS)
@@ -180,10 +180,10 @@ fn lone_form(line: &[u8]) -> Result<Form, u8>
 
 /// The form of a line, of a system with so many regions, or the lowest rule that it breaks; a byte
 /// that isn't printable is not looked for.
-#[tactic(auto, unfolding(model_session::specs::Lines::form_of))]
+#[tactic(auto, unfolding(model_session::specs::Lines::line_form))]
 pub(crate) fn form_of(regions: u32, line: &[u8]) -> Result<Form, u8>
-    ensures value { result ≡ spec.form_of regions line.now }
-    ensures within { IfOk result (IsWithin regions) }
+    ensures value { result ≡ spec.line_form regions line.now }
+    ensures within { IfOk result (IsFormWithin regions) }
 {
     let word = first_word(line);
     if word == b"IN".as_slice() {

@@ -47,7 +47,7 @@ pub fn number_in(low: u64, high: u64, text: &[u8]) -> Option<u64>
 }
 
 fn is_number(text: &[u8]) -> bool
-    ensures { result ≡ spec.is_number text.now }
+    ensures { result ≡ spec.is_padded_number text.now }
 {
     !text.is_empty() && text.len() <= 20 && are_digits(text)
 }

@@ -6,7 +6,7 @@ ghost use Rattle.model_system.specs.declared.fields.FieldValue.{FieldValue};
 ghost use Rattle.model_session.specs.Blocks as spec;
 ghost use Rattle.mfs_edit.specs.Texts.{values_printable};
 ghost use Rattle.tm_types.specs.Segment.{are_printable};
-ghost use Rattle.session_lines.specs.Values.{is_kept, values_of};
+ghost use Rattle.session_lines.specs.LastValues.{is_kept, values_of};
 
 use indexmap::IndexMap;
 use model_system::{FieldValue, Fields};
@@ -28,7 +28,7 @@ impl Model for LastValues {
     ghost use Rattle.std.specs.Prelude.{List, length, ◌≤◌, IsTrue};
     ghost use Rattle.model_system.specs.declared.fields.FieldValue.{FieldValue};
     ghost use Rattle.mfs_edit.specs.Texts.{values_printable};
-    ghost use Rattle.session_lines.specs.Values.{values_of};
+    ghost use Rattle.session_lines.specs.LastValues.{values_of};
 
     ghost Value = { List FieldValue };
 

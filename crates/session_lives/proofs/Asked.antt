@@ -16,17 +16,17 @@ use Rattle.model_machine.specs.declared.entry.CheckpointRefused.{CheckpointRefus
 use Rattle.model_machine.specs.declared.entry.CheckpointRefused.TheVariants.{BusyRegion, Fault as CheckpointFault}
 use Rattle.model_machine.specs.declared.command.Command.{Command}
 use Rattle.model_machine.specs.declared.answer.Answer.{Answer}
-use Rattle.model_machine.specs.ModelMachineCommands.{command_answer}
-use Rattle.model_machine.specs.History.{May, is_fault, call_of, now_of}
+use Rattle.model_machine.specs.CommandAnswers.{command_answer}
+use Rattle.model_machine.specs.History.{May, is_fault, call_of, control_moment}
 use Rattle.model_session.specs.declared.asked.Asked.TheVariants.{Call}
 use Rattle.model_session.specs.Text.{entry_text, command_text, checkpoint_text}
 use Rattle.openings.specs.Faults.{fault_in}
 use Rattle.model_machine.specs.declared.counts.Counter.{Counter}
-use Rattle.tm_control.specs.OnDisk.{ControlOnDisk, spent_now}
-use Rattle.tm_control.specs.Calls.{StaysSo, AddsBy, AddedNothing, SpentBy, StaysSpent}
+use Rattle.tm_control.specs.ControlOnDisk.{ControlOnDisk, control_spent_now}
+use Rattle.tm_control.specs.ControlCalls.{StaysSo, AddsBy, AddedNothing, TellsSpent, StaysSpent}
 use Rattle.session_lives.specs.declared.called.Called.{Called}
 use Rattle.model_session.specs.Lives.{ends_life, is_disk_fault}
-use Rattle.session_lives.specs.Asking.{called_by, ended_by, CallLooks, IsSpentUp, IsAsked}
+use Rattle.session_lives.specs.AskedControl.{called_by, call_ended_by, CallLooks, IsSpentUp, IsAsked}
 
 -- an entry with a fault
 pub fault_is : (entry : Entry) (fault : ControlFault) → fault_in entry ≡ Some fault → is_fault entry ≡ true
@@ -106,20 +106,20 @@ fault_looks (Commanded command answer) fault e = tt
 fault_looks (Checked freeze answer) fault e = tt
 
 module _ {D : Type 0} (old new : ControlOnDisk D) where
-  spent_of : (counter : Counter) (was : Option Counter) → spent_now old ≡ was → SpentBy was (Some (SpentCounter counter)) → IsSpentUp old
+  spent_of : (counter : Counter) (was : Option Counter) → control_spent_now old ≡ was → TellsSpent was (Some (SpentCounter counter)) → IsSpentUp old
   spent_of counter (Some other) is by = record { counter = other; spent = is }
   spent_of counter None is by = absurd (by counter refl)
 
   -- a call told of a counter that is spent
-  pub spent_up : (counter : Counter) → SpentBy (spent_now old) (Some (SpentCounter counter)) → StaysSpent (Some (SpentCounter counter)) old new → IsSpentUp new
-  spent_up counter by same = subst (λ (c : ControlOnDisk D). IsSpentUp c) (sym same) (spent_of counter (spent_now old) refl by)
+  pub spent_up : (counter : Counter) → TellsSpent (control_spent_now old) (Some (SpentCounter counter)) → StaysSpent (Some (SpentCounter counter)) old new → IsSpentUp new
+  spent_up counter by same = subst (λ (c : ControlOnDisk D). IsSpentUp c) (sym same) (spent_of counter (control_spent_now old) refl by)
 
 -- ---- calls
 
 module _ {D : Type 0} (state : D → DiskState) where
   asked_of_fault : (fault : Option ControlFault) (entry : Entry) (old new : ControlOnDisk D) (text : List ℕ) → ends_life entry ≡ false → fault_in entry ≡ fault
-      → SpentBy (spent_now old) fault → StaysSpent fault old new
-      → AddsBy state fault old new entry → text ≡ entry_text old.control.system (now_of old.control) entry → IsAsked state (Call (call_of entry)) old new text (called_by fault)
+      → TellsSpent (control_spent_now old) fault → StaysSpent fault old new
+      → AddsBy state fault old new entry → text ≡ entry_text old.control.system (control_moment old.control) entry → IsAsked state (Call (call_of entry)) old new text (called_by fault)
   asked_of_fault None entry old new text on is spent same adds printed = record { entry = entry; asked = refl; answered = adds; goes_on = on; printed = printed }
   asked_of_fault (Some Disk) entry old new text on is spent same adds printed = record { entry = entry; asked = refl; fault = disk_fault_is entry is; broke = adds }
   asked_of_fault (Some NoMemory) entry old new text on is spent same adds printed = adds
@@ -127,14 +127,14 @@ module _ {D : Type 0} (state : D → DiskState) where
 
   -- a call that was made and ends no life, with what is printed where it was answered
   pub asked_call : (entry : Entry) (old new : ControlOnDisk D) (text : List ℕ) (called : Called) → ends_life entry ≡ false → called ≡ called_by (fault_in entry)
-      → SpentBy (spent_now old) (fault_in entry) → StaysSpent (fault_in entry) old new
-      → AddsBy state (fault_in entry) old new entry → text ≡ entry_text old.control.system (now_of old.control) entry → IsAsked state (Call (call_of entry)) old new text called
+      → TellsSpent (control_spent_now old) (fault_in entry) → StaysSpent (fault_in entry) old new
+      → AddsBy state (fault_in entry) old new entry → text ≡ entry_text old.control.system (control_moment old.control) entry → IsAsked state (Call (call_of entry)) old new text called
   asked_call entry old new text called on is spent same adds printed =
       subst (λ c. IsAsked state (Call (call_of entry)) old new text c) (sym is) (asked_of_fault (fault_in entry) entry old new text on refl spent same adds printed)
 
   -- a call that met a fault
   pub asked_fault : (fault : ControlFault) (entry : Entry) (old new : ControlOnDisk D) (text : List ℕ) (called : Called) → ends_life entry ≡ false → fault_in entry ≡ Some fault
-      → called ≡ called_by (Some fault) → SpentBy (spent_now old) (Some fault) → StaysSpent (Some fault) old new → AddsBy state (Some fault) old new entry
+      → called ≡ called_by (Some fault) → TellsSpent (control_spent_now old) (Some fault) → StaysSpent (Some fault) old new → AddsBy state (Some fault) old new entry
       → IsAsked state (Call (call_of entry)) old new text called
   asked_fault Disk entry old new text called on is how spent same adds =
       subst (λ c. IsAsked state (Call (call_of entry)) old new text c) (sym how) (record { entry = entry; asked = refl; fault = disk_fault_is entry is; broke = adds })
@@ -143,8 +143,8 @@ module _ {D : Type 0} (state : D → DiskState) where
       subst (λ c. IsAsked state (Call (call_of entry)) old new text c) (sym how) (adds, spent_up old new counter spent same, fault_looks entry (SpentCounter counter) is)
 
   asked_ahead : (fault : Option ControlFault) (entry : Entry) (old new : ControlOnDisk D) (text : List ℕ) → ends_life entry ≡ false → fault_in entry ≡ fault
-      → SpentBy (spent_now old) fault → StaysSpent fault old new
-      → AddsBy state fault old new entry → (May old.control.system (now_of old.control) entry → text ≡ entry_text old.control.system (now_of old.control) entry)
+      → TellsSpent (control_spent_now old) fault → StaysSpent fault old new
+      → AddsBy state fault old new entry → (May old.control.system (control_moment old.control) entry → text ≡ entry_text old.control.system (control_moment old.control) entry)
       → IsAsked state (Call (call_of entry)) old new text (called_by fault)
   asked_ahead None entry old new text on is spent same adds printed = record { entry = entry; asked = refl; answered = adds; goes_on = on; printed = printed adds.adds.may }
   asked_ahead (Some Disk) entry old new text on is spent same adds printed = record { entry = entry; asked = refl; fault = disk_fault_is entry is; broke = adds }
@@ -153,18 +153,18 @@ module _ {D : Type 0} (state : D → DiskState) where
 
   -- a command whose text was made before, by the answer at its place
   pub asked_command : (command : Command) (answer : Result Answer CommandRefused) (old new : ControlOnDisk D) (text : List ℕ) (called : Called)
-      → called ≡ called_by (fault_in (Commanded command answer)) → SpentBy (spent_now old) (fault_in (Commanded command answer)) → StaysSpent (fault_in (Commanded command answer)) old new → AddsBy state (fault_in (Commanded command answer)) old new (Commanded command answer)
-      → text ≡ command_text (command_answer old.control.system (now_of old.control) command) → IsAsked state (Call (CommandCall command)) old new text called
+      → called ≡ called_by (fault_in (Commanded command answer)) → TellsSpent (control_spent_now old) (fault_in (Commanded command answer)) → StaysSpent (fault_in (Commanded command answer)) old new → AddsBy state (fault_in (Commanded command answer)) old new (Commanded command answer)
+      → text ≡ command_text (command_answer old.control.system (control_moment old.control) command) → IsAsked state (Call (CommandCall command)) old new text called
   asked_command command answer old new text called is spent same adds printed =
       let entry : Entry = Commanded command answer in
       subst (λ c. IsAsked state (Call (call_of entry)) old new text c) (sym is)
-      (asked_ahead (fault_in entry) entry old new text refl refl spent same adds (λ may. printed ∙ sym (ap (entry_text old.control.system (now_of old.control)) may.answer)))
+      (asked_ahead (fault_in entry) entry old new text refl refl spent same adds (λ may. printed ∙ sym (ap (entry_text old.control.system (control_moment old.control)) may.answer)))
 
   -- a checkpoint, by its answer; behind a freeze a crash leaves the shown disk alone
   checked_by : {P : ℕ → Type 0} (freeze : Bool) (answer : Result ℕ CheckpointRefused) (old new : ControlOnDisk D) (text : List ℕ)
-      → SpentBy (spent_now old) (fault_in (Checked freeze answer)) → StaysSpent (fault_in (Checked freeze answer)) old new
+      → TellsSpent (control_spent_now old) (fault_in (Checked freeze answer)) → StaysSpent (fault_in (Checked freeze answer)) old new
       → AddsBy state (fault_in (Checked freeze answer)) old new (Checked freeze answer) → IfOk answer P → ((number : ℕ) → P number → Only (state new.disk).shown (state new.disk))
-      → text ≡ checkpoint_text freeze answer → IsAsked state (Call (CheckpointCall freeze)) old new text (ended_by (ends_life (Checked freeze answer)) (fault_in (Checked freeze answer)))
+      → text ≡ checkpoint_text freeze answer → IsAsked state (Call (CheckpointCall freeze)) old new text (call_ended_by (ends_life (Checked freeze answer)) (fault_in (Checked freeze answer)))
   checked_by true (Ok number) old new text spent same adds taken only printed =
       record { entry = Checked true (Ok number); asked = refl; answered = adds; ends = refl; printed = printed; only = only number taken }
   checked_by false (Ok number) old new text spent same adds taken only printed =
@@ -179,8 +179,8 @@ module _ {D : Type 0} (state : D → DiskState) where
       record { entry = Checked false (Err (BusyRegion region id)); asked = refl; answered = adds; goes_on = refl; printed = printed }
 
   pub asked_checkpoint : {P : ℕ → Type 0} (freeze : Bool) (answer : Result ℕ CheckpointRefused) (old new : ControlOnDisk D) (text : List ℕ) (called : Called)
-      → called ≡ ended_by (ends_life (Checked freeze answer)) (fault_in (Checked freeze answer))
-      → SpentBy (spent_now old) (fault_in (Checked freeze answer)) → StaysSpent (fault_in (Checked freeze answer)) old new
+      → called ≡ call_ended_by (ends_life (Checked freeze answer)) (fault_in (Checked freeze answer))
+      → TellsSpent (control_spent_now old) (fault_in (Checked freeze answer)) → StaysSpent (fault_in (Checked freeze answer)) old new
       → AddsBy state (fault_in (Checked freeze answer)) old new (Checked freeze answer) → IfOk answer P → ((number : ℕ) → P number → Only (state new.disk).shown (state new.disk))
       → text ≡ checkpoint_text freeze answer → IsAsked state (Call (CheckpointCall freeze)) old new text called
   asked_checkpoint {P = P} freeze answer old new text called is spent same adds taken only printed =

@@ -7,11 +7,11 @@ use Rattle.model_session.specs.Blocks.{Block}
 use Rattle.model_session.specs.Lines.{asked_of}
 use Rattle.model_session.specs.declared.asked.Asked.{Asked}
 use Rattle.model_session.specs.declared.asked.Asked.TheVariants.{Bad, BadCommand, Stopped, Call, Quiet, Power, PowerIn, Restart, ColdStart}
-use Rattle.model_session.specs.Standing.{SessionState, Standing}
-use Rattle.model_session.specs.Standing.Standing.{Up, Down}
+use Rattle.model_session.specs.SessionState.{SessionState, Standing}
+use Rattle.model_session.specs.SessionState.Standing.{Up, Down}
 use Rattle.model_session.specs.Session.{IsBegunBy}
-use Rattle.tm_control.specs.OnDisk.{ControlOnDisk}
-use Rattle.tm_control.specs.Calls.{IsSameControl, AddedNothing, StaysSo}
+use Rattle.tm_control.specs.ControlOnDisk.{ControlOnDisk}
+use Rattle.tm_control.specs.ControlCalls.{IsSameControl, AddedNothing, StaysSo}
 use Rattle.session_lives.specs.declared.called.Called.{Called}
 use Rattle.session_lives.specs.declared.called.Called.TheVariants.{Memory as NotAsked}
 use Rattle.session_lives.specs.declared.called.Served.{Served}
@@ -21,10 +21,10 @@ use Rattle.session_lives.specs.declared.place.Idle.{Idle}
 use Rattle.session_lives.specs.declared.place.Place.TheVariants.{Up as StandsAt}
 use Rattle.session_lives.specs.declared.place.Kept.{Kept}
 use Rattle.session_lives.specs.declared.place.Session.{Session}
-use Rattle.session_lives.specs.Counting.{KeepsPace}
-use Rattle.session_lives.specs.Asking.{IsAsked, StaysBy, Undoes}
-use Rattle.session_lives.specs.Running.{session_at, session_of, session_up, session_down, setting_of, IsUpReady, IsReady, IsReadyAt, IsSoundAt, Leads, LeadsBy}
-use Rattle.session_lives.specs.Openings.{IsEndable, IsAloneBy, IsSettled, IsServedSo}
+use Rattle.session_lives.specs.ControlCounts.{KeepsPace}
+use Rattle.session_lives.specs.AskedControl.{IsAsked, StaysBy, Undoes}
+use Rattle.session_lives.specs.RunningSession.{session_at, session_of, session_up, session_down, session_setting, IsUpReady, IsSessionReady, IsReadyAt, IsSoundAt, Leads, LeadsBy}
+use Rattle.session_lives.specs.Openings.{IsEndable, IsAloneBy, IsCallSettled, IsServedSo}
 use Rattle.session_lives.proofs.Leading.{leads_same}
 use Rattle.session_lives.proofs.Serving.{served_up, endable_up, alone_up, ready_up}
 use Rattle.session_lives.proofs.Staying.{same_by}
@@ -101,7 +101,7 @@ module _ {D : Type 0} (state : D → DiskState) (block : Block) (text : List ℕ
 
   pub served_at : (a b : ControlOnDisk D) (before : Session D) (kept : Kept) (session : Session D) (called : Called) (served : Served) → before.place ≡ StandsAt a
       → StaysBy state (asked_of a.control.system block) called a b → kept.lives ≡ before.kept.lives → kept.stops ≡ before.kept.stops → KeepsPace state a b
-      → IsAsked state (asked_of a.control.system block) a b text called → IsSettled state (session_up b kept) called session served
+      → IsAsked state (asked_of a.control.system block) a b text called → IsCallSettled state (session_up b kept) called session served
       → Leads state (λ setting x y. IsServedSo (asked_of setting.system block) text served setting x y) before session
   served_at a b before kept session called served is stays lives stops pace asked settled = λ system source handed sound.
       let led : LeadsBy state (λ setting x y. IsServedSo (asked_of setting.system block) text served setting x y) system source handed (session_up a before.kept) session =
@@ -110,11 +110,11 @@ module _ {D : Type 0} (state : D → DiskState) (block : Block) (text : List ℕ
       served_up state system source handed a b before.kept kept session text sound (same_by state (asked_of a.control.system block) called a b stays) lives stops pace (asked_of a.control.system block) called served asked settled)
       system source handed (subst (λ p. IsSoundAt state system source handed p before.kept) is sound) in
       record {
-        goes = subst (λ p. IsServedSo (asked_of system block) text served (setting_of state system source handed) (session_at p before.kept) (session_of session)) (sym is) led.goes;
+        goes = subst (λ p. IsServedSo (asked_of system block) text served (session_setting state system source handed) (session_at p before.kept) (session_of session)) (sym is) led.goes;
         sound = led.sound;
       }
 
-  module _ (a b : ControlOnDisk D) (before : Session D) (kept : Kept) (called : Called) (is : before.place ≡ StandsAt a) (ready : IsReady state before)
+  module _ (a b : ControlOnDisk D) (before : Session D) (kept : Kept) (called : Called) (is : before.place ≡ StandsAt a) (ready : IsSessionReady state before)
       (stays : StaysBy state (asked_of a.control.system block) called a b) (lives : kept.lives ≡ before.kept.lives) (stops : kept.stops ≡ before.kept.stops) where
     up_at : IsUpReady a before.kept
     up_at = subst (λ p. IsReadyAt state p before.kept) is ready
@@ -128,5 +128,5 @@ module _ {D : Type 0} (state : D → DiskState) (block : Block) (text : List ℕ
     pub alone_at : IsAsked state (asked_of a.control.system block) a b text called → IsAloneBy state b called
     alone_at asked = alone_up state a b before.kept kept before text up_at same_at lives stops (asked_of a.control.system block) called asked
 
-    pub ready_at : (session : Session D) (served : Served) → IsAsked state (asked_of a.control.system block) a b text called → IsSettled state (session_up b kept) called session served → IsReady state session
+    pub ready_at : (session : Session D) (served : Served) → IsAsked state (asked_of a.control.system block) a b text called → IsCallSettled state (session_up b kept) called session served → IsSessionReady state session
     ready_at session served asked settled = ready_up state a b before.kept kept session text up_at same_at lives stops (asked_of a.control.system block) called served asked settled

@@ -12,12 +12,12 @@ use Rattle.model_machine.specs.declared.entry.ControlFault.{ControlFault}
 use Rattle.model_machine.specs.declared.entry.ControlFault.TheVariants.{Memory, Disk, Spent}
 use Rattle.checkpointing.specs.Counts.{CountsUpTo}
 use Rattle.checkpointing.proofs.Counted.{up_to_more}
-use Rattle.disk_law.specs.Counted.{StandsUpTo}
-use Rattle.disk_law.specs.Journal.{JournalState}
-use Rattle.tm_control.specs.OnDisk.{ControlOnDisk}
-use Rattle.tm_control.specs.Calls.{StaysSo, AddsBy, CountsSince, KeepsLog, RaisesBy, StaysSpent, StaysUndone, with_room}
+use Rattle.disk_law.specs.UnitCounts.{StandsUpTo}
+use Rattle.disk_law.specs.JournalState.{JournalState}
+use Rattle.tm_control.specs.ControlOnDisk.{ControlOnDisk}
+use Rattle.tm_control.specs.ControlCalls.{StaysSo, AddsBy, ControlCountsSince, KeepsLog, RaisesBy, StaysSpent, StaysUndone, with_room}
 use Rattle.session_law.specs.Measures.{call_raises}
-use Rattle.session_lives.specs.Counting.{CountsUp, KeepsPace}
+use Rattle.session_lives.specs.ControlCounts.{CountsUp, KeepsPace}
 
 -- ---- bounds
 
@@ -72,7 +72,7 @@ module _ {D : Type 0} (state : D → DiskState) where
   -- ---- an entry more
 
   pub pace_entry : (sectors : ℕ) (entry : Entry) (old new : ControlOnDisk D) → sectors ≤ 2 * old.control.system.logs → old.up ≡ true → IsDisk (state new.disk) → StaysSo state old new
-      → RaisesBy sectors old new → CountsSince state (2 * old.control.system.logs) old new → new.control.history ≡ old.control.history ++ entry ∷ [] → KeepsPace state old new
+      → RaisesBy sectors old new → ControlCountsSince state (2 * old.control.system.logs) old new → new.control.history ≡ old.control.history ++ entry ∷ [] → KeepsPace state old new
   pace_entry sectors entry old new fit up disk stays raises counts added few high h =
       let own : StandsUpTo (high + call_raises * length old.control.history) old.journal old.next_unit = h.own up in
       let longer : length new.control.history ≡ length old.control.history + 1 = ap (λ (es : List Entry). length es) added ∙ length-append old.control.history (entry ∷ []) in
@@ -91,7 +91,7 @@ module _ {D : Type 0} (state : D → DiskState) where
 
   -- A call keeps pace.
   pub pace_call : (sectors : ℕ) (fault : Option ControlFault) (entry : Entry) (old new : ControlOnDisk D) → sectors ≤ 2 * old.control.system.logs → old.up ≡ true → IsDisk (state new.disk) → StaysSo state old new
-      → RaisesBy sectors old new → CountsSince state (2 * old.control.system.logs) old new → AddsBy state fault old new entry → StaysSpent fault old new → StaysUndone fault old new → KeepsPace state old new
+      → RaisesBy sectors old new → ControlCountsSince state (2 * old.control.system.logs) old new → AddsBy state fault old new entry → StaysSpent fault old new → StaysUndone fault old new → KeepsPace state old new
   pace_call sectors None entry old new fit up disk stays raises counts adds same undone = pace_entry sectors entry old new fit up disk stays raises counts adds.adds.history
   pace_call sectors (Some Disk) entry old new fit up disk stays raises counts adds same undone = pace_entry sectors entry old new fit up disk stays raises counts adds.history
   pace_call sectors (Some Memory) entry old new fit up disk stays raises counts adds same undone = pace_room new.control.room old new undone
@@ -99,7 +99,7 @@ module _ {D : Type 0} (state : D → DiskState) where
 
   -- so does a turn
   pub pace_turn : (region : ℕ) (answer : Result Turned ControlFault) (old new : ControlOnDisk D) → old.up ≡ true → IsDisk (state new.disk) → StaysSo state old new → RaisesBy (2 * old.control.system.logs) old new
-      → CountsSince state (2 * old.control.system.logs) old new → AddsBy state (fault_in (Turn region answer)) old new (Turn region answer) → StaysSpent (fault_in (Turn region answer)) old new
+      → ControlCountsSince state (2 * old.control.system.logs) old new → AddsBy state (fault_in (Turn region answer)) old new (Turn region answer) → StaysSpent (fault_in (Turn region answer)) old new
       → StaysUndone (fault_in (Turn region answer)) old new → KeepsPace state old new
   pace_turn region answer old new up disk stays raises counts adds same undone =
       pace_call (2 * old.control.system.logs) (fault_in (Turn region answer)) (Turn region answer) old new (omega arith) up disk stays raises counts adds same undone

@@ -9,25 +9,25 @@ use Rattle.model_system.specs.System.{System}
 use Rattle.model_machine.specs.declared.entry.Entry.{Entry}
 use Rattle.model_machine.specs.declared.entry.ControlFault.TheVariants.{Disk}
 use Rattle.model_machine.specs.Machine.{LastingState, start_of}
-use Rattle.model_machine.specs.History.{AscendAbove, ControlState, IsLegal, is_fault, moment_after, now_of}
-use Rattle.model_image.specs.Recovered.{Recovers}
-use Rattle.checkpointing.specs.Texts.{HasText}
+use Rattle.model_machine.specs.History.{AscendAbove, ControlState, IsLegal, is_fault, moment_after, control_moment}
+use Rattle.model_image.specs.RecoveredState.{Recovers}
+use Rattle.checkpointing.specs.DefinitionText.{HasText}
 use Rattle.checkpointing.specs.Counts.{CountsUpTo}
 use Rattle.checkpointing.proofs.Counted.{up_to_more}
-use Rattle.system_types.specs.Valid.{IsSystem}
+use Rattle.system_types.specs.ValidSystem.{IsSystem}
 use Rattle.session_law.specs.Measures.{call_raises, last_measure, lives_measure, measure}
 use Rattle.openings.specs.FirstImage.{sectors_needed}
-use Rattle.disk_law.specs.Kept.{RecoversEither}
-use Rattle.model_session.specs.Lives.{LifeState, LastLife, AreLegal, HasAnswered, Leaves, is_disk_fault, longer}
-use Rattle.model_session.specs.Standing.{Standing, Outage, SessionState, Stop, AreStops, LastAnswered, IsLeft, gone_on, ended, broken}
-use Rattle.model_session.specs.Standing.Standing.{Up as StandsUp, Down as StandsDown}
-use Rattle.tm_control.specs.OnDisk.{ControlOnDisk, LastsBy, lasting_after}
+use Rattle.disk_law.specs.KeptImages.{RecoversEither}
+use Rattle.model_session.specs.Lives.{LifeState, LastLife, AreLegal, HasAnswered, LifeLeaves, is_disk_fault, longer}
+use Rattle.model_session.specs.SessionState.{Standing, Outage, SessionState, Stop, AreStops, LastAnswered, IsStateLeft, life_gone_on, life_ended, broken}
+use Rattle.model_session.specs.SessionState.Standing.{Up as StandsUp, Down as StandsDown}
+use Rattle.tm_control.specs.ControlOnDisk.{ControlOnDisk, LastsBy, lasting_after_entries}
 use Rattle.openings.specs.declared.life.Life.{Life}
 use Rattle.session_lives.specs.declared.place.Idle.{Idle}
 use Rattle.session_lives.specs.declared.place.Place.TheVariants.{Up, Down}
 use Rattle.session_lives.specs.declared.place.Kept.{Kept}
-use Rattle.session_lives.specs.Running.{life_of, last_of, last_up, kept_of, outage_of, session_at, setting_of, CountsDown, CountsFirst, Holds, IsDownSound}
-use Rattle.session_lives.specs.Counting.{CountsUp}
+use Rattle.session_lives.specs.RunningSession.{life_of, last_life_of, last_up, kept_steps, outage_of, session_at, session_setting, CountsDown, CountsFirst, HoldsSession, IsDownSound}
+use Rattle.session_lives.specs.ControlCounts.{CountsUp}
 use Rattle.session_lives.specs.Openings.{GoesDown}
 use Rattle.session_lives.proofs.Asked.{disk_fault_is, fault_is}
 use Rattle.model_session.proofs.Ending.{answered_end, faulted_end}
@@ -56,7 +56,7 @@ same_kept old new e = ap (λ v. map life_of v.items) e
 -- the life goes on
 pub up_state : {D : Type 0} (a b : ControlOnDisk D) (old new : Kept) (entries : List Entry) → b.control.opening ≡ a.control.opening
     → b.control.history ≡ a.control.history ++ entries → new.lives ≡ old.lives → new.stops ≡ old.stops
-    → session_at (Up b) new ≡ gone_on (session_at (Up a) old) (last_up a) entries
+    → session_at (Up b) new ≡ life_gone_on (session_at (Up a) old) (last_up a) entries
 up_state a b old new entries opening history lives stops =
     same_state (map life_of old.lives.items) (map life_of new.lives.items) old.stops.items new.stops.items (StandsUp (longer (last_up a) entries)) (StandsUp (last_up b))
     (same_kept old new lives) (ap (λ v. v.items) stops)
@@ -73,10 +73,10 @@ same_up a b old new opening history lives stops =
 abbrev pub outage_with : Option LastLife → Bool → Bool → Outage
 outage_with last emptied stopped = record { last = last; emptied = emptied; stopped = stopped }
 
-last_is : {D : Type 0} (idle : Idle D) (life : Life) (a : LastLife) (emptied stopped : Bool) → idle.last ≡ Some life → last_of life ≡ a → idle.emptied ≡ emptied → idle.stopped ≡ stopped
+last_is : {D : Type 0} (idle : Idle D) (life : Life) (a : LastLife) (emptied stopped : Bool) → idle.last ≡ Some life → last_life_of life ≡ a → idle.emptied ≡ emptied → idle.stopped ≡ stopped
     → outage_of idle ≡ outage_with (Some a) emptied stopped
 last_is idle life a emptied stopped is same e t =
-    ap (λ (l : Option Life). outage_with (option_map last_of l) idle.emptied idle.stopped) is ∙ ap (λ l. outage_with (Some l) idle.emptied idle.stopped) same
+    ap (λ (l : Option Life). outage_with (option_map last_life_of l) idle.emptied idle.stopped) is ∙ ap (λ l. outage_with (Some l) idle.emptied idle.stopped) same
     ∙ ap (λ b. outage_with (Some a) b idle.stopped) e ∙ ap (outage_with (Some a) emptied) t
 
 module _ {D : Type 0} (state : D → DiskState) where
@@ -89,7 +89,7 @@ module _ {D : Type 0} (state : D → DiskState) where
       down.emptied down.stopped_is
 
   pub ended_state : (a c : ControlOnDisk D) (old kept new : Kept) (idle : Idle D) (entries : List Entry) → GoesDown state c kept new false idle → kept.lives ≡ old.lives → kept.stops ≡ old.stops
-      → c.control.opening ≡ a.control.opening → c.control.history ≡ a.control.history ++ entries → session_at (Down idle) new ≡ ended (session_at (Up a) old) (last_up a) entries
+      → c.control.opening ≡ a.control.opening → c.control.history ≡ a.control.history ++ entries → session_at (Down idle) new ≡ life_ended (session_at (Up a) old) (last_up a) entries
   ended_state a c old kept new idle entries down lives stops opening history =
       same_state (map life_of old.lives.items) (map life_of new.lives.items) old.stops.items new.stops.items (down_with (longer (last_up a) entries) false) (StandsDown (outage_of idle))
       (same_kept old new (down.lives ∙ lives)) (down.stops ∙ append-nil kept.stops.items ∙ ap (λ v. v.items) stops)
@@ -123,14 +123,14 @@ rose_from began before now less (inr full) = inr full
 
 module _ (system : System) (life : LastLife) where
   leaves_all : (state : LastingState) → state ≡ (moment_after system (start_of system life.opening) life.history).lasting
-      → Leaves system life (state.steps - life.opening.steps) state
+      → LifeLeaves system life (state.steps - life.opening.steps) state
   leaves_all state is = record { front = life.history; rest = []; split = sym (append-nil life.history); unanswered = refl; left = is; counted = refl }
 
   leaves_before : (state : LastingState) (before : List Entry) (entry : Entry) → life.history ≡ before ++ entry ∷ [] → is_fault entry ≡ true
-      → state ≡ (moment_after system (start_of system life.opening) before).lasting → Leaves system life (state.steps - life.opening.steps) state
+      → state ≡ (moment_after system (start_of system life.opening) before).lasting → LifeLeaves system life (state.steps - life.opening.steps) state
   leaves_before state before entry all fault is = record { front = before; rest = entry ∷ []; split = all; unanswered = rw fault refl; left = is; counted = refl }
 
-has_ended : (life : Life) (last : Option Life) → last ≡ Some life → option_map last_of last ≡ None → ⊥
+has_ended : (life : Life) (last : Option Life) → last ≡ Some life → option_map last_life_of last ≡ None → ⊥
 has_ended life None is none = cc
 has_ended life (Some other) is none = cc
 
@@ -144,7 +144,7 @@ disk_by false control text disk lasts legal entry last =
 -- it is legal, with its steps that were answered
 pub answered_by : (up : Bool) (control : ControlState) (text : List ℕ) (disk : DiskState) (count : ℕ) → LastsBy up control text disk
     → (legal : IsLegal control.system (start_of control.system control.opening) control.history) → AscendAbove 0 control.history
-    → control.opening.steps + count ≡ (lasting_after control.system control.opening legal.steps).steps → HasAnswered control.system (life_with control.opening control.history) count
+    → control.opening.steps + count ≡ (lasting_after_entries control.system control.opening legal.steps).steps → HasAnswered control.system (life_with control.opening control.history) count
 answered_by up control text disk count lasts legal numbers counted =
     record { life_is = record { legal = legal; by_disk = disk_by up control text disk lasts legal; numbers = numbers }; counted = counted }
 
@@ -155,38 +155,38 @@ answered_of s s' o o' h h' count a b c answered =
 
 module _ {D : Type 0} (state : D → DiskState) (system : System) (source : List ℕ) (handed : D) (c : ControlOnDisk D) (system_is : c.control.system ≡ system) where
   -- what the disk holds of it
-  recalls : (outage : Outage) (image : Image) (lasting : LastingState) → Recovers c.control.system image (Ok lasting) → Leaves system (last_up c) (lasting.steps - c.control.opening.steps) lasting
-      → outage.last ≡ Some (last_up c) → Holds state system source handed (StandsDown outage) image
+  recalls : (outage : Outage) (image : Image) (lasting : LastingState) → Recovers c.control.system image (Ok lasting) → LifeLeaves system (last_up c) (lasting.steps - c.control.opening.steps) lasting
+      → outage.last ≡ Some (last_up c) → HoldsSession state system source handed (StandsDown outage) image
   recalls outage image lasting recovers leaves last = inl (record {
     state = lasting;
     recovers = subst (λ s. Recovers s image (Ok lasting)) system_is recovers;
-    may = (lasting.steps - c.control.opening.steps, inl (subst (λ l. IsLeft (setting_of state system source handed) l (lasting.steps - c.control.opening.steps) lasting) (sym last) leaves));
+    may = (lasting.steps - c.control.opening.steps, inl (subst (λ l. IsStateLeft (session_setting state system source handed) l (lasting.steps - c.control.opening.steps) lasting) (sym last) leaves));
   })
 
-  lasting_in : (entries : List Entry) → lasting_after c.control.system c.control.opening entries ≡ lasting_after system c.control.opening entries
-  lasting_in entries = ap (λ s. lasting_after s c.control.opening entries) system_is
+  lasting_in : (entries : List Entry) → lasting_after_entries c.control.system c.control.opening entries ≡ lasting_after_entries system c.control.opening entries
+  lasting_in entries = ap (λ s. lasting_after_entries s c.control.opening entries) system_is
 
   up_images : (outage : Outage) (image : Image) → LastsBy true c.control c.text (state c.disk) → (state c.disk).may_leave image → outage.last ≡ Some (last_up c)
-      → Holds state system source handed (StandsDown outage) image
+      → HoldsSession state system source handed (StandsDown outage) image
   up_images outage image lasts left last =
-      recalls outage image (now_of c.control).lasting (lasts.images image left) (leaves_all system (last_up c) (now_of c.control).lasting (lasting_in c.control.history)) last
+      recalls outage image (control_moment c.control).lasting (lasts.images image left) (leaves_all system (last_up c) (control_moment c.control).lasting (lasting_in c.control.history)) last
 
   down_either : (outage : Outage) (image : Image) (before : List Entry) (entry : Entry) → c.control.history ≡ before ++ entry ∷ [] → is_fault entry ≡ true
-      → RecoversEither c.control.system (lasting_after c.control.system c.control.opening before) (lasting_after c.control.system c.control.opening c.control.history) image
-      → outage.last ≡ Some (last_up c) → Holds state system source handed (StandsDown outage) image
+      → RecoversEither c.control.system (lasting_after_entries c.control.system c.control.opening before) (lasting_after_entries c.control.system c.control.opening c.control.history) image
+      → outage.last ≡ Some (last_up c) → HoldsSession state system source handed (StandsDown outage) image
   down_either outage image before entry all fault (inl one) last =
-      recalls outage image (lasting_after c.control.system c.control.opening before) one
-      (leaves_before system (last_up c) (lasting_after c.control.system c.control.opening before) before entry all fault (lasting_in before)) last
+      recalls outage image (lasting_after_entries c.control.system c.control.opening before) one
+      (leaves_before system (last_up c) (lasting_after_entries c.control.system c.control.opening before) before entry all fault (lasting_in before)) last
   down_either outage image before entry all fault (inr two) last =
-      recalls outage image (lasting_after c.control.system c.control.opening c.control.history) two
-      (leaves_all system (last_up c) (lasting_after c.control.system c.control.opening c.control.history) (lasting_in c.control.history)) last
+      recalls outage image (lasting_after_entries c.control.system c.control.opening c.control.history) two
+      (leaves_all system (last_up c) (lasting_after_entries c.control.system c.control.opening c.control.history) (lasting_in c.control.history)) last
 
   down_images : (outage : Outage) (image : Image) → LastsBy false c.control c.text (state c.disk) → (state c.disk).may_leave image → outage.last ≡ Some (last_up c)
-      → Holds state system source handed (StandsDown outage) image
+      → HoldsSession state system source handed (StandsDown outage) image
   down_images outage image lasts left last = down_either outage image lasts.before lasts.entry lasts.all (fault_is lasts.entry Disk lasts.fault) (lasts.images image left) last
 
   images_by : (up : Bool) (outage : Outage) (image : Image) → LastsBy up c.control c.text (state c.disk) → (state c.disk).may_leave image → outage.last ≡ Some (last_up c)
-      → Holds state system source handed (StandsDown outage) image
+      → HoldsSession state system source handed (StandsDown outage) image
   images_by true outage image lasts left last = up_images outage image lasts left last
   images_by false outage image lasts left last = down_images outage image lasts left last
 
@@ -198,7 +198,7 @@ module _ {D : Type 0} (state : D → DiskState) (system : System) (source : List
   down_measure : (old new : Kept) (stopped : Bool) (idle : Idle D) → GoesDown state c old new stopped idle → measure (session_at (Up c) old) ≤ measure (session_at (Down idle) new)
   down_measure old new stopped idle down =
       let lives : lives_measure (map life_of new.lives.items) ≡ lives_measure (map life_of old.lives.items) = ap lives_measure (same_kept old new down.lives) in
-      let last : last_measure (option_map last_of idle.last) ≡ length down.life.history + 1 = ap (λ (l : Option Life). last_measure (option_map last_of l)) down.last in
+      let last : last_measure (option_map last_life_of idle.last) ≡ length down.life.history + 1 = ap (λ (l : Option Life). last_measure (option_map last_life_of l)) down.last in
       let long : length down.life.history ≡ length c.control.history = ap (λ (es : List Entry). length es) down.closes.history in
       let stops : length new.stops.items ≡ length old.stops.items + length (if stopped then (c.began, (state down.disk).faults) ∷ [] else []) =
       ap (λ (s : List Stop). length s) down.stops ∙ length-append old.stops.items (if stopped then (c.began, (state down.disk).faults) ∷ [] else []) in
@@ -234,7 +234,7 @@ module _ {D : Type 0} (state : D → DiskState) (system : System) (source : List
         same = same_on (state handed) (state down.disk) (state idle.disk) disk down.laid.same;
         stops = subst (λ n. AreStops (state handed).faults new.stops.items n) (sym faults) stops;
         legal = subst (λ l. AreLegal system l) (sym (same_kept old new down.lives)) legal;
-        answered = subst (λ l. LastAnswered system (option_map last_of l) (kept_of l)) (sym down.last)
+        answered = subst (λ l. LastAnswered system (option_map last_life_of l) (kept_steps l)) (sym down.last)
             (answered_of c.control.system system c.control.opening down.life.opening c.control.history down.life.history down.life.kept
             system_is (sym down.closes.opening) (sym down.closes.history) (answered_by c.up c.control c.text (state c.disk) down.life.kept down.lasts down.closes.legal down.closes.numbers down.closes.kept));
         images = λ image left. images_by c.up (outage_of idle) image down.lasts (subst (λ d. (state d).may_leave image) down.closes.disk_is (down.laid.no_more image left)) (ap (λ o. o.last) outage);

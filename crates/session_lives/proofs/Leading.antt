@@ -1,8 +1,8 @@
 -- What leads on, whatever disk was handed in.
 use Rattle.tm_disk.specs.Disk.{DiskState}
-use Rattle.model_session.specs.Standing.{Setting, SessionState}
+use Rattle.model_session.specs.SessionState.{Setting, SessionState}
 use Rattle.session_lives.specs.declared.place.Session.{Session}
-use Rattle.session_lives.specs.Running.{Course, Leads, LeadsBy}
+use Rattle.session_lives.specs.RunningSession.{Course, Leads, LeadsBy}
 
 module _ {D : Type 0} (state : D → DiskState) where
   pub leads_same : (P : Course) (a : Session D) → ((setting : Setting) (x : SessionState) → P setting x x) → Leads state P a a

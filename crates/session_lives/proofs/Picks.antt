@@ -6,7 +6,7 @@ use Rattle.model_session.specs.Lines.{asked_of}
 use Rattle.model_session.specs.declared.asked.Asked.{Asked}
 use Rattle.model_session.specs.declared.asked.ImageRefused.{ImageRefused}
 use Rattle.model_session.specs.declared.asked.Asked.TheVariants.{Bad, BadCommand, Stopped, Call, Quiet, Power as AskedPower, PowerIn, Restart, ColdStart}
-use Rattle.tm_control.specs.OnDisk.{ControlOnDisk}
+use Rattle.tm_control.specs.ControlOnDisk.{ControlOnDisk}
 use Rattle.session_lives.specs.declared.called.Called.{Called}
 use Rattle.session_lives.specs.declared.called.Called.TheVariants.{Answered, Frozen, Power, Broke, Memory, Spent}
 use Rattle.session_lives.specs.declared.called.Served.{Served}
@@ -17,9 +17,9 @@ use Rattle.session_lives.specs.declared.place.Idle.{Idle}
 use Rattle.session_lives.specs.declared.place.Place.TheVariants.{Up}
 use Rattle.session_lives.specs.declared.place.Kept.{Kept}
 use Rattle.session_lives.specs.declared.place.Session.{Session}
-use Rattle.session_lives.specs.Running.{session_up}
-use Rattle.session_lives.specs.Asking.{IsAsked, Does, Freezes, PowersOff, pick_by}
-use Rattle.session_lives.specs.Openings.{IsSettled, IsCutAt, CutsAt, HasGone, IsToldSo, IsRefusalTold, pick_up, pick_down}
+use Rattle.session_lives.specs.RunningSession.{session_up}
+use Rattle.session_lives.specs.AskedControl.{IsAsked, DoesAsked, Freezes, PowersOff, pick_by}
+use Rattle.session_lives.specs.Openings.{IsCallSettled, IsCutAt, CutsAt, HasGone, IsOpeningTold, IsRefusalTold, pick_up, pick_down}
 
 -- nothing but a POWER IN that armed the disk sets another
 pub pick_undone : (asked : Asked) (can : Bool) (picked : ℕ) → pick_by asked Memory can picked ≡ picked
@@ -45,7 +45,7 @@ pick_spent Restart can picked = refl
 pick_spent ColdStart can picked = refl
 
 module _ {D : Type 0} (state : D → DiskState) (a b : ControlOnDisk D) (kept : Kept) (session : Session D) (text : List ℕ) where
-  pick_done : (asked : Asked) (can : Bool) (picked : ℕ) → Does state asked a b text → pick_by asked Answered can picked ≡ pick_up Printed asked can picked
+  pick_done : (asked : Asked) (can : Bool) (picked : ℕ) → DoesAsked state asked a b text → pick_by asked Answered can picked ≡ pick_up Printed asked can picked
   pick_done (Bad rule) can picked does_it = refl
   pick_done (BadCommand rule) can picked does_it = refl
   pick_done (Stopped terminal number reason) can picked does_it = refl
@@ -79,7 +79,7 @@ module _ {D : Type 0} (state : D → DiskState) (a b : ControlOnDisk D) (kept : 
   pick_taken ColdStart pick can picked never = absurd never
 
   pub picks_up : (asked : Asked) (called : Called) (served : Served) (can : Bool) (picked : ℕ) → IsAsked state asked a b text called → kept.pick ≡ pick_by asked called can picked
-      → IsSettled state (session_up b kept) called session served → session.kept.pick ≡ pick_up served asked can picked
+      → IsCallSettled state (session_up b kept) called session served → session.kept.pick ≡ pick_up served asked can picked
   picks_up asked Answered served can picked does_it is (on, printed) =
       subst (λ s. session.kept.pick ≡ pick_up s asked can picked) (sym printed) (ap (λ (s : Session D). s.kept.pick) on ∙ is ∙ pick_done asked can picked does_it)
   picks_up asked Frozen served can picked frozen is (over, printed) =
@@ -93,7 +93,7 @@ module _ {D : Type 0} (state : D → DiskState) (a b : ControlOnDisk D) (kept : 
       subst (λ s. session.kept.pick ≡ pick_up s asked can picked) (sym why) (ap (λ (s : Session D). s.kept.pick) on ∙ is ∙ pick_spent asked can picked)
 
   -- POWER cuts the disk as it stood
-  cut_by_power : (pick : ℕ) (called : Called) (served : Served) → IsAsked state (AskedPower pick) a b text called → IsSettled state (session_up b kept) called session served
+  cut_by_power : (pick : ℕ) (called : Called) (served : Served) → IsAsked state (AskedPower pick) a b text called → IsCallSettled state (session_up b kept) called session served
       → served ≡ Printed → IsCutAt state pick a.disk session.place
   cut_by_power pick Answered served never settled is = absurd never
   cut_by_power pick Frozen served never settled is = absurd never
@@ -106,7 +106,7 @@ module _ {D : Type 0} (state : D → DiskState) (a b : ControlOnDisk D) (kept : 
   cut_by_power pick Spent served undone (on, why) is = cc
 
   pub cuts_up : (block : Block) (called : Called) (served : Served) → IsAsked state (asked_of a.control.system block) a b text called
-      → IsSettled state (session_up b kept) called session served → CutsAt state block (Up a) served session.place
+      → IsCallSettled state (session_up b kept) called session served → CutsAt state block (Up a) served session.place
   cuts_up block called Printed asked settled =
       λ pick is. cut_by_power pick called Printed (subst (λ (q : Asked). IsAsked state q a b text called) is asked) settled refl
   cuts_up block called HasBroken asked settled = tt
@@ -118,7 +118,7 @@ module _ {D : Type 0} (state : D → DiskState) (idle : Idle D) (old : Kept) (se
   pick_refused true served refusal same told = subst (λ s. session.kept.pick ≡ pick_down s old.pick) (sym told.0) same
   pick_refused false served refusal same undone = subst (λ s. session.kept.pick ≡ pick_down s old.pick) (sym undone) same
 
-  pub picks_down : (cold begun : Bool) (opening : Opening) (served : Served) → HasGone state idle old cold session opening → IsToldSo cold begun opening text served → session.kept.pick ≡ pick_down served old.pick
+  pub picks_down : (cold begun : Bool) (opening : Opening) (served : Served) → HasGone state idle old cold session opening → IsOpeningTold cold begun opening text served → session.kept.pick ≡ pick_down served old.pick
   picks_down cold begun Opened served gone told = subst (λ s. session.kept.pick ≡ pick_down s old.pick) (sym told.0) gone.pick
   picks_down cold begun OpeningBroke served gone broke = subst (λ s. session.kept.pick ≡ pick_down s old.pick) (sym broke) gone.pick
   picks_down cold begun (Refused refusal) served gone told = pick_refused begun served refusal gone.0.pick told

@@ -5,19 +5,19 @@ use Rattle.tm_disk.specs.Disk.{DiskState, Within, IsCut}
 use Rattle.model_system.specs.System.{System}
 use Rattle.openings.specs.declared.refusals.OpenError.{OpenError}
 use Rattle.openings.specs.declared.refusals.OpenError.TheVariants.{BadImage, WrongDefinition, TooSmall, Spent, Disk, Memory}
-use Rattle.openings.specs.Opening.{WroteNothing}
+use Rattle.openings.specs.OpenedImage.{WroteNothing}
 use Rattle.checkpointing.specs.Counts.{RaisesCounts}
-use Rattle.openings.specs.Opened.{HandsBack}
+use Rattle.openings.specs.LifeBeginning.{HandsBack}
 use Rattle.openings.specs.declared.life.Life.{Life}
 use Rattle.session_lives.specs.declared.called.Opening.{Opening}
 use Rattle.session_lives.specs.declared.place.Idle.{Idle}
 use Rattle.session_lives.specs.declared.place.Kept.{Kept}
 use Rattle.session_lives.specs.declared.place.Session.{Session}
-use Rattle.session_lives.specs.Openings.{how_of, opening_by, is_disk, IsCutDown, IsBack, IsRefusedSo, StaysIdle, HasFailed, HasGone}
+use Rattle.session_lives.specs.Openings.{how_of, opening_by, is_disk, IsCutDown, IsHandedBack, IsRefusedSo, StaysIdle, HasFailed, HasGone}
 
 -- all was handed back
 pub refused_back : {D : Type 0} (state : D → DiskState) (disk : D) (system : System) (text : List ℕ) (last : Option Life) (emptied stopped cold : Bool) (began : ℕ) (old : Kept) (error : OpenError)
-    (session : Session D) → is_disk error ≡ false → IsBack disk system text last emptied stopped old session
+    (session : Session D) → is_disk error ≡ false → IsHandedBack disk system text last emptied stopped old session
     → IsRefusedSo state disk system text last emptied stopped cold began old (opening_by error) session
 refused_back state disk system text last emptied stopped cold began old Disk session is back = cc
 refused_back state disk system text last emptied stopped cold began old (BadImage rule sector) session is back = back
@@ -47,7 +47,7 @@ module _ {D : Type 0} (state : D → DiskState) (idle : Idle D) (old kept : Kept
   }
 
   idles : system ≡ idle.system → text ≡ idle.text → WroteNothing (state idle.disk) (state disk)
-      → IsBack disk system text idle.last idle.emptied idle.stopped kept session → StaysIdle state idle old session
+      → IsHandedBack disk system text idle.last idle.emptied idle.stopped kept session → StaysIdle state idle old session
   idles same_system same_text wrote back = record {
     after = back.after;
     place = back.place;

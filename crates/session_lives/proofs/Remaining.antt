@@ -6,28 +6,28 @@ use Rattle.std.specs.Option.{option_map, is_some}
 use Rattle.tm_disk.specs.Disk.{Image, DiskState}
 use Rattle.model_system.specs.System.{System}
 use Rattle.model_machine.specs.Machine.{start_of}
-use Rattle.model_machine.specs.History.{moment_after, now_of}
-use Rattle.model_image.specs.Recovered.{Recovers}
+use Rattle.model_machine.specs.History.{moment_after, control_moment}
+use Rattle.model_image.specs.RecoveredState.{Recovers}
 use Rattle.model_session.specs.Lives.{LifeState, AreLegal, HasAnswered, kept_life, with_life}
-use Rattle.model_session.specs.Standing.{Stop, AreStops}
-use Rattle.model_session.specs.Standing.Standing.{Up as StandsUp}
-use Rattle.tm_control.specs.OnDisk.{ControlOnDisk, LastsBy}
+use Rattle.model_session.specs.SessionState.{Stop, AreStops}
+use Rattle.model_session.specs.SessionState.Standing.{Up as StandsUp}
+use Rattle.tm_control.specs.ControlOnDisk.{ControlOnDisk, LastsBy}
 use Rattle.openings.specs.declared.life.Life.{Life}
 use Rattle.session_lives.specs.declared.place.Idle.{Idle}
 use Rattle.session_lives.specs.declared.place.Place.TheVariants.{Up, Down, Moved}
 use Rattle.session_lives.specs.declared.place.Place.{Place}
 use Rattle.session_lives.specs.declared.place.Kept.{Kept}
 use Rattle.session_lives.specs.declared.place.Session.{Session}
-use Rattle.session_lives.specs.Running.{life_of, last_of, last_up, kept_of, session_at, Holds, IsUpReady, IsReady, IsReadyAt, IsUpSound, IsDownSound, IsSoundAt}
-use Rattle.session_lives.specs.Closing.{listed, IsClosedUp, IsClosedDown, IsClosedAt, IsClosed, Remains, LeavesSo}
+use Rattle.session_lives.specs.RunningSession.{life_of, last_life_of, last_up, kept_steps, session_at, HoldsSession, IsUpReady, IsSessionReady, IsReadyAt, IsUpSound, IsDownSound, IsSoundAt}
+use Rattle.session_lives.specs.ClosedSession.{listed, IsClosedUp, IsClosedDown, IsClosedAt, IsSessionClosed, Remains, SessionLeaves}
 use Rattle.session_lives.proofs.Ends.{same_life, answered_by, answered_of, stops_higher}
 use Rattle.session_lives.proofs.Restarted.{legal_with}
 
-lives_listed : (lives : List Life) (last : Option Life) → map life_of (lives ++ listed last) ≡ with_life (map life_of lives) (option_map last_of last) (kept_of last)
+lives_listed : (lives : List Life) (last : Option Life) → map life_of (lives ++ listed last) ≡ with_life (map life_of lives) (option_map last_life_of last) (kept_steps last)
 lives_listed lives None = ap (map life_of) (append-nil lives)
 lives_listed lives (Some life) = map-append life_of lives (life ∷ [])
 
-some_life : (last : Option Life) → is_some (option_map last_of last) ≡ true → is_some last ≡ true
+some_life : (last : Option Life) → is_some (option_map last_life_of last) ≡ true → is_some last ≡ true
 some_life None some = some
 some_life (Some life) some = refl
 
@@ -35,10 +35,10 @@ module _ {D : Type 0} (state : D → DiskState) (system : System) (source : List
   down_remains : (idle : Idle D) (kept : Kept) (disk : D) (lives : List Life) (stops : List Stop) → IsDownSound state system source handed idle kept
       → IsClosedDown idle kept disk lives stops → Remains state system source handed disk (session_at (Down idle) kept) lives stops
   down_remains idle kept disk lives stops sound over =
-      let all : map life_of lives ≡ with_life (map life_of kept.lives.items) (option_map last_of idle.last) (kept_of idle.last) = ap (map life_of) over.lives_are ∙ lives_listed kept.lives.items idle.last in
+      let all : map life_of lives ≡ with_life (map life_of kept.lives.items) (option_map last_life_of idle.last) (kept_steps idle.last) = ap (map life_of) over.lives_are ∙ lives_listed kept.lives.items idle.last in
       record {
-        lives_are = record { count = kept_of idle.last; answered = sound.answered; are = all };
-        legal = subst (λ l. AreLegal system l) (sym all) (legal_with system (map life_of kept.lives.items) (option_map last_of idle.last) (kept_of idle.last) (kept_of idle.last) sound.legal sound.answered);
+        lives_are = record { count = kept_steps idle.last; answered = sound.answered; are = all };
+        legal = subst (λ l. AreLegal system l) (sym all) (legal_with system (map life_of kept.lives.items) (option_map last_life_of idle.last) (kept_steps idle.last) (kept_steps idle.last) sound.legal sound.answered);
         stops_are = over.stops_are;
         counted = subst (λ d. AreStops (state handed).faults stops (state d).faults) (sym over.disk_is)
             (subst (λ s. AreStops (state handed).faults s (state idle.disk).faults) (sym over.stops_are) sound.stops);
@@ -47,11 +47,11 @@ module _ {D : Type 0} (state : D → DiskState) (system : System) (source : List
       }
 
   up_holds : (control : ControlOnDisk D) (up : Bool) → up ≡ true → control.control.system ≡ system → LastsBy up control.control control.text (state control.disk) → (image : Image)
-      → (state control.disk).may_leave image → Holds state system source handed (StandsUp (last_up control)) image
+      → (state control.disk).may_leave image → HoldsSession state system source handed (StandsUp (last_up control)) image
   up_holds control false is same lasts image left = cc
   up_holds control true is same lasts image left = inl (record {
-    state = (now_of control.control).lasting;
-    recovers = subst (λ s. Recovers s image (Ok (now_of control.control).lasting)) same (lasts.images image left);
+    state = (control_moment control.control).lasting;
+    recovers = subst (λ s. Recovers s image (Ok (control_moment control.control).lasting)) same (lasts.images image left);
     may = ap (λ s. (moment_after s (start_of s control.control.opening) control.control.history).lasting) same;
   })
 
@@ -82,7 +82,7 @@ module _ {D : Type 0} (state : D → DiskState) (system : System) (source : List
   remains_at (Down idle) kept disk lives stops ready sound over = down_remains idle kept disk lives stops sound over
   remains_at Moved kept disk lives stops ready sound over = absurd ready
 
-pub closed_leaves : {D : Type 0} (state : D → DiskState) (session : Session D) (disk : D) (lives : List Life) (stops : List Stop) → IsReady state session → IsClosed state session disk lives stops
-    → LeavesSo state session disk lives stops
+pub closed_leaves : {D : Type 0} (state : D → DiskState) (session : Session D) (disk : D) (lives : List Life) (stops : List Stop) → IsSessionReady state session → IsSessionClosed state session disk lives stops
+    → SessionLeaves state session disk lives stops
 closed_leaves state session disk lives stops ready over = λ system source handed sound.
     remains_at state system source handed session.place session.kept disk lives stops ready sound over

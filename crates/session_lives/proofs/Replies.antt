@@ -4,15 +4,15 @@ use Rattle.std.specs.Prelude.{Option, Some, None, slice_get, if◌then◌else◌
 use Rattle.std.specs.Option.{option_map_or, option_and_then}
 use Rattle.tm_types.specs.declared.message.Reply.{Reply}
 use Rattle.model_system.specs.System.{System}
-use Rattle.model_system.specs.ModelSystemFormats.{format_of}
+use Rattle.model_system.specs.SystemFormats.{format_of}
 use Rattle.model_messages.specs.declared.replies.TerminalReplies.{TerminalReplies}
 use Rattle.model_machine.specs.declared.lasting.TerminalState.{TerminalState}
 use Rattle.model_machine.specs.declared.entry.ShowAnswer.TheVariants.{Reply as Showed, Empty, Stopped}
 use Rattle.model_machine.specs.Machine.{Moment, terminal_at, output_at}
-use Rattle.model_machine.specs.Steps.{show_by, show_to, show_answer}
+use Rattle.model_machine.specs.MachineCalls.{show_by, show_to, show_answer}
 use Rattle.model_session.specs.Text.{show_text, shown_text}
 use Rattle.lasting_state.specs.declared.shown.Shown.TheVariants.{Reply as ShownReply}
-use Rattle.lasting_state.specs.Showing.{IsShownTo, IsShownWhere}
+use Rattle.lasting_state.specs.ShownTerminal.{IsShownTo, IsShownWhere}
 
 -- the first reply, under its number
 abbrev first_of : Option TerminalReplies → Option Reply

@@ -8,38 +8,38 @@ use Rattle.tm_disk.specs.Disk.{Image, DiskState, IsDisk, IsSameDisk, ComesFrom, 
 use Rattle.tm_disk.proofs.Words.{same_on, stays_is_same, within_each, leaves_none}
 use Rattle.model_system.specs.System.{System}
 use Rattle.model_machine.specs.Machine.{LastingState, empty_state}
-use Rattle.model_image.specs.Alike.{RecoversAlike}
+use Rattle.model_image.specs.AlikeImages.{RecoversAlike}
 use Rattle.model_image.specs.Faults.{Fault}
-use Rattle.model_image.specs.Recovered.{Recovers}
+use Rattle.model_image.specs.RecoveredState.{Recovers}
 use Rattle.model_image.proofs.Answers.{one_answer_of, zeros_are_empty}
 use Rattle.model_session.specs.declared.asked.ImageRefused.{ImageRefused}
 use Rattle.model_session.specs.declared.asked.ImageRefused.TheVariants.{Rule, Text, Size}
 use Rattle.model_session.specs.declared.asked.Asked.{Asked}
 use Rattle.model_session.specs.declared.asked.Asked.TheVariants.{Bad, BadCommand, Stopped, Call, Quiet, Power, PowerIn, Restart, ColdStart}
 use Rattle.model_session.specs.Text.{broken_text, down_text}
-use Rattle.model_session.specs.Lives.{LifeState, LastLife, AreLegal, Leaves, with_life}
-use Rattle.model_session.specs.Standing.{Setting, Outage, SessionState, AreStops, IsEmptied, MayBeFound, LastAnswered, IsLeft, or_cold, opened, failed}
-use Rattle.model_session.specs.Standing.Standing.{Up as StandsUp, Down as StandsDown}
+use Rattle.model_session.specs.Lives.{LifeState, LastLife, AreLegal, LifeLeaves, with_life}
+use Rattle.model_session.specs.SessionState.{Setting, Outage, SessionState, AreStops, IsStateEmptied, MayBeFound, LastAnswered, IsStateLeft, or_cold, life_opened, failed}
+use Rattle.model_session.specs.SessionState.Standing.{Up as StandsUp, Down as StandsDown}
 use Rattle.model_session.proofs.Kept.{kept_has}
-use Rattle.model_session.specs.Session.{MayOpen, MayRefuse, OpensFirst, IsRestarted, Opens as OpensLife, FailsToOpen}
+use Rattle.model_session.specs.Session.{MayOpenWith, MayRefuse, OpensFirst, IsRestarted, OpensSession as OpensLife, FailsToOpen}
 use Rattle.restart_data.specs.Restart.{restart_in}
 use Rattle.model_machine.specs.declared.counts.Counter.{Counter}
 use Rattle.model_image.specs.Areas.{snapshot_area}
 use Rattle.model_image.specs.Counters.{next_sequence}
 use Rattle.model_image.specs.Text.{text_in, first_difference}
 use Rattle.openings.specs.FirstImage.{sectors_needed}
-use Rattle.checkpointing.specs.Texts.{HasText}
+use Rattle.checkpointing.specs.DefinitionText.{HasText}
 use Rattle.checkpointing.specs.Counts.{AreUpTo, CountsUpTo, RaisesCounts}
 use Rattle.checkpointing.proofs.Counted.{up_to_more, same_raises}
 use Rattle.session_law.specs.Measures.{call_raises, measure}
-use Rattle.session_law.specs.Spent.{FindsSpent, IsSpentAt}
-use Rattle.session_law.proofs.CounterLawSessions.{opened_measure, failed_measure}
+use Rattle.session_law.specs.SpentCounters.{FindsSpent, IsSpentAt}
+use Rattle.session_law.proofs.SessionMeasures.{opened_measure, failed_measure}
 use Rattle.openings.specs.declared.refusals.OpenError.{OpenError}
 use Rattle.openings.specs.declared.refusals.OpenError.TheVariants.{Spent as SpentCounter}
-use Rattle.openings.specs.Parts.{OpeningParts}
-use Rattle.openings.specs.Opening.{TellsOpening, SizeFirst, IsOther, IsSpent}
-use Rattle.disk_law.specs.Journal.{JournalState}
-use Rattle.openings.specs.Opened.{KeepsBy, Begins, Refuses}
+use Rattle.openings.specs.OpeningParts.{OpeningParts}
+use Rattle.openings.specs.OpenedImage.{TellsOpening, SizeFirst, IsOther, IsSpent}
+use Rattle.disk_law.specs.JournalState.{JournalState}
+use Rattle.openings.specs.LifeBeginning.{KeepsBy, BeginsLife, Refuses}
 use Rattle.openings.specs.declared.life.Life.{Life}
 use Rattle.session_lives.specs.declared.called.Opening.{Opening}
 use Rattle.session_lives.specs.declared.called.Opening.TheVariants.{Opened, Broke as OpeningBroke, Refused, Memory as OpeningMemory, Spent as OpeningSpent}
@@ -49,11 +49,11 @@ use Rattle.session_lives.specs.declared.place.Idle.{Idle}
 use Rattle.session_lives.specs.declared.place.Place.TheVariants.{Up, Down}
 use Rattle.session_lives.specs.declared.place.Kept.{Kept}
 use Rattle.session_lives.specs.declared.place.Session.{Session}
-use Rattle.session_lives.specs.Running.{life_of, last_of, last_up, kept_of, outage_of, session_at, session_of, session_down, setting_of, CountsDown, CountsFirst, LeadsBy, IsBrokenAs, IsRefusedFirst, IsOfDefinition, IsEmptyImage, IsRight, IsOfText, Holds, IsDownSound, IsSound, IsSoundAt, error_of}
-use Rattle.session_lives.specs.Counting.{CountsUp}
+use Rattle.session_lives.specs.RunningSession.{life_of, last_life_of, last_up, kept_steps, outage_of, session_at, session_of, session_down, session_setting, CountsDown, CountsFirst, LeadsBy, IsBrokenAs, IsRefusedFirst, IsOfDefinition, IsEmptyImage, IsRight, IsOfText, HoldsSession, IsDownSound, IsSessionSound, IsSoundAt, error_of}
+use Rattle.session_lives.specs.ControlCounts.{CountsUp}
 use Rattle.session_lives.proofs.Counting.{stands_more}
 use Rattle.session_lives.proofs.Told.{told_text}
-use Rattle.session_lives.specs.Openings.{how_of, kept_by, with_last, HasOpened, StaysIdle, HasFailed, HasGone, RefusesSpent, IsToldSo, IsRefusalTold, IsRestartedSo, IsLookedAt, CountsOn, UndoneBy, IsServedSo, restart_of}
+use Rattle.session_lives.specs.Openings.{how_of, life_kept_by, with_last_life, HasOpened, StaysIdle, HasFailed, HasGone, RefusesSpent, IsOpeningTold, IsRefusalTold, IsRestartedSo, IsLookedAt, CountsOn, UndoneBy, IsServedSo, asked_restart}
 use Rattle.session_lives.proofs.Ends.{same_state, outage_with, life_with, same_life, stops_one, rose_from}
 
 some_is : (a b : Bool) → Some b ≡ Some a → a ≡ b
@@ -77,7 +77,7 @@ higher least kept more less same = omega (arith, less, same)
 nothing_more : (count before steps : ℕ) → steps ≡ 0 → count ≡ max count (steps - before)
 nothing_more count before steps none = omega (arith, none)
 
-some_last : (last : Option Life) → is_some last ≡ true → is_some (option_map last_of last) ≡ true
+some_last : (last : Option Life) → is_some last ≡ true → is_some (option_map last_life_of last) ≡ true
 some_last None is = cc
 some_last (Some life) is = refl
 
@@ -104,17 +104,17 @@ no_difference text there place same differs =
 -- how many lasting steps of the last life are kept
 abbrev count_of : Option Life → Bool → ℕ → ℕ
 count_of None cold steps = 0
-count_of (Some life) cold steps = (kept_by cold life steps).kept
+count_of (Some life) cold steps = (life_kept_by cold life steps).kept
 
-kept_life_is : (cold : Bool) (life : Life) (steps : ℕ) → life_of (kept_by cold life steps) ≡ record { opening = life.opening; history = life.history; kept = (kept_by cold life steps).kept }
+kept_life_is : (cold : Bool) (life : Life) (steps : ℕ) → life_of (life_kept_by cold life steps) ≡ record { opening = life.opening; history = life.history; kept = (life_kept_by cold life steps).kept }
 kept_life_is true life steps = refl
 kept_life_is false life steps = refl
 
 lives_with : (lives : List Life) (last : Option Life) (cold : Bool) (steps : ℕ)
-    → map life_of (with_last lives last cold steps) ≡ with_life (map life_of lives) (option_map last_of last) (count_of last cold steps)
+    → map life_of (with_last_life lives last cold steps) ≡ with_life (map life_of lives) (option_map last_life_of last) (count_of last cold steps)
 lives_with lives None cold steps = refl
 lives_with lives (Some life) cold steps =
-    map-append life_of lives (kept_by cold life steps ∷ []) ∙ ap (λ l. map life_of lives ++ l ∷ []) (kept_life_is cold life steps)
+    map-append life_of lives (life_kept_by cold life steps ∷ []) ∙ ap (λ l. map life_of lives ++ l ∷ []) (kept_life_is cold life steps)
 
 pub legal_with : (system : System) (lives : List LifeState) (last : Option LastLife) (answered kept : ℕ) → AreLegal system lives → LastAnswered system last answered → AreLegal system (with_life lives last kept)
 legal_with system [] None answered kept legal is = tt
@@ -128,7 +128,7 @@ module _ {D : Type 0} (state : D → DiskState) (is_disk : (disk : D) → IsDisk
   before = session_at (Down idle) old
 
   abbrev setting : Setting
-  setting = setting_of state system source handed
+  setting = session_setting state system source handed
 
   abbrev outage : Outage
   outage = outage_of idle
@@ -145,21 +145,21 @@ module _ {D : Type 0} (state : D → DiskState) (is_disk : (disk : D) → IsDisk
   found_is kept state_then opening same may = subst (λ s. MayBeFound setting outage kept s) (sym same) may
 
   -- as it is counted: what is left of a life has all of its answered steps
-  counted_as : (last : Option Life) (kept : ℕ) (opening : LastingState) → LastAnswered system (option_map last_of last) (kept_of last)
-      → IsLeft setting (option_map last_of last) kept opening → IsLeft setting (option_map last_of last) (count_of last false opening.steps) opening
+  counted_as : (last : Option Life) (kept : ℕ) (opening : LastingState) → LastAnswered system (option_map last_life_of last) (kept_steps last)
+      → IsStateLeft setting (option_map last_life_of last) kept opening → IsStateLeft setting (option_map last_life_of last) (count_of last false opening.steps) opening
   counted_as None kept opening answered left = left
   counted_as (Some life) kept opening answered left =
-      subst (λ n. Leaves system (last_of life) n opening)
-      (higher life.kept kept (opening.steps - life.opening.steps) (kept_has system (last_of life) life.kept kept opening answered left) left.counted) left
+      subst (λ n. LifeLeaves system (last_life_of life) n opening)
+      (higher life.kept kept (opening.steps - life.opening.steps) (kept_has system (last_life_of life) life.kept kept opening answered left) left.counted) left
 
   -- and where nothing is left, just these
-  emptied_as : (last : Option Life) (kept : ℕ) (emptied : Bool) (opening : LastingState) → LastAnswered system (option_map last_of last) (kept_of last)
-      → IsEmptied system (option_map last_of last) emptied kept opening → IsEmptied system (option_map last_of last) emptied (count_of last false opening.steps) opening
+  emptied_as : (last : Option Life) (kept : ℕ) (emptied : Bool) (opening : LastingState) → LastAnswered system (option_map last_life_of last) (kept_steps last)
+      → IsStateEmptied system (option_map last_life_of last) emptied kept opening → IsStateEmptied system (option_map last_life_of last) emptied (count_of last false opening.steps) opening
   emptied_as None kept emptied opening answered is = record { broke_off = is.broke_off; empty = is.empty; answered = refl }
   emptied_as (Some life) kept emptied opening answered is = record {
     broke_off = is.broke_off;
     empty = is.empty;
-    answered = subst (λ n. LastAnswered system (option_map last_of (Some life)) n)
+    answered = subst (λ n. LastAnswered system (option_map last_life_of (Some life)) n)
         (nothing_more life.kept life.opening.steps opening.steps (ap (λ s. s.steps) is.empty)) answered;
   }
 
@@ -167,18 +167,18 @@ module _ {D : Type 0} (state : D → DiskState) (is_disk : (disk : D) → IsDisk
   count_found kept opening (inl left) = inl (counted_as idle.last kept opening sound.answered left)
   count_found kept opening (inr emptied) = inr (emptied_as idle.last kept idle.emptied opening sound.answered emptied)
 
-  found_by : (image : Image) (opening : LastingState) → Holds state system source handed (StandsDown outage) image → Recovers system image (Ok opening)
+  found_by : (image : Image) (opening : LastingState) → HoldsSession state system source handed (StandsDown outage) image → Recovers system image (Ok opening)
       → MayBeFound setting outage (count_of idle.last false opening.steps) opening
   found_by image opening (inl recalls) recovers =
       let same : opening ≡ recalls.state = ok_is opening recalls.state (one_answer_of system image (Ok opening) (Ok recalls.state) recovers recalls.recovers) in
       count_found recalls.may.0 opening (found_is recalls.may.0 recalls.state opening same recalls.may.1)
   found_by image opening (inr unopened) recovers =
-      inl (subst (λ l. IsLeft setting l (count_of idle.last false opening.steps) opening) (sym unopened.no_life) (begins_by image unopened.before opening unopened.left unopened.alike recovers))
+      inl (subst (λ l. IsStateLeft setting l (count_of idle.last false opening.steps) opening) (sym unopened.no_life) (begins_by image unopened.before opening unopened.left unopened.alike recovers))
 
   tells_now : setting.tells ≡ true → (state idle.disk).tells ≡ true
   tells_now tells = sound.same.tells ∙ tells
 
-  shown_holds : setting.tells ≡ true → Holds state system source handed (StandsDown outage) (state idle.disk).shown
+  shown_holds : setting.tells ≡ true → HoldsSession state system source handed (StandsDown outage) (state idle.disk).shown
   shown_holds tells = sound.images (state idle.disk).shown ((is_disk idle.disk).shown_left (tells_now tells))
 
   -- what the disk tells when it was opened
@@ -187,15 +187,15 @@ module _ {D : Type 0} (state : D → DiskState) (is_disk : (disk : D) → IsDisk
   told_state parts opening text (inr cold) =
       subst (λ s. Recovers idle.system (state idle.disk).shown (Ok s)) (sym cold.begun.empty) (zeros_are_empty idle.system (state idle.disk).shown cold.zeros)
 
-  may_open : (cold : Bool) (opening : LastingState) (journal : JournalState) (next : ℕ) → Begins (how_of cold) idle.system idle.text (state idle.disk) opening journal.restart journal.log next → setting.tells ≡ true
-      → MayOpen cold setting outage (count_of idle.last cold opening.steps) opening
+  may_open : (cold : Bool) (opening : LastingState) (journal : JournalState) (next : ℕ) → BeginsLife (how_of cold) idle.system idle.text (state idle.disk) opening journal.restart journal.log next → setting.tells ≡ true
+      → MayOpenWith cold setting outage (count_of idle.last cold opening.steps) opening
   may_open false opening journal next begins tells =
       found_by (state idle.disk).shown opening (shown_holds tells)
       (subst (λ s. Recovers s (state idle.disk).shown (Ok opening)) sound.system_is (told_state begins.parts opening idle.text (begins.found refl (tells_now tells))))
   may_open true opening journal next begins tells =
       ((begins.cold refl).empty ∙ ap empty_state sound.system_is, answered_as idle.last sound.answered)
     where
-      answered_as : (last : Option Life) → LastAnswered system (option_map last_of last) (kept_of last) → LastAnswered system (option_map last_of last) (count_of last true opening.steps)
+      answered_as : (last : Option Life) → LastAnswered system (option_map last_life_of last) (kept_steps last) → LastAnswered system (option_map last_life_of last) (count_of last true opening.steps)
       answered_as None is = is
       answered_as (Some life) is = is
 
@@ -224,7 +224,7 @@ module _ {D : Type 0} (state : D → DiskState) (is_disk : (disk : D) → IsDisk
   sectors_there : sectors_needed idle.system ≤ (state idle.disk).size → sectors_needed system ≤ (state handed).size
   sectors_there enough = subst (λ n. sectors_needed system ≤ n) sound.same.size (subst (λ s. sectors_needed s ≤ (state idle.disk).size) sound.system_is enough)
 
-  opened_state : (cold : Bool) (gone : HasOpened state idle old cold session) → session_of session ≡ opened before outage (count_of idle.last cold gone.control.control.opening.steps) gone.control.control.opening
+  opened_state : (cold : Bool) (gone : HasOpened state idle old cold session) → session_of session ≡ life_opened before outage (count_of idle.last cold gone.control.control.opening.steps) gone.control.control.opening
   opened_state cold gone =
       ap (λ p. session_at p session.kept) gone.place
       ∙ same_state (with_life (map life_of old.lives.items) outage.last (count_of idle.last cold gone.control.control.opening.steps)) (map life_of session.kept.lives.items)
@@ -250,7 +250,7 @@ module _ {D : Type 0} (state : D → DiskState) (is_disk : (disk : D) → IsDisk
             (up_to_more system (bound high + 1) (high + call_raises * measure (session_at (Up gone.control) session.kept)) image more (raised gone.control.disk gone.counts high first image left));
       }
 
-  opened_sound : (cold : Bool) → HasOpened state idle old cold session → IsSound state system source handed session
+  opened_sound : (cold : Bool) → HasOpened state idle old cold session → IsSessionSound state system source handed session
   opened_sound cold gone =
       subst (λ p. IsSoundAt state system source handed p session.kept) (sym gone.place) (record {
         handed_alone = sound.handed_alone;
@@ -262,7 +262,7 @@ module _ {D : Type 0} (state : D → DiskState) (is_disk : (disk : D) → IsDisk
             (subst (λ s. AreStops (state handed).faults s (state idle.disk).faults) (sym gone.stops) sound.stops);
         began = omega (arith, gone.opens.began, gone.opens.no_fault);
         legal = subst (λ l. AreLegal system l) (sym (ap (map life_of) gone.lives ∙ lives_with old.lives.items idle.last cold gone.control.control.opening.steps))
-            (legal_with system (map life_of old.lives.items) outage.last (kept_of idle.last) (count_of idle.last cold gone.control.control.opening.steps) sound.legal sound.answered);
+            (legal_with system (map life_of old.lives.items) outage.last (kept_steps idle.last) (count_of idle.last cold gone.control.control.opening.steps) sound.legal sound.answered);
         valid = sound.valid;
         counts = opened_counts cold gone;
       })
@@ -272,7 +272,7 @@ module _ {D : Type 0} (state : D → DiskState) (is_disk : (disk : D) → IsDisk
   outage_after : (after : Idle D) (emptied stopped : Bool) → after.last ≡ idle.last → after.emptied ≡ emptied → after.stopped ≡ stopped
       → outage_of after ≡ outage_with outage.last emptied stopped
   outage_after after emptied stopped last e t =
-      ap (λ l. outage_with (option_map last_of l) after.emptied after.stopped) last ∙ ap (λ b. outage_with outage.last b after.stopped) e ∙ ap (outage_with outage.last emptied) t
+      ap (λ l. outage_with (option_map last_life_of l) after.emptied after.stopped) last ∙ ap (λ b. outage_with outage.last b after.stopped) e ∙ ap (outage_with outage.last emptied) t
 
   failed_state : (cold : Bool) (gone : HasFailed state idle old cold session) → session_of session ≡ failed before outage cold ((state idle.disk).faults, (state gone.disk).faults)
   failed_state cold gone =
@@ -282,7 +282,7 @@ module _ {D : Type 0} (state : D → DiskState) (is_disk : (disk : D) → IsDisk
       (ap (map life_of) gone.lives) gone.stops (ap StandsDown (outage_after gone.after (or_cold cold outage.emptied) true gone.last gone.emptied gone.stopped))
 
   -- what was held before is held still, where a cold start may have emptied it
-  keeps_holding : (cold : Bool) (image : Image) → Holds state system source handed (StandsDown outage) image → Holds state system source handed (StandsDown (outage_with outage.last (or_cold cold outage.emptied) true)) image
+  keeps_holding : (cold : Bool) (image : Image) → HoldsSession state system source handed (StandsDown outage) image → HoldsSession state system source handed (StandsDown (outage_with outage.last (or_cold cold outage.emptied) true)) image
   keeps_holding cold image (inl recalls) = inl (record { state = recalls.state; recovers = recalls.recovers; may = (recalls.may.0, still cold recalls.may.1) })
     where
       still : (cold : Bool) → MayBeFound setting outage recalls.may.0 recalls.state → MayBeFound setting (outage_with outage.last (or_cold cold outage.emptied) true) recalls.may.0 recalls.state
@@ -291,16 +291,16 @@ module _ {D : Type 0} (state : D → DiskState) (is_disk : (disk : D) → IsDisk
       still false (inr emptied) = inr emptied
   keeps_holding cold image (inr unopened) = inr (record { no_life = unopened.no_life; before = unopened.before; left = unopened.left; alike = unopened.alike })
 
-  alike_holds : (first image : Image) → RecoversAlike system first image → Holds state system source handed (StandsDown outage) first → Holds state system source handed (StandsDown outage) image
+  alike_holds : (first image : Image) → RecoversAlike system first image → HoldsSession state system source handed (StandsDown outage) first → HoldsSession state system source handed (StandsDown outage) image
   alike_holds first image alike (inl recalls) = inl (record { state = recalls.state; recovers = alike (Ok recalls.state) recalls.recovers; may = recalls.may })
   alike_holds first image alike (inr unopened) =
       inr (record { no_life = unopened.no_life; before = unopened.before; left = unopened.left; alike = λ answer is. alike answer (unopened.alike answer is) })
 
-  broken_by : (cold : Bool) (first image : Image) → KeepsBy (how_of cold) system source first image → Holds state system source handed (StandsDown outage) first
-      → Holds state system source handed (StandsDown (outage_with outage.last (or_cold cold outage.emptied) true)) image
+  broken_by : (cold : Bool) (first image : Image) → KeepsBy (how_of cold) system source first image → HoldsSession state system source handed (StandsDown outage) first
+      → HoldsSession state system source handed (StandsDown (outage_with outage.last (or_cold cold outage.emptied) true)) image
   broken_by false first image keeps holds = keeps_holding false image (alike_holds first image keeps.alike holds)
-  broken_by true first image (inl same) holds = keeps_holding true image (subst (λ i. Holds state system source handed (StandsDown outage) i) (sym same) holds)
-  broken_by true first image (inr empty) holds = inl (record { state = empty_state system; recovers = empty.recovers; may = (kept_of idle.last, inr (record { broke_off = refl; empty = refl; answered = sound.answered })) })
+  broken_by true first image (inl same) holds = keeps_holding true image (subst (λ i. HoldsSession state system source handed (StandsDown outage) i) (sym same) holds)
+  broken_by true first image (inr empty) holds = inl (record { state = empty_state system; recovers = empty.recovers; may = (kept_steps idle.last, inr (record { broke_off = refl; empty = refl; answered = sound.answered })) })
 
   same_image : (cold : Bool) (image : Image) → KeepsBy (how_of cold) system source image image
   same_image false image = record { alike = λ answer is. is; texts = inl refl }
@@ -366,7 +366,7 @@ module _ {D : Type 0} (state : D → DiskState) (is_disk : (disk : D) → IsDisk
       text_by cold comes.before image comes.by (sound.texts comes.before comes.left)
 
   failed_holds : (cold : Bool) (gone : HasFailed state idle old cold session) (image : Image) → (state gone.after.disk).may_leave image
-      → Holds state system source handed (StandsDown (outage_with outage.last (or_cold cold outage.emptied) true)) image
+      → HoldsSession state system source handed (StandsDown (outage_with outage.last (or_cold cold outage.emptied) true)) image
   failed_holds cold gone image left =
       let comes = failed_from cold gone image left in
       broken_by cold comes.before image comes.by (sound.images comes.before comes.left)
@@ -381,7 +381,7 @@ module _ {D : Type 0} (state : D → DiskState) (is_disk : (disk : D) → IsDisk
       up_to_more system (bound high + 1) (high + call_raises * measure (session_at (Down gone.after) session.kept)) image (omega (arith, failed_measured cold gone))
       (raised gone.disk gone.counts high first image (gone.cut.no_more image left))
 
-  failed_sound : (cold : Bool) → HasFailed state idle old cold session → IsSound state system source handed session
+  failed_sound : (cold : Bool) → HasFailed state idle old cold session → IsSessionSound state system source handed session
   failed_sound cold gone =
       let outage_is : outage_of gone.after ≡ outage_with outage.last (or_cold cold outage.emptied) true = outage_after gone.after (or_cold cold outage.emptied) true gone.last gone.emptied gone.stopped in
       let same : IsSameDisk (state handed) (state gone.disk) = same_on (state handed) (state idle.disk) (state gone.disk) sound.same (stays_is_same (state idle.disk) (state gone.disk) gone.back.stays) in
@@ -397,8 +397,8 @@ module _ {D : Type 0} (state : D → DiskState) (is_disk : (disk : D) → IsDisk
             (stops_one (state handed).faults (state idle.disk).faults (state idle.disk).faults (state gone.disk).faults old.stops.items sound.stops (omega arith) gone.back.stays.faults
             (rose_from (state idle.disk).faults (state idle.disk).faults (state gone.disk).faults (omega arith) gone.back.cause)));
         legal = subst (λ l. AreLegal system (map life_of l)) (sym gone.lives) sound.legal;
-        answered = subst (λ l. LastAnswered system (option_map last_of l) (kept_of l)) (sym gone.last) sound.answered;
-        images = λ image left. subst (λ o. Holds state system source handed (StandsDown o) image) (sym outage_is) (failed_holds cold gone image left);
+        answered = subst (λ l. LastAnswered system (option_map last_life_of l) (kept_steps l)) (sym gone.last) sound.answered;
+        images = λ image left. subst (λ o. HoldsSession state system source handed (StandsDown o) image) (sym outage_is) (failed_holds cold gone image left);
         valid = sound.valid;
         counts = failed_counts cold gone;
       })
@@ -420,7 +420,7 @@ module _ {D : Type 0} (state : D → DiskState) (is_disk : (disk : D) → IsDisk
       up_to_more system (bound high) (high + call_raises * measure (session_at (Down idles.after) session.kept)) image (omega (arith, idle_measured idles))
       (sound.counts high first image (idles.wrote.keeps.no_more image left))
 
-  idle_sound : StaysIdle state idle old session → IsSound state system source handed session
+  idle_sound : StaysIdle state idle old session → IsSessionSound state system source handed session
   idle_sound idles =
       let outage_is : outage_of idles.after ≡ outage = outage_after idles.after outage.emptied outage.stopped idles.last idles.emptied idles.stopped in
       subst (λ p. IsSoundAt state system source handed p session.kept) (sym idles.place) (record {
@@ -433,15 +433,15 @@ module _ {D : Type 0} (state : D → DiskState) (is_disk : (disk : D) → IsDisk
         stops = subst (λ n. AreStops (state handed).faults session.kept.stops.items n) (sym idles.wrote.no_fault)
             (subst (λ s. AreStops (state handed).faults s (state idle.disk).faults) (sym idles.stops) sound.stops);
         legal = subst (λ l. AreLegal system (map life_of l)) (sym idles.lives) sound.legal;
-        answered = subst (λ l. LastAnswered system (option_map last_of l) (kept_of l)) (sym idles.last) sound.answered;
-        images = λ image left. subst (λ o. Holds state system source handed (StandsDown o) image) (sym outage_is) (sound.images image (idles.wrote.keeps.no_more image left));
+        answered = subst (λ l. LastAnswered system (option_map last_life_of l) (kept_steps l)) (sym idles.last) sound.answered;
+        images = λ image left. subst (λ o. HoldsSession state system source handed (StandsDown o) image) (sym outage_is) (sound.images image (idles.wrote.keeps.no_more image left));
         valid = sound.valid;
         counts = idle_counts idles;
       })
 
   -- ---- a disk that can't be opened
 
-  never_none : (last : Option Life) → is_some last ≡ true → option_map last_of last ≡ None → ⊥
+  never_none : (last : Option Life) → is_some last ≡ true → option_map last_life_of last ≡ None → ⊥
   never_none None begun none = cc
   never_none (Some life) begun none = cc
 
@@ -492,7 +492,7 @@ module _ {D : Type 0} (state : D → DiskState) (is_disk : (disk : D) → IsDisk
   no_life : is_some idle.last ≡ false → outage.last ≡ None
   no_life none = of idle.last none
     where
-      of : (last : Option Life) → is_some last ≡ false → option_map last_of last ≡ None
+      of : (last : Option Life) → is_some last ≡ false → option_map last_life_of last ≡ None
       of None none = refl
       of (Some life) none = cc
 
@@ -503,14 +503,14 @@ module _ {D : Type 0} (state : D → DiskState) (is_disk : (disk : D) → IsDisk
   AlikeFirst = ((image : Image) → (state handed).may_leave image → RecoversAlike system image (state idle.disk).shown)
       ⊎ ((outage.emptied ≡ true) × Recovers system (state idle.disk).shown (Ok (empty_state system)))
 
-  alike_found : (lasting : LastingState) → Recovers system (state idle.disk).shown (Ok lasting) → (last : Option LastLife) → last ≡ None → (kept : ℕ) → IsLeft setting last kept lasting
+  alike_found : (lasting : LastingState) → Recovers system (state idle.disk).shown (Ok lasting) → (last : Option LastLife) → last ≡ None → (kept : ℕ) → IsStateLeft setting last kept lasting
       → (image : Image) → (state handed).may_leave image → RecoversAlike system image (state idle.disk).shown
   alike_found lasting recovers (Some life) none kept left image there answer is = cc
   alike_found lasting recovers None none kept left image there answer is =
       let found = left image there in
       subst (λ (a : Result LastingState Fault). Recovers system (state idle.disk).shown a) (one_answer_of system found.found (Ok lasting) answer found.recovers (found.alike answer is)) recovers
 
-  alike_first : outage.last ≡ None → Holds state system source handed (StandsDown outage) (state idle.disk).shown → AlikeFirst
+  alike_first : outage.last ≡ None → HoldsSession state system source handed (StandsDown outage) (state idle.disk).shown → AlikeFirst
   alike_first none (inl recalls) = of recalls.may.1
     where
       of : MayBeFound setting outage recalls.may.0 recalls.state → AlikeFirst
@@ -627,7 +627,7 @@ module _ {D : Type 0} (state : D → DiskState) (is_disk : (disk : D) → IsDisk
 
   -- What was handed in is opened only where it is of the definition's text; or a cold start has emptied it.
   right_first : (cold : Bool) (gone : HasOpened state idle old cold session) → setting.tells ≡ true → OpensFirst cold outage
-      → setting.right_text ⊎ IsEmptied system outage.last outage.emptied (count_of idle.last cold gone.control.control.opening.steps) gone.control.control.opening
+      → setting.right_text ⊎ IsStateEmptied system outage.last outage.emptied (count_of idle.last cold gone.control.control.opening.steps) gone.control.control.opening
   right_first true gone tells yet = absurd (no_true yet.found)
   right_first false gone tells yet = of (shown_text tells)
     where
@@ -643,9 +643,9 @@ module _ {D : Type 0} (state : D → DiskState) (is_disk : (disk : D) → IsDisk
       recovers = subst (λ s. Recovers s (state idle.disk).shown (Ok gone.control.control.opening)) sound.system_is (told_state gone.opens.begins.parts gone.control.control.opening idle.text told)
 
       opens_empty : IsEmptyImage system (StandsDown outage) (state idle.disk).shown
-          → IsEmptied system outage.last outage.emptied (count_of idle.last false gone.control.control.opening.steps) gone.control.control.opening
+          → IsStateEmptied system outage.last outage.emptied (count_of idle.last false gone.control.control.opening.steps) gone.control.control.opening
       opens_empty emptied =
-          emptied_as idle.last (kept_of idle.last) idle.emptied gone.control.control.opening sound.answered
+          emptied_as idle.last (kept_steps idle.last) idle.emptied gone.control.control.opening sound.answered
           (record {
             broke_off = emptied.broke_off;
             empty = ok_is gone.control.control.opening (empty_state system)
@@ -654,7 +654,7 @@ module _ {D : Type 0} (state : D → DiskState) (is_disk : (disk : D) → IsDisk
           })
 
       of : IsOfText state system source handed (StandsDown outage) (state idle.disk).shown
-          → setting.right_text ⊎ IsEmptied system outage.last outage.emptied (count_of idle.last false gone.control.control.opening.steps) gone.control.control.opening
+          → setting.right_text ⊎ IsStateEmptied system outage.last outage.emptied (count_of idle.last false gone.control.control.opening.steps) gone.control.control.opening
       of (inl right) = ⊎_elim (λ was. inl was) (λ emptied. inr (opens_empty emptied)) (right.first (record { found = refl; first = yet.first }))
       of (inr there) = inl (handed_text (state idle.disk).shown there.left has)
 
@@ -671,7 +671,7 @@ module _ {D : Type 0} (state : D → DiskState) (is_disk : (disk : D) → IsDisk
   pub fails_gone : (cold : Bool) → HasFailed state idle old cold session → FailsToOpen cold before outage (session_of session)
   fails_gone cold gone = record { stop = ((state idle.disk).faults, (state gone.disk).faults); ends = failed_state cold gone }
 
-  pub restarted : (cold : Bool) (opening : Opening) (text : List ℕ) (served : Served) → HasGone state idle old cold session opening → IsToldSo cold (is_some idle.last) opening text served → Restarted cold text served
+  pub restarted : (cold : Bool) (opening : Opening) (text : List ℕ) (served : Served) → HasGone state idle old cold session opening → IsOpeningTold cold (is_some idle.last) opening text served → Restarted cold text served
   restarted cold Opened text served gone (printed, same) =
       subst (λ s. Restarted cold text s) (sym printed)
       (inl (opens_gone cold gone, same))
@@ -681,7 +681,7 @@ module _ {D : Type 0} (state : D → DiskState) (is_disk : (disk : D) → IsDisk
   restarted cold OpeningMemory text served gone why = subst (λ s. Restarted cold text s) (sym why) (idle_state gone, tt)
   restarted cold OpeningSpent text served (gone, spent) why = subst (λ s. Restarted cold text s) (sym why) (idle_state gone, spent_down cold spent)
 
-  pub gone_sound : (cold : Bool) (opening : Opening) → HasGone state idle old cold session opening → IsSound state system source handed session
+  pub gone_sound : (cold : Bool) (opening : Opening) → HasGone state idle old cold session opening → IsSessionSound state system source handed session
   gone_sound cold Opened gone = opened_sound cold gone
   gone_sound cold OpeningBroke gone = failed_sound cold gone
   gone_sound cold (Refused refusal) gone = idle_sound gone.0
@@ -689,7 +689,7 @@ module _ {D : Type 0} (state : D → DiskState) (is_disk : (disk : D) → IsDisk
   gone_sound cold OpeningSpent gone = idle_sound gone.0
 
   -- a block that asks for a restart
-  served_restart : (asked : Asked) (text : List ℕ) (served : Served) (cold : Bool) → restart_of asked ≡ Some cold → Restarted cold text served → IsServedSo asked text served setting before (session_of session)
+  served_restart : (asked : Asked) (text : List ℕ) (served : Served) (cold : Bool) → asked_restart asked ≡ Some cold → Restarted cold text served → IsServedSo asked text served setting before (session_of session)
   served_restart Restart text Printed cold is one = subst (λ c. IsRestarted c setting before outage (session_of session) text) (some_is cold false is) one
   served_restart Restart text Broke cold is one = subst (λ c. IsRestarted c setting before outage (session_of session) broken_text) (some_is cold false is) one
   served_restart Restart text (NotServed undone) cold is one =
@@ -706,7 +706,7 @@ module _ {D : Type 0} (state : D → DiskState) (is_disk : (disk : D) → IsDisk
   served_restart (Power pick) text served cold is one = cc
   served_restart (PowerIn writes pick) text served cold is one = cc
 
-  pub served_down : (asked : Asked) (text : List ℕ) (served : Served) (cold : Bool) → restart_of asked ≡ Some cold → IsRestartedSo state idle old cold session text served
+  pub served_down : (asked : Asked) (text : List ℕ) (served : Served) (cold : Bool) → asked_restart asked ≡ Some cold → IsRestartedSo state idle old cold session text served
       → LeadsBy state (λ setting old new. IsServedSo asked text served setting old new) system source handed (session_down idle old) session
   served_down asked text served cold is one = record {
     goes = served_restart asked text served cold is (restarted cold one.opening text served one.gone one.told);
@@ -714,7 +714,7 @@ module _ {D : Type 0} (state : D → DiskState) (is_disk : (disk : D) → IsDisk
   }
 
 -- another block
-pub served_else : {D : Type 0} (state : D → DiskState) (idle : Idle D) (old : Kept) (setting : Setting) (asked : Asked) → restart_of asked ≡ None
+pub served_else : {D : Type 0} (state : D → DiskState) (idle : Idle D) (old : Kept) (setting : Setting) (asked : Asked) → asked_restart asked ≡ None
     → IsServedSo asked down_text Printed setting (session_at (Down idle) old) (session_at (Down idle) old)
 served_else state idle old setting Restart is = cc
 served_else state idle old setting ColdStart is = cc

@@ -8,16 +8,16 @@ use Rattle.model_system.specs.System.{System}
 use Rattle.model_machine.specs.declared.entry.Entry.{Entry}
 use Rattle.model_machine.specs.declared.entry.ControlCall.TheVariants.{Turn}
 use Rattle.model_machine.specs.Machine.{start_of}
-use Rattle.model_machine.specs.History.{May, AreSteps, IsCall, call_of, now_of, moment_after}
+use Rattle.model_machine.specs.History.{May, AreSteps, IsCall, call_of, control_moment, moment_after}
 use Rattle.model_session.specs.declared.asked.Asked.{Asked}
 use Rattle.model_session.specs.declared.asked.Asked.TheVariants.{Bad, BadCommand, Stopped, Call, Quiet, Power as AskedPower, PowerIn, Restart, ColdStart}
 use Rattle.model_session.specs.Text.{entry_text, broken_text, armed_text}
-use Rattle.model_session.specs.Turns.{IsQuieted, IsBrokenOff, quieted_text, region_after}
+use Rattle.model_session.specs.QuietTurns.{IsQuieted, IsBrokenOff, quieted_text, region_behind_turns}
 use Rattle.model_session.specs.Lives.{AreLegal, now_in}
-use Rattle.model_session.specs.Standing.{Setting, SessionState, AreStops, gone_on, called_on, broken}
+use Rattle.model_session.specs.SessionState.{Setting, SessionState, AreStops, life_gone_on, called_on, broken}
 use Rattle.model_session.specs.Session.{IsServedUp, IsBegunBy}
-use Rattle.tm_control.specs.OnDisk.{ControlOnDisk}
-use Rattle.tm_control.specs.Calls.{IsSameControl, AddedNothing}
+use Rattle.tm_control.specs.ControlOnDisk.{ControlOnDisk}
+use Rattle.tm_control.specs.ControlCalls.{IsSameControl, AddedNothing}
 use Rattle.session_lives.specs.declared.called.Called.{Called}
 use Rattle.session_lives.specs.declared.called.Called.TheVariants.{Answered, Frozen, Power, Broke, Memory, Spent}
 use Rattle.session_lives.specs.declared.called.Served.{Served}
@@ -25,11 +25,11 @@ use Rattle.session_lives.specs.declared.place.Place.TheVariants.{Up}
 use Rattle.session_lives.specs.declared.place.Kept.{Kept}
 use Rattle.session_lives.specs.declared.place.Session.{Session}
 use Rattle.session_law.specs.Measures.{call_raises, lives_measure, measure}
-use Rattle.session_law.specs.Spent.{HasSpent, IsSpentAt}
-use Rattle.session_lives.specs.Counting.{CountsUp, KeepsPace}
-use Rattle.session_lives.specs.Running.{life_of, last_up, session_at, session_of, session_up, setting_of, CountsFirst, IsUpReady, IsUpSound, IsSound, IsSoundAt, IsReadyAt, LeadsBy}
-use Rattle.session_lives.specs.Asking.{IsAsked, Does, Freezes, Fails, PowersOff, Undoes, IsSpentUp, LooksAtCounters}
-use Rattle.session_lives.specs.Openings.{IsEndable, HasEndedLife, IsAloneBy, IsSettled, CountsOn, IsServedSo}
+use Rattle.session_law.specs.SpentCounters.{HasSpent, IsSpentAt}
+use Rattle.session_lives.specs.ControlCounts.{CountsUp, KeepsPace}
+use Rattle.session_lives.specs.RunningSession.{life_of, last_up, session_at, session_of, session_up, session_setting, CountsFirst, IsUpReady, IsUpSound, IsSessionSound, IsSoundAt, IsReadyAt, LeadsBy}
+use Rattle.session_lives.specs.AskedControl.{IsAsked, DoesAsked, Freezes, AskedFails, PowersOff, Undoes, IsSpentUp, LooksAtCounters}
+use Rattle.session_lives.specs.Openings.{IsEndable, HasEndedLife, IsAloneBy, IsCallSettled, CountsOn, IsServedSo}
 use Rattle.session_lives.proofs.Counting.{counts_more}
 use Rattle.session_lives.proofs.Ends.{up_state, same_up, ended_state, broken_state, down_sound, stop_behind, no_stop}
 
@@ -53,35 +53,35 @@ module _ {D : Type 0} (state : D → DiskState) (system : System) (source : List
   before = session_at (Up a) old
 
   abbrev setting : Setting
-  setting = setting_of state system source handed
+  setting = session_setting state system source handed
 
   -- where the session stands now
   goes_up : session ≡ session_up b kept → session_of session ≡ session_at (Up b) kept
   goes_up on = ap (λ (s : Session D). session_of s) on
 
-  up_after : session ≡ session_up b kept → (entries : List Entry) → b.control.history ≡ a.control.history ++ entries → session_of session ≡ gone_on before (last_up a) entries
+  up_after : session ≡ session_up b kept → (entries : List Entry) → b.control.history ≡ a.control.history ++ entries → session_of session ≡ life_gone_on before (last_up a) entries
   up_after on entries history = goes_up on ∙ up_state a b old kept entries stays.opening history lives stops
 
   same_after : session ≡ session_up b kept → b.control.history ≡ a.control.history → session_of session ≡ before
   same_after on history = goes_up on ∙ same_up a b old kept stays.opening history lives stops
 
   -- the machine's answer, in the system's own words
-  may_in : (entry : Entry) → May a.control.system (now_of a.control) entry → May system (now_in system (last_up a)) entry
+  may_in : (entry : Entry) → May a.control.system (control_moment a.control) entry → May system (now_in system (last_up a)) entry
   may_in entry may = subst (λ s. May s (moment_after s (start_of s a.control.opening) a.control.history) entry) sound.system_is may
 
-  steps_in : (entries : List Entry) → AreSteps a.control.system (now_of a.control) entries → AreSteps system (now_in system (last_up a)) entries
+  steps_in : (entries : List Entry) → AreSteps a.control.system (control_moment a.control) entries → AreSteps system (now_in system (last_up a)) entries
   steps_in entries steps = subst (λ s. AreSteps s (moment_after s (start_of s a.control.opening) a.control.history) entries) sound.system_is steps
 
-  text_in : (entry : Entry) → text ≡ entry_text a.control.system (now_of a.control) entry → text ≡ entry_text system (now_in system (last_up a)) entry
+  text_in : (entry : Entry) → text ≡ entry_text a.control.system (control_moment a.control) entry → text ≡ entry_text system (now_in system (last_up a)) entry
   text_in entry same = subst (λ s. text ≡ entry_text s (moment_after s (start_of s a.control.opening) a.control.history) entry) sound.system_is same
 
-  quieted_in : (most : ℕ) (turns : List Entry) → IsQuieted most a.control.system (now_of a.control) turns → IsQuieted most system (now_in system (last_up a)) turns
+  quieted_in : (most : ℕ) (turns : List Entry) → IsQuieted most a.control.system (control_moment a.control) turns → IsQuieted most system (now_in system (last_up a)) turns
   quieted_in most turns quieted = subst (λ s. IsQuieted most s (moment_after s (start_of s a.control.opening) a.control.history) turns) sound.system_is quieted
 
-  quiet_text_in : (turns : List Entry) → text ≡ quieted_text a.control.system (now_of a.control) turns → text ≡ quieted_text system (now_in system (last_up a)) turns
+  quiet_text_in : (turns : List Entry) → text ≡ quieted_text a.control.system (control_moment a.control) turns → text ≡ quieted_text system (now_in system (last_up a)) turns
   quiet_text_in turns same = subst (λ s. text ≡ quieted_text s (moment_after s (start_of s a.control.opening) a.control.history) turns) sound.system_is same
 
-  begun_in : (most : ℕ) (turns : List Entry) → IsBrokenOff most a.control.system (now_of a.control) turns → IsBrokenOff most system (now_in system (last_up a)) turns
+  begun_in : (most : ℕ) (turns : List Entry) → IsBrokenOff most a.control.system (control_moment a.control) turns → IsBrokenOff most system (now_in system (last_up a)) turns
   begun_in most turns begun = subst (λ s. IsBrokenOff most s (moment_after s (start_of s a.control.opening) a.control.history) turns) sound.system_is begun
 
   -- ---- how far it counts
@@ -100,7 +100,7 @@ module _ {D : Type 0} (state : D → DiskState) (system : System) (source : List
 
   -- ---- what is sound behind it
 
-  pub up_sound : session ≡ session_up b kept → IsSound state system source handed session
+  pub up_sound : session ≡ session_up b kept → IsSessionSound state system source handed session
   up_sound on =
       subst (λ (s : Session D). IsSoundAt state system source handed s.place s.kept) (sym on)
       (record {
@@ -128,13 +128,13 @@ module _ {D : Type 0} (state : D → DiskState) (system : System) (source : List
   began_before : b.began ≤ (state a.disk).faults
   began_before = subst (λ n. n ≤ (state a.disk).faults) (sym stays.began) sound.began
 
-  pub power_sound : {cut : Option ℕ} → HasEndedLife state b kept cut false session → IsSound state system source handed session
+  pub power_sound : {cut : Option ℕ} → HasEndedLife state b kept cut false session → IsSessionSound state system source handed session
   power_sound over =
       subst (λ p. IsSoundAt state system source handed p session.kept) (sym over.place)
       (down_sound state system source handed b (stays.system ∙ sound.system_is) sound.handed_alone (stays.text ∙ sound.text_is) sound.size kept session.kept false over.idle over.down same_now legal_now
       (no_stop state system source handed b (stays.system ∙ sound.system_is) kept session.kept over.idle over.down stops_now (omega (arith, began_before, stays.disk.faults))) sound.valid counts_now)
 
-  pub broke_sound : {cut : Option ℕ} → HasEndedLife state b kept cut true session → Rose (state a.disk).faults (state b.disk).faults → IsSound state system source handed session
+  pub broke_sound : {cut : Option ℕ} → HasEndedLife state b kept cut true session → Rose (state a.disk).faults (state b.disk).faults → IsSessionSound state system source handed session
   broke_sound over rose =
       subst (λ p. IsSoundAt state system source handed p session.kept) (sym over.place)
       (down_sound state system source handed b (stays.system ∙ sound.system_is) sound.handed_alone (stays.text ∙ sound.text_is) sound.size kept session.kept true over.idle over.down same_now legal_now
@@ -145,7 +145,7 @@ module _ {D : Type 0} (state : D → DiskState) (system : System) (source : List
   nothing : session ≡ session_up b kept → AddedNothing state a b → session_of session ≡ before
   nothing on added = same_after on added.adds.history
 
-  does : (asked : Asked) → Does state asked a b text → session ≡ session_up b kept → IsServedUp asked setting before (last_up a) (session_of session) text
+  does : (asked : Asked) → DoesAsked state asked a b text → session ≡ session_up b kept → IsServedUp asked setting before (last_up a) (session_of session) text
   does (Bad rule) (added, printed) on = (nothing on added, printed)
   does (BadCommand rule) (added, printed) on = (nothing on added, printed)
   does (Stopped terminal number reason) (added, printed) on = (nothing on added, printed)
@@ -193,7 +193,7 @@ module _ {D : Type 0} (state : D → DiskState) (system : System) (source : List
   ends_with entries history over =
       ap (λ p. session_at p session.kept) over.place ∙ broken_state state a b old kept session.kept over.idle entries over.down lives stops stays.opening history
 
-  fails : (asked : Asked) → Fails state asked a b → HasEndedLife state b kept (Some kept.pick) true session → IsServedUp asked setting before (last_up a) (session_of session) broken_text
+  fails : (asked : Asked) → AskedFails state asked a b → HasEndedLife state b kept (Some kept.pick) true session → IsServedUp asked setting before (last_up a) (session_of session) broken_text
   fails (Call call) failed over = inr (record {
     entry = failed.entry;
     stop = (b.began, (state over.down.disk).faults);
@@ -208,8 +208,8 @@ module _ {D : Type 0} (state : D → DiskState) (system : System) (source : List
     steps = steps_in failed.turns failed.steps;
     begun = begun_in most failed.turns failed.begun;
     breaks = record {
-      asked = failed.asked ∙ ap (λ s. Turn (region_after s (length failed.turns))) sound.system_is;
-      can = subst (λ c. IsCall system c) (failed.asked ∙ ap (λ s. Turn (region_after s (length failed.turns))) sound.system_is) (subst (λ s. IsCall s (call_of failed.entry)) sound.system_is failed.can);
+      asked = failed.asked ∙ ap (λ s. Turn (region_behind_turns s (length failed.turns))) sound.system_is;
+      can = subst (λ c. IsCall system c) (failed.asked ∙ ap (λ s. Turn (region_behind_turns s (length failed.turns))) sound.system_is) (subst (λ s. IsCall s (call_of failed.entry)) sound.system_is failed.can);
       fault = failed.fault;
     };
     ends = ends_with (failed.turns ++ failed.entry ∷ []) failed.history over;
@@ -223,7 +223,7 @@ module _ {D : Type 0} (state : D → DiskState) (system : System) (source : List
   fails Restart never over = absurd never
   fails ColdStart never over = absurd never
 
-  rose_in : (asked : Asked) → Fails state asked a b → Rose (state a.disk).faults (state b.disk).faults
+  rose_in : (asked : Asked) → AskedFails state asked a b → Rose (state a.disk).faults (state b.disk).faults
   rose_in (Call call) failed = failed.broke.failed
   rose_in (Quiet most) failed = failed.failed
   rose_in (Bad rule) never = absurd never
@@ -285,7 +285,7 @@ module _ {D : Type 0} (state : D → DiskState) (system : System) (source : List
 
   -- ---- all of it
 
-  pub served_up : (asked : Asked) (called : Called) (served : Served) → IsAsked state asked a b text called → IsSettled state (session_up b kept) called session served
+  pub served_up : (asked : Asked) (called : Called) (served : Served) → IsAsked state asked a b text called → IsCallSettled state (session_up b kept) called session served
       → LeadsBy state (λ setting old new. IsServedSo asked text served setting old new) system source handed (session_up a old) session
   served_up asked Answered served does_it (on, printed) =
       subst (λ s. LeadsBy state (λ setting old new. IsServedSo asked text s setting old new) system source handed (session_up a old) session) (sym printed)
@@ -310,7 +310,7 @@ module _ {D : Type 0} (state : D → DiskState) (system : System) (source : List
 
 module _ {D : Type 0} (state : D → DiskState) (a b : ControlOnDisk D) (old kept : Kept) (session : Session D) (text : List ℕ)
     (ready : IsUpReady a old) (stays : IsSameControl state a b) (lives : kept.lives ≡ old.lives) (stops : kept.stops ≡ old.stops) where
-  up_done : (asked : Asked) → Does state asked a b text → b.up ≡ true
+  up_done : (asked : Asked) → DoesAsked state asked a b text → b.up ≡ true
   up_done (Bad rule) does_it = does_it.0.up
   up_done (BadCommand rule) does_it = does_it.0.up
   up_done (Stopped terminal number reason) does_it = does_it.0.up
@@ -360,7 +360,7 @@ module _ {D : Type 0} (state : D → DiskState) (a b : ControlOnDisk D) (old kep
   ready_over : {cut : Option ℕ} → (stopped : Bool) → HasEndedLife state b kept cut stopped session → IsReadyAt state session.place session.kept
   ready_over stopped over = subst (λ p. IsReadyAt state p session.kept) (sym over.place) over.ready
 
-  pub ready_up : (asked : Asked) (called : Called) (served : Served) → IsAsked state asked a b text called → IsSettled state (session_up b kept) called session served → IsReadyAt state session.place session.kept
+  pub ready_up : (asked : Asked) (called : Called) (served : Served) → IsAsked state asked a b text called → IsCallSettled state (session_up b kept) called session served → IsReadyAt state session.place session.kept
   ready_up asked Answered served does_it settled = ready_on (up_done asked does_it) settled.0
   ready_up asked Frozen served frozen settled = ready_over false settled.0
   ready_up asked (Power pick) served power settled = ready_over false settled.0

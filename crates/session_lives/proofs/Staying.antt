@@ -3,11 +3,11 @@ use Rattle.tm_disk.specs.Disk.{DiskState}
 use Rattle.tm_disk.proofs.Words.{stays_is_same}
 use Rattle.model_session.specs.declared.asked.Asked.{Asked}
 use Rattle.model_session.specs.declared.asked.Asked.TheVariants.{Bad, BadCommand, Stopped, Call, Quiet, Power as AskedPower, PowerIn, Restart, ColdStart}
-use Rattle.tm_control.specs.OnDisk.{ControlOnDisk}
-use Rattle.tm_control.specs.Calls.{IsSameControl, StaysSo}
+use Rattle.tm_control.specs.ControlOnDisk.{ControlOnDisk}
+use Rattle.tm_control.specs.ControlCalls.{IsSameControl, StaysSo}
 use Rattle.session_lives.specs.declared.called.Called.{Called}
 use Rattle.session_lives.specs.declared.called.Called.TheVariants.{Answered, Frozen, Power, Broke, Memory, Spent}
-use Rattle.session_lives.specs.Asking.{StaysBy}
+use Rattle.session_lives.specs.AskedControl.{StaysBy}
 
 module _ {D : Type 0} (state : D → DiskState) where
   -- a control region that stays as it was is the same

@@ -7,14 +7,14 @@ use Rattle.tm_disk.specs.Disk.{Image}
 use Rattle.model_system.specs.System.{System}
 use Rattle.model_machine.specs.Machine.{LastingState}
 use Rattle.model_image.specs.Areas.{snapshot_area}
-use Rattle.model_image.specs.Recovered.{Recovers}
+use Rattle.model_image.specs.RecoveredState.{Recovers}
 use Rattle.model_image.specs.Text.{text_in, first_difference}
 use Rattle.model_image.proofs.Answers.{zeros_are_empty}
 use Rattle.restart_data.specs.declared.restart.RestartSector.{RestartSector}
 use Rattle.restart_data.specs.Restart.{restart_in}
-use Rattle.checkpointing.specs.Texts.{HasText}
-use Rattle.openings.specs.Parts.{OpeningParts}
-use Rattle.openings.specs.Opening.{TellsOpening}
+use Rattle.checkpointing.specs.DefinitionText.{HasText}
+use Rattle.openings.specs.OpeningParts.{OpeningParts}
+use Rattle.openings.specs.OpenedImage.{TellsOpening}
 
 none_some : (n : Option ℕ) → option_map (λ n. suc n) n ≡ None → n ≡ None
 none_some None e = refl

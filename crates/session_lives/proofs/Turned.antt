@@ -8,18 +8,18 @@ use Rattle.model_machine.specs.declared.entry.Entry.{Entry}
 use Rattle.model_machine.specs.declared.entry.Entry.TheVariants.{Turn as TurnEntry}
 use Rattle.model_machine.specs.declared.entry.ControlCall.TheVariants.{Turn}
 use Rattle.model_machine.specs.Machine.{Moment, start_of}
-use Rattle.model_machine.specs.Steps.{is_quiet}
-use Rattle.model_machine.specs.History.{ControlState, AddsEntry, AddsNothing, May, AreSteps, IsCall, call_of, now_of, after_entry, moment_after}
-use Rattle.model_session.specs.Turns.{region_after, IsBrokenOff}
+use Rattle.model_machine.specs.MachineCalls.{is_machine_quiet}
+use Rattle.model_machine.specs.History.{ControlState, AddsEntry, AddsNothing, May, AreSteps, IsCall, call_of, control_moment, after_entry, moment_after}
+use Rattle.model_session.specs.QuietTurns.{region_behind_turns, IsBrokenOff}
 use Rattle.model_session.proofs.Turning.{AreTurns-append}
 use Rattle.model_machine.specs.declared.entry.Turned.{Turned}
 use Rattle.model_machine.specs.declared.entry.ControlFault.TheVariants.{Disk}
-use Rattle.tm_control.specs.OnDisk.{ControlOnDisk}
-use Rattle.tm_control.specs.Calls.{StaysSo, Answered, BrokeOff, AddedNothing}
+use Rattle.tm_control.specs.ControlOnDisk.{ControlOnDisk}
+use Rattle.tm_control.specs.ControlCalls.{StaysSo, Answered, BrokeOff, AddedNothing}
 use Rattle.model_session.specs.Lives.{is_disk_fault}
-use Rattle.session_lives.specs.Asking.{AddsEntries, FailsTurning, TurnsStand}
-use Rattle.session_lives.specs.Turning.{TurnsSoFar, HasEnded}
-use Rattle.session_lives.specs.Counting.{KeepsPace}
+use Rattle.session_lives.specs.AskedControl.{AddsEntries, FailsTurning, TurnsStand}
+use Rattle.session_lives.specs.RegionTurns.{TurnsSoFar, HasEnded}
+use Rattle.session_lives.specs.ControlCounts.{KeepsPace}
 use Rattle.session_lives.proofs.Asked.{stays_so, stays_so_on}
 use Rattle.session_lives.proofs.Counting.{pace_none, pace_on}
 
@@ -30,7 +30,7 @@ moment_behind system moment [] more = refl
 moment_behind system moment (entry ∷ entries) more = moment_behind system (after_entry system moment entry) entries more
 
 -- where entries that were added lead
-pub now_behind : (old new : ControlState) (entries : List Entry) → AddsEntries old new entries → now_of new ≡ moment_after old.system (now_of old) entries
+pub now_behind : (old new : ControlState) (entries : List Entry) → AddsEntries old new entries → control_moment new ≡ moment_after old.system (control_moment old) entries
 now_behind old new entries adds =
     ap (λ s. moment_after s (start_of s new.opening) new.history) adds.system
     ∙ ap (λ o. moment_after old.system (start_of old.system o) new.history) adds.opening
@@ -73,36 +73,36 @@ module _ {D : Type 0} (state : D → DiskState) where
   }
 
   -- something is left to do behind the turns so far
-  still_left : (quiet : Bool) (count : ℕ) (old now : ControlOnDisk D) (far : TurnsSoFar state count old now) → is_quiet now.control.system (now_of now.control) ≡ quiet
-      → is_quiet old.control.system (moment_after old.control.system (now_of old.control) far.entries) ≡ quiet
+  still_left : (quiet : Bool) (count : ℕ) (old now : ControlOnDisk D) (far : TurnsSoFar state count old now) → is_machine_quiet now.control.system (control_moment now.control) ≡ quiet
+      → is_machine_quiet old.control.system (moment_after old.control.system (control_moment old.control) far.entries) ≡ quiet
   still_left quiet count old now far left =
-      let here : now_of now.control ≡ moment_after old.control.system (now_of old.control) far.entries = now_behind old.control now.control far.entries far.adds in
-      sym (ap (λ s. is_quiet s (moment_after old.control.system (now_of old.control) far.entries)) far.adds.system) ∙ sym (ap (is_quiet now.control.system) here) ∙ left
+      let here : control_moment now.control ≡ moment_after old.control.system (control_moment old.control) far.entries = now_behind old.control now.control far.entries far.adds in
+      sym (ap (λ s. is_machine_quiet s (moment_after old.control.system (control_moment old.control) far.entries)) far.adds.system) ∙ sym (ap (is_machine_quiet now.control.system) here) ∙ left
 
   -- the region that turns next
   next_region : (count : ℕ) (old now : ControlOnDisk D) (far : TurnsSoFar state count old now)
-      → region_after now.control.system count ≡ region_after old.control.system (length far.entries)
-  next_region count old now far = ap (λ s. region_after s count) far.adds.system ∙ ap (region_after old.control.system) (sym far.counted)
+      → region_behind_turns now.control.system count ≡ region_behind_turns old.control.system (length far.entries)
+  next_region count old now far = ap (λ s. region_behind_turns s count) far.adds.system ∙ ap (region_behind_turns old.control.system) (sym far.counted)
 
-  may_behind : (count : ℕ) (old now : ControlOnDisk D) (entry : Entry) (far : TurnsSoFar state count old now) → May now.control.system (now_of now.control) entry
-      → AreSteps old.control.system (now_of old.control) (far.entries ++ entry ∷ [])
+  may_behind : (count : ℕ) (old now : ControlOnDisk D) (entry : Entry) (far : TurnsSoFar state count old now) → May now.control.system (control_moment now.control) entry
+      → AreSteps old.control.system (control_moment old.control) (far.entries ++ entry ∷ [])
   may_behind count old now entry far may =
-      let here : now_of now.control ≡ moment_after old.control.system (now_of old.control) far.entries = now_behind old.control now.control far.entries far.adds in
-      steps_on old.control.system (now_of old.control) far.entries (entry ∷ []) far.steps
-      (subst (λ m. May old.control.system m entry) here (subst (λ s. May s (now_of now.control) entry) far.adds.system may), tt)
+      let here : control_moment now.control ≡ moment_after old.control.system (control_moment old.control) far.entries = now_behind old.control now.control far.entries far.adds in
+      steps_on old.control.system (control_moment old.control) far.entries (entry ∷ []) far.steps
+      (subst (λ m. May old.control.system m entry) here (subst (λ s. May s (control_moment now.control) entry) far.adds.system may), tt)
 
   pub turns_next : (count : ℕ) (old now new : ControlOnDisk D) (turned : Turned)
-      → TurnsSoFar state count old now → is_quiet now.control.system (now_of now.control) ≡ false
-      → Answered state now new (TurnEntry (region_after now.control.system count) (Ok turned)) → StaysSo state now new → KeepsPace state now new
+      → TurnsSoFar state count old now → is_machine_quiet now.control.system (control_moment now.control) ≡ false
+      → Answered state now new (TurnEntry (region_behind_turns now.control.system count) (Ok turned)) → StaysSo state now new → KeepsPace state now new
       → TurnsSoFar state (count + 1) old new
   turns_next count old now new turned far left answered stays pace =
-      let entry : Entry = TurnEntry (region_after now.control.system count) (Ok turned) in
+      let entry : Entry = TurnEntry (region_behind_turns now.control.system count) (Ok turned) in
       record {
         entries = far.entries ++ entry ∷ [];
         adds = adds_twice old.control now.control new.control far.entries (entry ∷ []) far.adds (adds_one now.control new.control entry answered.adds);
         steps = may_behind count old now entry far answered.adds.may;
-        turns = AreTurns-append old.control.system entry far.entries 0 (now_of old.control) far.turns (still_left false count old now far left)
-            (ap Turn (next_region count old now far) ∙ ap (λ n. Turn (region_after old.control.system n)) (sym (zero-add (length far.entries))));
+        turns = AreTurns-append old.control.system entry far.entries 0 (control_moment old.control) far.turns (still_left false count old now far left)
+            (ap Turn (next_region count old now far) ∙ ap (λ n. Turn (region_behind_turns old.control.system n)) (sym (zero-add (length far.entries))));
         counted = length-append far.entries (entry ∷ []) ∙ ap (λ n. n + 1) far.counted;
         up = answered.up;
         no_fault = answered.no_fault ∙ far.no_fault;
@@ -111,17 +111,17 @@ module _ {D : Type 0} (state : D → DiskState) where
       }
 
   -- the turn of a region that is the next one
-  pub turned_next : (count : ℕ) (old now new : ControlOnDisk D) (turned : Turned) (region : ℕ) → TurnsSoFar state count old now → is_quiet now.control.system (now_of now.control) ≡ false
-      → region ≡ region_after now.control.system count → Answered state now new (TurnEntry region (Ok turned)) → StaysSo state now new → KeepsPace state now new
+  pub turned_next : (count : ℕ) (old now new : ControlOnDisk D) (turned : Turned) (region : ℕ) → TurnsSoFar state count old now → is_machine_quiet now.control.system (control_moment now.control) ≡ false
+      → region ≡ region_behind_turns now.control.system count → Answered state now new (TurnEntry region (Ok turned)) → StaysSo state now new → KeepsPace state now new
       → TurnsSoFar state (count + 1) old new
   turned_next count old now new turned region far left next answered stays pace =
       turns_next count old now new turned far left (subst (λ r. Answered state now new (TurnEntry r (Ok turned))) next answered) stays pace
 
   -- the turns end where nothing is left to do, or with the last
   pub turns_end : (most count : ℕ) (quiet : Bool) (old new : ControlOnDisk D) → TurnsSoFar state count old new → count ≤ most
-      → is_quiet new.control.system (now_of new.control) ≡ quiet → (quiet ≡ false → count ≡ most) → HasEnded state most count quiet old new
+      → is_machine_quiet new.control.system (control_moment new.control) ≡ quiet → (quiet ≡ false → count ≡ most) → HasEnded state most count quiet old new
   turns_end most count quiet old new far few now last =
-      let still : is_quiet old.control.system (moment_after old.control.system (now_of old.control) far.entries) ≡ quiet = still_left quiet count old new far now in
+      let still : is_machine_quiet old.control.system (moment_after old.control.system (control_moment old.control) far.entries) ≡ quiet = still_left quiet count old new far now in
       record {
         entries = far.entries;
         adds = far.adds;
@@ -133,14 +133,14 @@ module _ {D : Type 0} (state : D → DiskState) where
         no_fault = far.no_fault;
       }
 
-  broken_off : (most count : ℕ) (old now : ControlOnDisk D) (far : TurnsSoFar state count old now) → count < most → is_quiet now.control.system (now_of now.control) ≡ false
-      → IsBrokenOff most old.control.system (now_of old.control) far.entries
+  broken_off : (most count : ℕ) (old now : ControlOnDisk D) (far : TurnsSoFar state count old now) → count < most → is_machine_quiet now.control.system (control_moment now.control) ≡ false
+      → IsBrokenOff most old.control.system (control_moment old.control) far.entries
   broken_off most count old now far few left =
       record { turns = far.turns; few = subst (λ n. n + 1 ≤ most) (sym far.counted) (omega arith); left = still_left false count old now far left }
 
   -- or they break off
   pub turns_stand : (most count : ℕ) (old now new : ControlOnDisk D) → TurnsSoFar state count old now → count < most
-      → is_quiet now.control.system (now_of now.control) ≡ false → AddedNothing state now new → TurnsStand state most old new
+      → is_machine_quiet now.control.system (control_moment now.control) ≡ false → AddedNothing state now new → TurnsStand state most old new
   turns_stand most count old now new far few left nothing = record {
     turns = far.entries;
     adds = record {
@@ -156,7 +156,7 @@ module _ {D : Type 0} (state : D → DiskState) where
 
   -- or the disk fails in one
   pub turns_fail : (most count : ℕ) (old now new : ControlOnDisk D) (entry : Entry) → TurnsSoFar state count old now → count < most
-      → is_quiet now.control.system (now_of now.control) ≡ false → call_of entry ≡ Turn (region_after now.control.system count) → is_disk_fault entry ≡ true
+      → is_machine_quiet now.control.system (control_moment now.control) ≡ false → call_of entry ≡ Turn (region_behind_turns now.control.system count) → is_disk_fault entry ≡ true
       → BrokeOff state now new entry → FailsTurning state most old new
   turns_fail most count old now new entry far few left asked fault broke = record {
     turns = far.entries;
@@ -172,7 +172,7 @@ module _ {D : Type 0} (state : D → DiskState) where
   }
 
   pub turned_fails : (most count : ℕ) (old now new : ControlOnDisk D) (region : ℕ) → TurnsSoFar state count old now → count < most
-      → is_quiet now.control.system (now_of now.control) ≡ false → region ≡ region_after now.control.system count
+      → is_machine_quiet now.control.system (control_moment now.control) ≡ false → region ≡ region_behind_turns now.control.system count
       → BrokeOff state now new (TurnEntry region (Err Disk)) → FailsTurning state most old new
   turned_fails most count old now new region far few left next broke =
       turns_fail most count old now new (TurnEntry region (Err Disk)) far few left (ap Turn next) refl broke

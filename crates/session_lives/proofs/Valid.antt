@@ -2,19 +2,19 @@
 use Rattle.std.proofs.Common.{ℕ, ◌≤◌, List, Ok, Err, refl, sym, subst, arith}
 use Rattle.std.specs.Prelude.{IsTrue}
 use Rattle.model_machine.specs.Machine.{LastingState}
-use Rattle.model_image.specs.Recovered.{Recovers}
+use Rattle.model_image.specs.RecoveredState.{Recovers}
 use Rattle.openings.specs.FirstImage.{sectors_needed}
-use Rattle.checkpointing.specs.Texts.{HasText}
-use Rattle.openings.specs.Parts.{OpeningParts}
+use Rattle.checkpointing.specs.DefinitionText.{HasText}
+use Rattle.openings.specs.OpeningParts.{OpeningParts}
 use Rattle.tm_disk.specs.Disk.{Image, DiskState, IsDisk, Only}
 use Rattle.model_system.specs.System.{System}
 use Rattle.model_image.proofs.Answers.{one_answer_of}
 use Rattle.model_session.specs.declared.asked.ImageRefused.{ImageRefused}
 use Rattle.model_session.specs.declared.asked.ImageRefused.TheVariants.{Rule, Text, Size}
-use Rattle.openings.specs.Opening.{IsOther, TellsOpening}
+use Rattle.openings.specs.OpenedImage.{IsOther, TellsOpening}
 use Rattle.openings.specs.declared.how.How.TheVariants.{Found}
-use Rattle.openings.specs.Opened.{Refuses}
-use Rattle.session_lives.specs.Running.{IsValidDisk, error_of}
+use Rattle.openings.specs.LifeBeginning.{Refuses}
+use Rattle.session_lives.specs.RunningSession.{IsValidDisk, error_of}
 use Rattle.session_lives.proofs.Told.{told_state, told_text}
 use Rattle.session_lives.proofs.Restarted.{no_difference, ok_or_err}
 

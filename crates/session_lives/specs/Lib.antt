@@ -1,6 +1,6 @@
-pub mod Counting
-pub mod Asking
-pub mod Turning
-pub mod Running
+pub mod ControlCounts
+pub mod AskedControl
+pub mod RegionTurns
+pub mod RunningSession
 pub mod Openings
-pub mod Closing
+pub mod ClosedSession

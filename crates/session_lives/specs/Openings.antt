@@ -11,21 +11,21 @@ use Rattle.model_session.specs.declared.asked.ImageRefused.{ImageRefused}
 use Rattle.model_session.specs.declared.asked.ImageRefused.TheVariants.{Rule, Text, Size}
 use Rattle.model_session.specs.Text.{broken_text, opened_text, image_text}
 use Rattle.model_machine.specs.declared.counts.Counter.{Counter}
-use Rattle.model_session.specs.Standing.{Setting, Standing, SessionState, or_cold}
-use Rattle.model_session.specs.Standing.Standing.{Up as StandsUp, Down as StandsDown}
-use Rattle.model_session.specs.Session.{IsServed, IsBegunBy}
+use Rattle.model_session.specs.SessionState.{Setting, Standing, SessionState, or_cold}
+use Rattle.model_session.specs.SessionState.Standing.{Up as StandsUp, Down as StandsDown}
+use Rattle.model_session.specs.Session.{IsBlockServed, IsBegunBy}
 use Rattle.checkpointing.specs.Counts.{CountsUpTo, RaisesCounts}
-use Rattle.disk_law.specs.Counted.{StandsUpTo}
-use Rattle.disk_law.specs.Journal.{JournalState}
+use Rattle.disk_law.specs.UnitCounts.{StandsUpTo}
+use Rattle.disk_law.specs.JournalState.{JournalState}
 use Rattle.openings.specs.declared.how.How.{How}
 use Rattle.openings.specs.declared.how.How.TheVariants.{Found, Cold}
 use Rattle.openings.specs.declared.refusals.OpenError.{OpenError}
 use Rattle.openings.specs.declared.refusals.OpenError.TheVariants.{BadImage, WrongDefinition, TooSmall, Spent as SpentCounter, Disk, Memory as NoMemory}
-use Rattle.tm_control.specs.OnDisk.{ControlOnDisk, Lasts}
-use Rattle.openings.specs.Opening.{WroteNothing}
-use Rattle.tm_control.specs.Closed.{Opens, Closes}
-use Rattle.openings.specs.Opened.{Refuses}
-use Rattle.openings.specs.Opened.{HandsBack}
+use Rattle.tm_control.specs.ControlOnDisk.{ControlOnDisk, Lasts}
+use Rattle.openings.specs.OpenedImage.{WroteNothing}
+use Rattle.tm_control.specs.ClosedControl.{OpensControl, Closes}
+use Rattle.openings.specs.LifeBeginning.{Refuses}
+use Rattle.openings.specs.LifeBeginning.{HandsBack}
 use Rattle.openings.specs.declared.life.Life.{Life}
 use Rattle.session_lives.specs.declared.called.Called.{Called}
 use Rattle.session_lives.specs.declared.called.Called.TheVariants.{Answered, Frozen, Power, Broke as CallBroke, Memory as CallMemory, Spent as CallSpent}
@@ -40,9 +40,9 @@ use Rattle.session_lives.specs.declared.place.Place.{Place}
 use Rattle.session_lives.specs.declared.place.Place.TheVariants.{Up, Down, Moved}
 use Rattle.session_lives.specs.declared.place.Kept.{Kept}
 use Rattle.session_lives.specs.declared.place.Session.{Session}
-use Rattle.session_law.specs.Spent.{IsSpentAt}
-use Rattle.session_lives.specs.Running.{IsDownReady, error_of}
-use Rattle.session_lives.specs.Asking.{LooksAtCounters}
+use Rattle.session_law.specs.SpentCounters.{IsSpentAt}
+use Rattle.session_lives.specs.RunningSession.{IsDownReady, error_of}
+use Rattle.session_lives.specs.AskedControl.{LooksAtCounters}
 
 -- ---- the end of a life
 
@@ -73,13 +73,13 @@ how_of false = Found
 
 -- The last life as it is kept once another opens, with so many steps: behind a cold start all that were answered count; else
 -- all that are found, and no less than were answered, also where a cold start that broke off has left nothing.
-abbrev pub kept_by : Bool → Life → ℕ → Life
-kept_by true life steps = life
-kept_by false life steps = record life { kept = max life.kept (steps - life.opening.steps) }
+abbrev pub life_kept_by : Bool → Life → ℕ → Life
+life_kept_by true life steps = life
+life_kept_by false life steps = record life { kept = max life.kept (steps - life.opening.steps) }
 
-abbrev pub with_last : List Life → Option Life → Bool → ℕ → List Life
-with_last lives None cold steps = lives
-with_last lives (Some life) cold steps = lives ++ kept_by cold life steps ∷ []
+abbrev pub with_last_life : List Life → Option Life → Bool → ℕ → List Life
+with_last_life lives None cold steps = lives
+with_last_life lives (Some life) cold steps = lives ++ life_kept_by cold life steps ∷ []
 
 -- What a life counts on begins one above what the image counts up to that is found, and one above nothing in a cold start.
 abbrev pub StandsAbove : How → System → DiskState → JournalState → ℕ → Type 0
@@ -89,11 +89,11 @@ StandsAbove how system disk journal next = (high : ℕ) → (how ≡ Found → I
 pub record HasOpened {D : Type 0} (state : D → DiskState) (idle : Idle D) (old : Kept) (cold : Bool) (session : Session D) : Type 0 where
   pub control : ControlOnDisk D
   pub place : session.place ≡ Up control
-  pub opens : Opens state (how_of cold) idle.system idle.text idle.disk control
+  pub opens : OpensControl state (how_of cold) idle.system idle.text idle.disk control
   pub lasts : Lasts state control
   pub counts : Within (RaisesCounts 1 idle.system) (state idle.disk) (state control.disk)
   pub stands : StandsAbove (how_of cold) idle.system (state idle.disk) control.journal control.next_unit
-  pub lives : session.kept.lives.items ≡ with_last old.lives.items idle.last cold control.control.opening.steps
+  pub lives : session.kept.lives.items ≡ with_last_life old.lives.items idle.last cold control.control.opening.steps
   pub stops : session.kept.stops.items ≡ old.stops.items
   pub pick : session.kept.pick ≡ old.pick
 
@@ -158,7 +158,7 @@ pub record IsCutDown {D : Type 0} (state : D → DiskState) (disk : D) (system :
   pub pick : session.kept.pick ≡ 0
 
 -- The system is down with all that was handed back.
-pub record IsBack {D : Type 0} (disk : D) (system : System) (text : List ℕ) (last : Option Life) (emptied stopped : Bool) (old : Kept) (session : Session D) : Type 0 where
+pub record IsHandedBack {D : Type 0} (disk : D) (system : System) (text : List ℕ) (last : Option Life) (emptied stopped : Bool) (old : Kept) (session : Session D) : Type 0 where
   pub after : Idle D
   pub place : session.place ≡ Down after
   pub disk_is : after.disk ≡ disk
@@ -171,9 +171,9 @@ pub record IsBack {D : Type 0} (disk : D) (system : System) (text : List ℕ) (l
 
 abbrev pub IsRefusedSo : {D : Type 0} → (D → DiskState) → D → System → List ℕ → Option Life → Bool → Bool → Bool → ℕ → Kept → Opening → Session D → Type 0
 IsRefusedSo state disk system text last emptied stopped cold began old OpeningBroke session = IsCutDown state disk system text last emptied cold began old session
-IsRefusedSo state disk system text last emptied stopped cold began old (Refused refusal) session = IsBack disk system text last emptied stopped old session
-IsRefusedSo state disk system text last emptied stopped cold began old OpeningMemory session = IsBack disk system text last emptied stopped old session
-IsRefusedSo state disk system text last emptied stopped cold began old OpeningSpent session = IsBack disk system text last emptied stopped old session
+IsRefusedSo state disk system text last emptied stopped cold began old (Refused refusal) session = IsHandedBack disk system text last emptied stopped old session
+IsRefusedSo state disk system text last emptied stopped cold began old OpeningMemory session = IsHandedBack disk system text last emptied stopped old session
+IsRefusedSo state disk system text last emptied stopped cold began old OpeningSpent session = IsHandedBack disk system text last emptied stopped old session
 IsRefusedSo state disk system text last emptied stopped cold began old Opened session = ⊥
 
 -- a counter is spent
@@ -245,13 +245,13 @@ IsAloneAt state (Down idle) called = ⊥
 IsAloneAt state Moved called = ⊥
 
 -- the life goes on, and all is as it was; or it has ended
-abbrev pub IsSettled : {D : Type 0} → (D → DiskState) → Session D → Called → Session D → Served → Type 0
-IsSettled state old Answered new served = (new ≡ old) × (served ≡ Printed)
-IsSettled state old Frozen new served = EndsLife state None false old new × (served ≡ Printed)
-IsSettled state old (Power pick) new served = EndsLife state (Some pick) false old new × (served ≡ Printed)
-IsSettled state old CallBroke new served = EndsLife state (Some old.kept.pick) true old new × (served ≡ Broke)
-IsSettled state old CallMemory new served = (new ≡ old) × (served ≡ NotServed Memory)
-IsSettled state old CallSpent new served = (new ≡ old) × (served ≡ NotServed Spent)
+abbrev pub IsCallSettled : {D : Type 0} → (D → DiskState) → Session D → Called → Session D → Served → Type 0
+IsCallSettled state old Answered new served = (new ≡ old) × (served ≡ Printed)
+IsCallSettled state old Frozen new served = EndsLife state None false old new × (served ≡ Printed)
+IsCallSettled state old (Power pick) new served = EndsLife state (Some pick) false old new × (served ≡ Printed)
+IsCallSettled state old CallBroke new served = EndsLife state (Some old.kept.pick) true old new × (served ≡ Broke)
+IsCallSettled state old CallMemory new served = (new ≡ old) × (served ≡ NotServed Memory)
+IsCallSettled state old CallSpent new served = (new ≡ old) × (served ≡ NotServed Spent)
 
 -- ---- a block
 
@@ -283,8 +283,8 @@ UndoneBy Spent asked setting new = IsSpentAt setting.counts setting new × Count
 -- What a block comes to: it was served, with the text that was printed, or that of a stop; or it was not, and only turns of a
 -- QUIET may stand of it.
 abbrev pub IsServedSo : Asked → List ℕ → Served → Setting → SessionState → SessionState → Type 0
-IsServedSo asked text Printed setting old new = IsServed asked setting old new text
-IsServedSo asked text Broke setting old new = IsServed asked setting old new broken_text
+IsServedSo asked text Printed setting old new = IsBlockServed asked setting old new text
+IsServedSo asked text Broke setting old new = IsBlockServed asked setting old new broken_text
 IsServedSo asked text (NotServed undone) setting old new = IsBegunBy asked setting.system old old.standing new × UndoneBy undone asked setting new
 
 -- POWER leaves of the disk what its pick chooses.
@@ -317,25 +317,25 @@ PicksAt state block (Down idle) served old new = new ≡ pick_down served old
 PicksAt state block Moved served old new = ⊥
 
 -- a block that asks for a restart, and for a cold start or not
-abbrev pub restart_of : Asked → Option Bool
-restart_of Restart = Some false
-restart_of ColdStart = Some true
-restart_of _ = None
+abbrev pub asked_restart : Asked → Option Bool
+asked_restart Restart = Some false
+asked_restart ColdStart = Some true
+asked_restart _ = None
 
 -- what is printed for an opening, and how its block is served; of a session in which a life has begun, or none
 abbrev pub IsRefusalTold : Bool → ImageRefused → List ℕ → Served → Type 0
 IsRefusalTold true refusal text served = (served ≡ Printed) × (text ≡ image_text refusal)
 IsRefusalTold false refusal text served = served ≡ NotServed (Image refusal)
 
-abbrev pub IsToldSo : Bool → Bool → Opening → List ℕ → Served → Type 0
-IsToldSo cold begun Opened text served = (served ≡ Printed) × (text ≡ opened_text cold)
-IsToldSo cold begun OpeningBroke text served = served ≡ Broke
-IsToldSo cold begun (Refused refusal) text served = IsRefusalTold begun refusal text served
-IsToldSo cold begun OpeningMemory text served = served ≡ NotServed Memory
-IsToldSo cold begun OpeningSpent text served = served ≡ NotServed Spent
+abbrev pub IsOpeningTold : Bool → Bool → Opening → List ℕ → Served → Type 0
+IsOpeningTold cold begun Opened text served = (served ≡ Printed) × (text ≡ opened_text cold)
+IsOpeningTold cold begun OpeningBroke text served = served ≡ Broke
+IsOpeningTold cold begun (Refused refusal) text served = IsRefusalTold begun refusal text served
+IsOpeningTold cold begun OpeningMemory text served = served ≡ NotServed Memory
+IsOpeningTold cold begun OpeningSpent text served = served ≡ NotServed Spent
 
 -- a restart was served so
 pub record IsRestartedSo {D : Type 0} (state : D → DiskState) (idle : Idle D) (old : Kept) (cold : Bool) (session : Session D) (text : List ℕ) (served : Served) : Type 0 where
   pub opening : Opening
   pub gone : HasGone state idle old cold session opening
-  pub told : IsToldSo cold (is_some idle.last) opening text served
+  pub told : IsOpeningTold cold (is_some idle.last) opening text served

@@ -1,20 +1,20 @@
 //! What a block asks for, asked of a control region that is up.
 ghost use Rattle.std.specs.Prelude.{◌≡◌, ℕ, List, ◌<◌, ◌≤◌, ◌++◌, [], true, length, IfOk, OnOk};
 ghost use Rattle.model_machine.specs.Machine.{IsRegion};
-ghost use Rattle.model_machine.specs.Steps.{show_answer};
+ghost use Rattle.model_machine.specs.MachineCalls.{show_answer};
 ghost use Rattle.model_machine.specs.declared.entry.Entry.TheVariants.{Accept, Acked as AckedEntry, Turn as TurnEntry, Commanded, Checked};
 ghost use Rattle.openings.specs.Faults.{fault_in};
-ghost use Rattle.model_machine.specs.History.{now_of};
-ghost use Rattle.model_system.specs.ModelSystemFormats.{format_of};
-ghost use Rattle.model_machine.specs.ModelMachineCommands.{IsServed, command_answer};
+ghost use Rattle.model_machine.specs.History.{control_moment};
+ghost use Rattle.model_system.specs.SystemFormats.{format_of};
+ghost use Rattle.model_machine.specs.CommandAnswers.{IsCommandServed, command_answer};
 ghost use Rattle.model_session.specs.Text as spec_text;
 ghost use Rattle.model_session.specs.Text.{show_text, shown_text, bad_line_text, bad_command_text, stopped_text, up_text, power_text};
 ghost use Rattle.model_session.specs.Lines.{CanAsk};
 ghost use Rattle.model_session.specs.Lives.{ends_life};
-ghost use Rattle.tm_control.specs.Calls.{StaysSo};
+ghost use Rattle.tm_control.specs.ControlCalls.{StaysSo};
 ghost use Rattle.session_lives.specs.declared.called.Called.TheVariants.{Answered, Power};
-ghost use Rattle.session_lives.specs.Counting.{KeepsPace};
-ghost use Rattle.session_lives.specs.Asking.{IsAsked, StaysBy, called_by, ended_by, pick_by};
+ghost use Rattle.session_lives.specs.ControlCounts.{KeepsPace};
+ghost use Rattle.session_lives.specs.AskedControl.{IsAsked, StaysBy, called_by, call_ended_by, pick_by};
 
 use crate::called::Called;
 use crate::turns::answer_quiet;
@@ -261,7 +261,7 @@ fn print_showing<D: Disk>(
 ) -> Result<(), Memory>
     requires up { control.now.up ≡ true }
     requires room { ANSWER_ROOM ≤ printed.old.room }
-    ensures { OnOk result (printed.new.text ≡ printed.old.text ++ show_text control.now.control.system (now_of control.now.control) terminal.now (show_answer (now_of control.now.control) terminal.now)) }
+    ensures { OnOk result (printed.new.text ≡ printed.old.text ++ show_text control.now.control.system (control_moment control.now.control) terminal.now (show_answer (control_moment control.now.control) terminal.now)) }
 {
     match control.showing(terminal) {
         Shown::Reply(reply) => print_reply(alloc, printed, control.system(), terminal, reply),
@@ -359,7 +359,7 @@ fn answer_command<D: Disk>(
     command: &Command,
 ) -> Called
     requires up { control.old.up ≡ true }
-    requires served { IsServed command.now }
+    requires served { IsCommandServed command.now }
     requires empty { printed.old.text ≡ [] }
     ensures asked { IsAsked D.state (Asked.Call (ControlCall.Command command.now)) control.old control.new printed.new.text result }
     ensures pace { KeepsPace D.state control.old control.new }
@@ -383,7 +383,7 @@ fn text_ahead<D: Disk>(
     command: &Command,
 ) -> Result<Vec<u8>, Memory>
     requires up { control.now.up ≡ true }
-    ensures { IfOk result (λ text. text.items ≡ spec_text.command_text (command_answer control.now.control.system (now_of control.now.control) command.now)) }
+    ensures { IfOk result (λ text. text.items ≡ spec_text.command_text (command_answer control.now.control.system (control_moment control.now.control) command.now)) }
 {
     let answer = control.answer_to(command)?;
     command_text(alloc, &answer)
@@ -420,7 +420,7 @@ fn answer_checkpoint<D: Disk>(
 }
 
 fn checkpoint_called(freeze: bool, answer: &Result<u64, CheckpointRefused>) -> Called
-    ensures { result ≡ ended_by (ends_life (Checked freeze answer.now)) (fault_in (Checked freeze answer.now)) }
+    ensures { result ≡ call_ended_by (ends_life (Checked freeze answer.now)) (fault_in (Checked freeze answer.now)) }
 {
     match answer {
         Ok(_) => {

@@ -1,8 +1,8 @@
 //! What a session has come to.
 ghost use Rattle.std.specs.Prelude.{◌≡◌, ◌<◌, ◌++◌, false, vec_len, vec_capacity};
-ghost use Rattle.model_session.specs.Standing.{is_stopped};
-ghost use Rattle.session_lives.specs.Running.{IsReady, standing_of};
-ghost use Rattle.session_lives.specs.Closing.{IsClosed, IsClosedUp, IsClosedDown, HasRoomIf, LeavesSo, listed};
+ghost use Rattle.model_session.specs.SessionState.{is_session_stopped};
+ghost use Rattle.session_lives.specs.RunningSession.{IsSessionReady, standing_of};
+ghost use Rattle.session_lives.specs.ClosedSession.{IsSessionClosed, IsClosedUp, IsClosedDown, HasRoomIf, SessionLeaves, listed};
 
 use crate::place::{Idle, Kept, Place, Session};
 use tm_control::{Closed, Control, Life};
@@ -19,18 +19,18 @@ pub struct Over<D: Disk> {
 
 /// Closes a session. A life that is open is its last; the disk is left as it is.
 pub fn close<D: Disk>(session: Session<D>) -> Over<D>
-    requires ready { IsReady D.state session }
-    ensures closed { IsClosed D.state session result.disk result.lives.items result.stops.items }
-    ensures leaves { LeavesSo D.state session result.disk result.lives.items result.stops.items }
-    ensures stopped { result.stopped ≡ is_stopped (standing_of session.place) }
+    requires ready { IsSessionReady D.state session }
+    ensures closed { IsSessionClosed D.state session result.disk result.lives.items result.stops.items }
+    ensures leaves { SessionLeaves D.state session result.disk result.lives.items result.stops.items }
+    ensures stopped { result.stopped ≡ is_session_stopped (standing_of session.place) }
 {
     hand_over(session)
 }
 
 fn hand_over<D: Disk>(session: Session<D>) -> Over<D>
-    requires ready { IsReady D.state session }
-    ensures closed { IsClosed D.state session result.disk result.lives.items result.stops.items }
-    ensures stopped { result.stopped ≡ is_stopped (standing_of session.place) }
+    requires ready { IsSessionReady D.state session }
+    ensures closed { IsSessionClosed D.state session result.disk result.lives.items result.stops.items }
+    ensures stopped { result.stopped ≡ is_session_stopped (standing_of session.place) }
 {
     let Session { place, kept } = session;
     match place {

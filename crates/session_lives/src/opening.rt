@@ -1,10 +1,10 @@
 //! Openings, and the ends of lives.
 ghost use Rattle.std.specs.Prelude.{◌≡◌, ◌<◌, ◌≤◌, ◌+◌, ◌++◌, ◌∷◌, [], true, false, if◌then◌else◌, length, vec_len, vec_capacity};
 ghost use Rattle.tm_disk.specs.Disk.{IsCut, Only};
-ghost use Rattle.model_session.specs.Standing.{or_cold};
-ghost use Rattle.session_lives.specs.Running.{IsReady, IsDownReady};
+ghost use Rattle.model_session.specs.SessionState.{or_cold};
+ghost use Rattle.session_lives.specs.RunningSession.{IsSessionReady, IsDownReady};
 ghost use Rattle.session_lives.specs.Openings as spec;
-ghost use Rattle.session_lives.specs.Openings.{GoesDown, HasGone, IsRefusedSo, IsCutDown, with_last};
+ghost use Rattle.session_lives.specs.Openings.{GoesDown, HasGone, IsRefusedSo, IsCutDown, with_last_life};
 
 use crate::called::Opening;
 use crate::place::{Idle, Kept, Place, Session};
@@ -85,7 +85,7 @@ fn note_stop(stops: &mut Vec<(u64, u64)>, stopped: bool, began: u64, ended: u64)
 pub fn open<D: Disk>(alloc: Global, idle: Idle<D>, kept: Kept, cold: bool) -> (Session<D>, Opening)
     requires ready { IsDownReady D.state idle kept }
     ensures gone { HasGone D.state idle kept cold result.0 result.1 }
-    ensures ready { IsReady D.state result.0 }
+    ensures ready { IsSessionReady D.state result.0 }
 {
     let mut kept = kept;
     if kept.make_room().is_err() {
@@ -120,7 +120,7 @@ fn how(cold: bool) -> How
 /// Keeps the last life, behind which another has opened with so many steps.
 fn keep(lives: &mut Vec<Life>, last: Option<Life>, cold: bool, steps: u64)
     requires { vec_len lives.old + 2 ≤ vec_capacity lives.old }
-    ensures items { lives.new.items ≡ with_last lives.old.items last cold steps }
+    ensures items { lives.new.items ≡ with_last_life lives.old.items last cold steps }
     ensures room { vec_len lives.new < vec_capacity lives.new }
 {
     if let Some(life) = last {
@@ -129,7 +129,7 @@ fn keep(lives: &mut Vec<Life>, last: Option<Life>, cold: bool, steps: u64)
 }
 
 fn kept_by(cold: bool, life: Life, steps: u64) -> Life
-    ensures { result ≡ spec.kept_by cold life steps }
+    ensures { result ≡ spec.life_kept_by cold life steps }
 {
     if cold {
         return life;
@@ -159,7 +159,7 @@ fn refuse<D: Disk>(
     requires only { spec.is_disk refused.error ≡ false → Only (D.state refused.disk).shown (D.state refused.disk) }
     ensures refused { IsRefusedSo D.state refused.disk refused.system refused.text last emptied stopped cold began kept (spec.opening_by refused.error) result.0 }
     ensures opening { result.1 ≡ spec.opening_by refused.error }
-    ensures ready { IsReady D.state result.0 }
+    ensures ready { IsSessionReady D.state result.0 }
 {
     let OpenRefused {
         error,
@@ -189,7 +189,7 @@ fn fail<D: Disk>(idle: Idle<D>, kept: Kept, cold: bool, began: u64) -> Session<D
     requires life_room { vec_len kept.lives < vec_capacity kept.lives }
     requires stop_room { vec_len kept.stops < vec_capacity kept.stops }
     ensures failed { IsCutDown D.state idle.disk idle.system idle.text idle.last idle.emptied cold began kept result }
-    ensures ready { IsReady D.state result }
+    ensures ready { IsSessionReady D.state result }
 {
     let Idle {
         disk,

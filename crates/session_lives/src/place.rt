@@ -1,6 +1,6 @@
 //! Where a session stands.
 ghost use Rattle.std.specs.Prelude.{◌≡◌, ◌<◌, ◌≤◌, ◌+◌, [], OnOk, vec_len, vec_capacity};
-ghost use Rattle.session_lives.specs.Running.{IsUp, IsDown};
+ghost use Rattle.session_lives.specs.RunningSession.{IsPlaceUp, IsPlaceDown};
 ghost use Rattle.session_lives.specs.declared.place.Place.TheVariants.{Up, Down, Moved};
 
 use std::alloc::Global;
@@ -80,7 +80,7 @@ pub struct Session<D: Disk> {
 
 /// Moves a control region out that is up.
 pub(crate) fn take_up<D: Disk>(place: &mut Place<D>) -> Control<D>
-    requires { IsUp place.old }
+    requires { IsPlaceUp place.old }
     ensures taken { place.old ≡ Up result }
     ensures moved { place.new ≡ Moved }
 {
@@ -93,7 +93,7 @@ pub(crate) fn take_up<D: Disk>(place: &mut Place<D>) -> Control<D>
 
 /// Moves a system out that is down.
 pub(crate) fn take_down<D: Disk>(place: &mut Place<D>) -> Idle<D>
-    requires { IsDown place.old }
+    requires { IsPlaceDown place.old }
     ensures taken { place.old ≡ Down result }
     ensures moved { place.new ≡ Moved }
 {

@@ -2,10 +2,10 @@
 ghost use Rattle.std.specs.Prelude.{◌≡◌, ◌≤◌, [], true, false, Some, None};
 ghost use Rattle.model_session.specs.Lines.{asked_of};
 ghost use Rattle.session_lives.specs.declared.called.Called.TheVariants.{Frozen};
-ghost use Rattle.session_lives.specs.Counting.{KeepsPace};
-ghost use Rattle.session_lives.specs.Asking.{IsAsked, StaysBy, pick_by};
-ghost use Rattle.session_lives.specs.Running.{IsReady, IsDown, IsDownReady, Leads, session_down};
-ghost use Rattle.session_lives.specs.Openings.{IsServedSo, IsSettled, IsAloneAt, MayEnd, EndsLife, CutsAt, PicksAt, IsRestartedSo, IsToldSo, IsRefusalTold, restart_of, pick_down};
+ghost use Rattle.session_lives.specs.ControlCounts.{KeepsPace};
+ghost use Rattle.session_lives.specs.AskedControl.{IsAsked, StaysBy, pick_by};
+ghost use Rattle.session_lives.specs.RunningSession.{IsSessionReady, IsPlaceDown, IsDownReady, Leads, session_down};
+ghost use Rattle.session_lives.specs.Openings.{IsServedSo, IsCallSettled, IsAloneAt, MayEnd, EndsLife, CutsAt, PicksAt, IsRestartedSo, IsOpeningTold, IsRefusalTold, asked_restart, pick_down};
 
 use crate::asking::ask;
 use crate::called::{Called, Opening, Served, Undone};
@@ -28,9 +28,9 @@ pub fn serve_block<D: Disk>(
     printed: &mut Printed,
     block: &Block,
 ) -> Served
-    requires ready { IsReady D.state session.old }
+    requires ready { IsSessionReady D.state session.old }
     ensures served { Leads D.state (λ setting old new. IsServedSo (asked_of setting.system block.now) printed.new.text result setting old new) session.old session.new }
-    ensures ready { IsReady D.state session.new }
+    ensures ready { IsSessionReady D.state session.new }
 
     // POWER cuts the disk with its pick, and a stop with that of the last POWER IN, or with 0.
     ensures power { CutsAt D.state block.now session.old.place result session.new.place }
@@ -72,7 +72,7 @@ fn ask_block<D: Disk>(
 fn settle<D: Disk>(session: &mut Session<D>, called: Called) -> Served
     requires may_end { MayEnd session.old }
     requires alone { IsAloneAt D.state session.old.place called }
-    ensures { IsSettled D.state session.old called session.new result }
+    ensures { IsCallSettled D.state session.old called session.new result }
 {
     match called {
         Called::Answered => Served::Printed,
@@ -123,11 +123,11 @@ fn serve_down<D: Disk>(
     printed: &mut Printed,
     block: &Block,
 ) -> Served
-    requires down { IsDown session.old.place }
-    requires ready { IsReady D.state session.old }
+    requires down { IsPlaceDown session.old.place }
+    requires ready { IsSessionReady D.state session.old }
     requires empty { printed.old.text ≡ [] }
     ensures served { Leads D.state (λ setting old new. IsServedSo (asked_of setting.system block.now) printed.new.text result setting old new) session.old session.new }
-    ensures ready { IsReady D.state session.new }
+    ensures ready { IsSessionReady D.state session.new }
     ensures pick { session.new.kept.pick ≡ pick_down result session.old.kept.pick }
 {
     let idle = take_down(&mut session.place);
@@ -150,7 +150,7 @@ fn serve_idle<D: Disk>(
     requires ready { IsDownReady D.state idle kept }
     requires empty { printed.old.text ≡ [] }
     ensures served { Leads D.state (λ setting old new. IsServedSo (asked_of setting.system block.now) printed.new.text result.1 setting old new) (session_down idle kept) result.0 }
-    ensures ready { IsReady D.state result.0 }
+    ensures ready { IsSessionReady D.state result.0 }
     ensures pick { result.0.kept.pick ≡ pick_down result.1 kept.pick }
 {
     let Ok(asked) = read_block(alloc, &idle.system, block) else {
@@ -171,7 +171,7 @@ fn serve_asked<D: Disk>(
     requires ready { IsDownReady D.state idle kept }
     requires empty { printed.old.text ≡ [] }
     ensures served { Leads D.state (λ setting old new. IsServedSo asked.now printed.new.text result.1 setting old new) (session_down idle kept) result.0 }
-    ensures ready { IsReady D.state result.0 }
+    ensures ready { IsSessionReady D.state result.0 }
     ensures pick { result.0.kept.pick ≡ pick_down result.1 kept.pick }
 {
     if printed.make_room(ANSWER_ROOM).is_err() {
@@ -190,7 +190,7 @@ fn serve_asked<D: Disk>(
 
 /// Whether a restart is asked for, and whether it is a cold start.
 fn restart_of(asked: &Asked) -> Option<bool>
-    ensures { result ≡ restart_of asked.now }
+    ensures { result ≡ asked_restart asked.now }
 {
     match asked {
         Asked::Restart => Some(false),
@@ -217,7 +217,7 @@ fn restart<D: Disk>(
     requires empty { printed.old.text ≡ [] }
     requires room { ANSWER_ROOM ≤ printed.old.room }
     ensures gone { IsRestartedSo D.state idle kept cold result.0 printed.new.text result.1 }
-    ensures ready { IsReady D.state result.0 }
+    ensures ready { IsSessionReady D.state result.0 }
 {
     let begun = idle.last.is_some();
     let (session, opening) = open(alloc, idle, kept, cold);
@@ -228,7 +228,7 @@ fn restart<D: Disk>(
 fn told(printed: &mut Printed, cold: bool, begun: bool, opening: &Opening) -> Served
     requires empty { printed.old.text ≡ [] }
     requires room { ANSWER_ROOM ≤ printed.old.room }
-    ensures { IsToldSo cold begun opening.now printed.new.text result }
+    ensures { IsOpeningTold cold begun opening.now printed.new.text result }
 {
     match opening {
         Opening::Opened => {

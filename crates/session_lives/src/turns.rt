@@ -1,10 +1,10 @@
 //! Turns of the regions, one after another.
 ghost use Rattle.std.specs.Prelude.{◌≡◌, ◌≤◌, true, []};
 ghost use Rattle.model_session.specs.declared.asked.Asked.TheVariants.{Quiet};
-ghost use Rattle.tm_control.specs.Calls.{StaysSo};
-ghost use Rattle.session_lives.specs.Counting.{KeepsPace};
-ghost use Rattle.session_lives.specs.Asking.{IsAsked};
-ghost use Rattle.session_lives.specs.Turning.{HasTurned};
+ghost use Rattle.tm_control.specs.ControlCalls.{StaysSo};
+ghost use Rattle.session_lives.specs.ControlCounts.{KeepsPace};
+ghost use Rattle.session_lives.specs.AskedControl.{IsAsked};
+ghost use Rattle.session_lives.specs.RegionTurns.{HasTurned};
 
 use crate::called::Called;
 use session_text::{ANSWER_ROOM, Printed, quiet_line};

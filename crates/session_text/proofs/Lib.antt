@@ -1,3 +1,2 @@
 mod SegmentLines
 mod Turned
-mod Trimmed

@@ -2,17 +2,17 @@
 ghost use Rattle.std.specs.Prelude.{◌≡◌, ◌≤◌, ◌+◌, ◌++◌, ◌∷◌, [], length, codes, decimal};
 ghost use Rattle.tm_types.specs.Digits.{four_digits};
 ghost use Rattle.tm_types.specs.Function.{function_name};
-ghost use Rattle.model_machine.specs.Lasting.{code_word};
+ghost use Rattle.model_machine.specs.LastingSteps.{code_word};
 ghost use Rattle.model_session.specs.declared.asked.InputStopped.TheVariants.{TooLong};
 ghost use Rattle.model_session.specs.Text as text;
 ghost use Rattle.model_session.specs.Text.{spaced, line_end, about};
-ghost use Rattle.model_session.specs.Turns.{turns_text};
+ghost use Rattle.model_session.specs.QuietTurns.{quiet_text};
 
 use crate::Printed;
 use crate::isolation::{add_victims, add_waits};
-use model_machine::{AckRefused, Acked, InputRefused, Taken, Turned};
+use model_machine::{AckRefused, Acked, InputRefused, Taken, Turned, code_word};
 use model_session::InputStopped;
-use tm_types::{AbendCode, Dbd, Function, Name, Segments, Status, first_word, four_digits};
+use tm_types::{AbendCode, Dbd, Function, Name, Segments, Status, four_digits};
 
 /// The room that the line of an answer needs at most.
 pub const ANSWER_ROOM: usize = 128;
@@ -189,7 +189,7 @@ fn add_held(out: &mut Printed, need: u64, limit: u64)
 /// Adds the line of so many turns, after which nothing or something was left to do.
 pub fn quiet_line(out: &mut Printed, is_quiet: bool, turns: u32)
     requires { ANSWER_ROOM ≤ out.old.room }
-    ensures { out.new.text ≡ out.old.text ++ turns_text is_quiet turns }
+    ensures { out.new.text ≡ out.old.text ++ quiet_text is_quiet turns }
 {
     add_spaced(out, if is_quiet { b"QUIET" } else { b"TURNS SPENT" });
     out.push_number(u64::from(turns));
@@ -339,20 +339,10 @@ pub fn shown_word(segments: &Segments) -> &[u8]
     }
 }
 
-/// The first word of the first segment.
-fn code_word(segments: &Segments) -> &[u8]
-    ensures { result.now ≡ code_word segments.now }
-{
-    match segments.get(0) {
-        Some(segment) => first_word(segment.text()),
-        None => &[],
-    }
-}
-
 /// Adds what a region's lines begin with.
 pub(crate) fn add_region(out: &mut Printed, region: u32)
     requires { 22 ≤ out.old.room }
-    ensures text { out.new.text ≡ out.old.text ++ text.region_text region }
+    ensures text { out.new.text ≡ out.old.text ++ text.region_line_head region }
     ensures room { out.old.room ≤ out.new.room + 22 }
 {
     out.push(b"R");

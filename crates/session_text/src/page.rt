@@ -2,7 +2,7 @@
 ghost use Rattle.std.specs.Prelude.{◌≡◌, ◌≤◌, ◌<◌, ◌+◌, ◌*◌, ◌++◌, ◌==◌, length};
 ghost use Rattle.std.specs.List.{suffix_len};
 ghost use Rattle.model_system.specs.Pages.{IsPage};
-ghost use Rattle.model_messages.specs.Calls.{without_blanks};
+ghost use Rattle.model_messages.specs.MessageCalls.{without_blanks};
 ghost use Rattle.model_session.specs.Text as text;
 
 use crate::Printed;
@@ -57,7 +57,7 @@ fn add_row(out: &mut Printed, number: u8, row: &[u8])
 }
 
 /// The row without the blanks at its end.
-#[tactic(auto, using(crate::proofs::Trimmed::trimmed_at))]
+#[tactic(auto, using(tm_types::proofs::Parted::trimmed_at))]
 fn without_blanks(row: &[u8]) -> &[u8]
     ensures value { result.now ≡ without_blanks row.now }
     ensures short { length result.now ≤ length row.now }

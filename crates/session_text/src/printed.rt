@@ -18,7 +18,7 @@ pub struct Printed {
 
 impl Model for Printed {
     ghost use Rattle.std.specs.Prelude.{◌≤◌, ◌+◌, vec_len, vec_capacity};
-    ghost use Rattle.session_text.specs.Printed.{PrintedText};
+    ghost use Rattle.session_text.specs.PrintedText.{PrintedText};
 
     ghost Value = { PrintedText };
 

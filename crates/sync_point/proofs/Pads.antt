@@ -3,7 +3,7 @@ use Rattle.std.proofs.Common.{ℕ, arith}
 use Rattle.log_records.specs.declared.record.Record.TheVariants.{SyncPoint}
 use Rattle.model_messages.specs.declared.conversation.PadChange.{PadChange}
 use Rattle.model_messages.specs.declared.conversation.PadChange.TheVariants.{Stays, New, Ends}
-use Rattle.log_records.specs.Spelling.{IsPadChange, IsShort}
+use Rattle.log_records.specs.RecordSpelling.{IsPadChange, IsShort}
 use Rattle.log_records.proofs.WithLength.{stays_short, ends_short, new_short}
 use Rattle.sync_point.specs.Unit.{IsShortChange}
 

@@ -10,8 +10,8 @@ pub record Sent : Type 0 where
   pub bytes : List ℕ
 
 -- a log writer with more bytes appended
-abbrev pub with_bytes : List ℕ → Writer → Writer
-with_bytes bytes writer = record writer { appended = writer.appended ++ bytes }
+abbrev pub with_bytes_appended : List ℕ → Writer → Writer
+with_bytes_appended bytes writer = record writer { appended = writer.appended ++ bytes }
 
 -- a new pad is so short that the record of its sync point has at most 65,535 bytes
 abbrev pub IsShortChange : PadChange → Type 0

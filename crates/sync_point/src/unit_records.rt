@@ -1,7 +1,7 @@
 //! The records of a unit's end, spelled.
 ghost use Rattle.std.specs.Prelude.{◌≡◌, ◌++◌, [], false, IfOk};
 ghost use Rattle.log_records.specs.declared.record.Record.TheVariants.{Input, Reply, Discarded, Completed, SyncPoint};
-ghost use Rattle.log_records.specs.Spelling.{spelling, IsCount, IsAbend};
+ghost use Rattle.log_records.specs.RecordSpelling.{record_spelling, IsCount, IsAbend};
 ghost use Rattle.sync_point.specs.Unit.{IsShortChange};
 
 use log_records::{
@@ -45,7 +45,7 @@ impl OutputRecords {
         segments: &Segments,
     ) -> Result<OutputRecords, Memory>
         requires { IsCount segments.now }
-        ensures { IfOk result (λ sent. sent ≡ record self { bytes = self.bytes ++ spelling (Reply self.unit terminal.now number segments.now) }) }
+        ensures { IfOk result (λ sent. sent ≡ record self { bytes = self.bytes ++ record_spelling (Reply self.unit terminal.now number segments.now) }) }
     {
         append_reply(&mut self.bytes, self.unit, terminal, number, segments)?;
         Ok(self)
@@ -60,7 +60,7 @@ impl OutputRecords {
         segments: &Segments,
     ) -> Result<OutputRecords, Memory>
         requires { IsCount segments.now }
-        ensures { IfOk result (λ sent. sent ≡ record self { bytes = self.bytes ++ spelling (Input self.unit id origin.now code.now 0 false segments.now) }) }
+        ensures { IfOk result (λ sent. sent ≡ record self { bytes = self.bytes ++ record_spelling (Input self.unit id origin.now code.now 0 false segments.now) }) }
     {
         append_input(
             &mut self.bytes,
@@ -95,7 +95,7 @@ impl Finished {
     /// its record's length is a number of two bytes.
     pub fn new(sent: OutputRecords, id: u64, pad: &PadChange) -> Result<Finished, Memory>
         requires { IsShortChange pad.now }
-        ensures { IfOk result (λ finished. finished ≡ sent.bytes ++ spelling (Completed sent.unit id) ++ spelling (SyncPoint sent.unit pad.now)) }
+        ensures { IfOk result (λ finished. finished ≡ sent.bytes ++ record_spelling (Completed sent.unit id) ++ record_spelling (SyncPoint sent.unit pad.now)) }
     {
         let unit = sent.unit;
         let mut bytes = sent.bytes;
@@ -137,7 +137,7 @@ impl Abended {
         number: u64,
     ) -> Result<Abended, Memory>
         requires { IsAbend abend.number }
-        ensures { IfOk result (λ abended. abended ≡ spelling (Discarded unit id abend number)) }
+        ensures { IfOk result (λ abended. abended ≡ record_spelling (Discarded unit id abend number)) }
     {
         let mut bytes = Vec::new(alloc);
         append_discarded(&mut bytes, unit, id, abend, number)?;

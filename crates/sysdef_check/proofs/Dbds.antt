@@ -11,29 +11,30 @@ use Rattle.system_types.specs.declared.definition.Macro.{Macro}
 use Rattle.system_types.specs.declared.definition.Macro.TheVariants.{Database, Segment}
 use Rattle.system_types.specs.declared.definition.MacroLine.{MacroLine}
 use Rattle.system_types.specs.Definitions.{IsInRange}
-use Rattle.system_types.specs.Valid.{IsDatabase}
+use Rattle.system_types.specs.ValidSystem.{IsDatabase}
 use Rattle.system_types.proofs.Indexed.{found_at}
 use Rattle.sysdef_rules.specs.declared.cross.CrossRule.TheVariants.{OfSegments, WrongCount}
 use Rattle.sysdef_rules.specs.declared.lookups.MacroKind.TheVariants.{Segments}
 use Rattle.sysdef_rules.specs.declared.segments.SegmentRule.TheVariants.{ParentAstray}
 use Rattle.sysdef_rules.specs.Counts.{past_limit}
-use Rattle.sysdef_rules.specs.Cross.{broken_line, first_line}
-use Rattle.sysdef_rules.specs.Lookups.{behind, front, has, is_database, is_of, segments_of}
+use Rattle.sysdef_rules.specs.Cross.{broken_macro_line, first_line}
+use Rattle.sysdef_rules.specs.Lookups.{lines_behind_first, front, has, is_database, is_of_kind, segments_of}
 use Rattle.sysdef_rules.specs.Segments.{broken_by_segment, broken_in, first_segment}
-use Rattle.sysdef_check.specs.Systems.{and_then, database_in, database_number, databases_in, type_in, types_in}
+use Rattle.sysdef_check.specs.Systems.{value_and_then, database_in, database_number, databases_in, type_in, types_in}
 use Rattle.sysdef_rules.proofs.Fronts.{front_all, front_holds}
-use Rattle.sysdef_check.proofs.Kept.{and_parts, kept_count, kept_database, neither}
+use Rattle.sysdef_check.proofs.Kept.{and_parts, kept_count, kept_database}
 use Rattle.sysdef_check.proofs.Made.{made_holds, none_holds, short_list}
+use Rattle.tm_types.proofs.Truths.{neither}
 
 -- each segment has a type
-type_counted : (before : List MacroLine) (content : Macro) (rest : List SegType) → is_of Segments content ≡ true → length (and_then (type_in before content) rest) ≡ suc (length rest)
+type_counted : (before : List MacroLine) (content : Macro) (rest : List SegType) → is_of_kind Segments content ≡ true → length (value_and_then (type_in before content) rest) ≡ suc (length rest)
 type_counted before (Segment name parent key bytes) rest e = refl
 type_counted before _ rest e = absurd (false≢true e)
 
-types_counted : (lines before : List MacroLine) → IsTrue (list_all (λ l. is_of Segments l.content) lines) → length (types_in before lines) ≡ length lines
+types_counted : (lines before : List MacroLine) → IsTrue (list_all (λ l. is_of_kind Segments l.content) lines) → length (types_in before lines) ≡ length lines
 types_counted [] before h = refl
 types_counted (line ∷ lines) before h =
-    let both = and_parts (is_of Segments line.content) (list_all (λ l. is_of Segments l.content) lines) h in
+    let both = and_parts (is_of_kind Segments line.content) (list_all (λ l. is_of_kind Segments l.content) lines) h in
     type_counted before line.content (types_in (before ++ line ∷ []) lines) both.0 ∙ ap suc (types_counted lines (before ++ line ∷ []) both.1)
 
 type_short : (before : List MacroLine) (content : Macro) → IsInRange content → IfSome (type_in before content) (λ type. type.bytes ≤ 1900)
@@ -71,8 +72,8 @@ valid_in : (all lines before : List MacroLine) → first_line (OfSegments Parent
     → All (λ l. IsInRange l.content) lines → All IsDatabase (databases_in lines)
 valid_in all [] before parents counts range = none_holds IsDatabase
 valid_in all (line ∷ lines) before parents counts range =
-    let p = neither (broken_line (OfSegments ParentAstray) all before line lines) (first_line (OfSegments ParentAstray) all (before ++ line ∷ []) lines) parents in
-    let n = neither (broken_line WrongCount all before line lines) (first_line WrongCount all (before ++ line ∷ []) lines) counts in
+    let p = neither (broken_macro_line (OfSegments ParentAstray) all before line lines) (first_line (OfSegments ParentAstray) all (before ++ line ∷ []) lines) parents in
+    let n = neither (broken_macro_line WrongCount all before line lines) (first_line WrongCount all (before ++ line ∷ []) lines) counts in
     let others = All-tail (λ l. IsInRange l.content) line lines range in
     made_holds IsDatabase (database_in line.content lines) (databases_in lines)
     (database_valid line line.content lines (kept_database ParentAstray all before line lines p.0) (kept_count all before line lines n.0).1 (All-head (λ l. IsInRange l.content) line lines range) others)
@@ -98,14 +99,14 @@ or_right false more h e = h
 
 found_here : (name : List ℕ) (content : Macro) (lines : List MacroLine) → (has (is_database name) lines ≡ true → IsSomeAnd (find (λ d. bytes_eq d.name name) (databases_in lines)) (λ d. d.types ≡ types_in [] (segments_of name lines)))
     → (is_database name content || has (is_database name) lines) ≡ true
-    → IsSomeAnd (find (λ d. bytes_eq d.name name) (and_then (database_in content lines) (databases_in lines))) (λ d. d.types ≡ types_in [] (front Segments (cond (is_database name content) lines (behind (is_database name) lines))))
+    → IsSomeAnd (find (λ d. bytes_eq d.name name) (value_and_then (database_in content lines) (databases_in lines))) (λ d. d.types ≡ types_in [] (front Segments (cond (is_database name content) lines (lines_behind_first (is_database name) lines))))
 unfolding segments_of
 found_here name (Database database roots) lines more h =
     let b = bytes_eq database name in
     subst (λ (ls : List MacroLine). IsSomeAnd (cond b (Some (record { name = database; roots = roots; sectors = 1; types = types_in [] (front Segments lines) })) (find (λ d. bytes_eq d.name name) (databases_in lines))) (λ d. d.types ≡ types_in [] ls))
-    (front_of b lines (behind (is_database name) lines))
+    (front_of b lines (lines_behind_first (is_database name) lines))
     (found_by b name (record { name = database; roots = roots; sectors = 1; types = types_in [] (front Segments lines) }) (find (λ d. bytes_eq d.name name) (databases_in lines))
-    (front Segments lines) (front Segments (behind (is_database name) lines)) refl (λ e. more (or_right b (has (is_database name) lines) h e)))
+    (front Segments lines) (front Segments (lines_behind_first (is_database name) lines)) refl (λ e. more (or_right b (has (is_database name) lines) h e)))
 found_here name _ lines more h = more h
 
 pub database_found : (name : List ℕ) (lines : List MacroLine) → has (is_database name) lines ≡ true
@@ -155,8 +156,8 @@ keeps_in : (all lines before : List MacroLine) (name : List ℕ) → first_line 
 unfolding segments_of
 keeps_in all [] before name h = refl
 keeps_in all (line ∷ lines) before name h =
-    let p = neither (broken_line (OfSegments ParentAstray) all before line lines) (first_line (OfSegments ParentAstray) all (before ++ line ∷ []) lines) h in
-    keeps_by (is_database name line.content) lines (behind (is_database name) lines) (λ e. keeps_here name line line.content lines (kept_database ParentAstray all before line lines p.0) e)
+    let p = neither (broken_macro_line (OfSegments ParentAstray) all before line lines) (first_line (OfSegments ParentAstray) all (before ++ line ∷ []) lines) h in
+    keeps_by (is_database name line.content) lines (lines_behind_first (is_database name) lines) (λ e. keeps_here name line line.content lines (kept_database ParentAstray all before line lines p.0) e)
     (λ e. keeps_in all lines (before ++ line ∷ []) name p.1)
 
 pub parents_kept : (all : List MacroLine) (name : List ℕ) → first_line (OfSegments ParentAstray) all [] all ≡ None → KeepsParents (segments_of name all)

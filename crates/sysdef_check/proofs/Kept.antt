@@ -1,7 +1,6 @@
 -- A rule that no macro breaks is kept by each.
 use Rattle.std.proofs.Common.{ℕ, zero, suc, ◌≡◌, ◌+◌, ◌-◌, ◌<◌, Bool, true, false, List, [], ◌∷◌, ◌++◌, length, take, drop, get_or, slice_get, All, Option, Some, None, Result, Ok, Err, IsTrue, refl, sym, subst, arith, length-drop, ◌&&◌}
 use Rattle.std.specs.List.{list_all}
-use Rattle.std.specs.Option.{option_or}
 use Rattle.std.proofs.lemmas.Bool.{false≢true}
 use Rattle.std.proofs.lemmas.List.{take_all}
 use Rattle.std.proofs.lemmas.List.Elements.{All-drop, All-take}
@@ -12,12 +11,8 @@ use Rattle.sysdef_rules.specs.declared.cross.CrossRule.TheVariants.{OfSegments, 
 use Rattle.sysdef_rules.specs.declared.segments.SegmentRule.{SegmentRule}
 use Rattle.sysdef_rules.specs.Segments.{own_line, breaks_segment, broken_by_segment, first_segment}
 use Rattle.sysdef_rules.specs.Counts.{breaks_count, past_limit}
-use Rattle.sysdef_rules.specs.Cross.{before_others, broken_line, cross_rules, first_line, keeps, keeps_all, rules, unless_broken}
-
--- neither of two is there
-pub neither : (a b : Option ℕ) → option_or a b ≡ None → (a ≡ None) × (b ≡ None)
-neither None b h = (refl, h)
-neither (Some n) b h = cc
+use Rattle.sysdef_rules.specs.Cross.{before_others, broken_macro_line, cross_rules, first_line, keeps, keeps_all, rules, unless_line_broken}
+use Rattle.tm_types.proofs.Truths.{neither}
 
 pub not_broken : (line : MacroLine) (b : Bool) → own_line line b ≡ None → b ≡ false
 not_broken line false h = refl
@@ -26,11 +21,11 @@ not_broken line true h = cc
 -- the first of the macros that are left keeps the rule, and so do the others
 pub kept_line : (rule : CrossRule) (all lines : List MacroLine) (index : ℕ) (line : MacroLine) → index < length lines → line ≡ get_or lines index line
     → first_line rule all (take index lines) (drop index lines) ≡ None
-    → (broken_line rule all (take index lines) line (drop (index + 1) lines) ≡ None) × (first_line rule all (take (index + 1) lines) (drop (index + 1) lines) ≡ None)
+    → (broken_macro_line rule all (take index lines) line (drop (index + 1) lines) ≡ None) × (first_line rule all (take (index + 1) lines) (drop (index + 1) lines) ≡ None)
 kept_line rule all lines index line h e kept =
     let cut : drop index lines ≡ line ∷ drop (index + 1) lines = cut_at lines index line h e in
     let more : take (index + 1) lines ≡ take index lines ++ line ∷ [] = more_at lines index line h e in
-    let both = neither (broken_line rule all (take index lines) line (drop (index + 1) lines)) (first_line rule all (take index lines ++ line ∷ []) (drop (index + 1) lines))
+    let both = neither (broken_macro_line rule all (take index lines) line (drop (index + 1) lines)) (first_line rule all (take index lines ++ line ∷ []) (drop (index + 1) lines))
     (subst (λ (ls : List MacroLine). first_line rule all (take index lines) ls ≡ None) cut kept) in
     (both.0, subst (λ (ls : List MacroLine). first_line rule all ls (drop (index + 1) lines) ≡ None) (sym more) both.1)
 
@@ -61,7 +56,7 @@ both_kept : (a b : Result (Unit {0}) (ℕ × ℕ)) → before_others a b ≡ Ok 
 both_kept (Ok tt) b h = (refl, h)
 both_kept (Err fault) b h = cc
 
-none_broken : (rule : CrossRule) (line : Option ℕ) → unless_broken rule line ≡ Ok tt → line ≡ None
+none_broken : (rule : CrossRule) (line : Option ℕ) → unless_line_broken rule line ≡ Ok tt → line ≡ None
 none_broken rule None h = refl
 none_broken rule (Some line) h = cc
 
@@ -81,14 +76,14 @@ unfolding cross_rules
 rule_kept all n rule h e = each_kept rules all n rule h e
 
 -- what the rules say of a DBD and the lines behind it
-pub kept_database : (rule : SegmentRule) (all before : List MacroLine) (line : MacroLine) (behind : List MacroLine) → broken_line (OfSegments rule) all before line behind ≡ None
+pub kept_database : (rule : SegmentRule) (all before : List MacroLine) (line : MacroLine) (behind : List MacroLine) → broken_macro_line (OfSegments rule) all before line behind ≡ None
     → broken_by_segment rule line line.content behind ≡ None
-unfolding broken_line
+unfolding broken_macro_line
 kept_database rule all before line behind h = h
 
-pub kept_count : (all before : List MacroLine) (line : MacroLine) (behind : List MacroLine) → broken_line WrongCount all before line behind ≡ None
+pub kept_count : (all before : List MacroLine) (line : MacroLine) (behind : List MacroLine) → broken_macro_line WrongCount all before line behind ≡ None
     → (breaks_count all before line.content ≡ false) × (past_limit line.content behind ≡ None)
-unfolding broken_line
+unfolding broken_macro_line
 kept_count all before line behind h =
     let both = neither (own_line line (breaks_count all before line.content)) (past_limit line.content behind) h in
     (not_broken line (breaks_count all before line.content) both.0, both.1)

@@ -2,14 +2,14 @@
 use Rattle.std.proofs.Common.{ℕ, zero, suc, ◌≡◌, ◌≤◌, ◌||◌, Bool, true, false, List, [], ◌∷◌, length, slice_get, Option, Some, None, IfSome, All, refl, arith}
 use Rattle.std.specs.Option.{option_map}
 use Rattle.std.proofs.lemmas.List.Elements.{All-cons}
-use Rattle.sysdef_check.specs.Systems.{and_then}
+use Rattle.sysdef_check.specs.Systems.{value_and_then}
 
 -- no value is in an empty list
 pub none_holds : {A : Type 0} (P : A → Type 0) → All P []
 none_holds P k d below = absurd (omega (arith, below))
 
 -- what holds of a value, if there is one, and of the others, holds of all
-pub made_holds : {A : Type 0} (P : A → Type 0) (value : Option A) (values : List A) → IfSome value P → All P values → All P (and_then value values)
+pub made_holds : {A : Type 0} (P : A → Type 0) (value : Option A) (values : List A) → IfSome value P → All P values → All P (value_and_then value values)
 made_holds P (Some value) values h rest = All-cons P value values h rest
 made_holds P None values h rest = rest
 

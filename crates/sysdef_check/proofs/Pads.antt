@@ -9,14 +9,15 @@ use Rattle.model_system.specs.declared.code.Code.{Code}
 use Rattle.system_types.specs.declared.definition.Macro.{Macro}
 use Rattle.system_types.specs.declared.definition.Macro.TheVariants.{DatabasePcb, DestinationPcb, ModifiablePcb, Transaction, Program}
 use Rattle.system_types.specs.declared.definition.MacroLine.{MacroLine}
-use Rattle.system_types.specs.Valid.{IsPadLength, IsSentTo}
+use Rattle.system_types.specs.ValidSystem.{IsPadLength, IsSentTo}
 use Rattle.sysdef_rules.specs.declared.cross.CrossRule.TheVariants.{DestinationUnknown, WrongPad}
-use Rattle.sysdef_rules.specs.Cross.{breaks_destination, breaks_pad, broken_line, first_line}
-use Rattle.sysdef_rules.specs.Lookups.{has, is_code, is_conversational, is_terminal, pcbs_of}
-use Rattle.sysdef_check.specs.Systems.{and_then, code_in, codes_in, psb_after, pcb_in, pcbs_in, pcbs_for, program_in, programs_in}
-use Rattle.sysdef_check.proofs.Kept.{neither, not_broken}
+use Rattle.sysdef_rules.specs.Cross.{breaks_destination, breaks_pad, broken_macro_line, first_line}
+use Rattle.sysdef_rules.specs.Lookups.{has, is_code_named, is_conversational, is_terminal_named, pcbs_of}
+use Rattle.sysdef_check.specs.Systems.{value_and_then, code_in, codes_in, psb_after, pcb_in, pcbs_in, pcbs_for, program_in, programs_in}
+use Rattle.sysdef_check.proofs.Kept.{not_broken}
 use Rattle.sysdef_check.proofs.Made.{either_false, made_holds, none_holds}
 use Rattle.sysdef_check.proofs.Servable.{pcbs_hold}
+use Rattle.tm_types.proofs.Truths.{neither}
 
 -- the length of a pad
 pad_length : (pad : ℕ) (none least most : Bool) → (pad == 0) ≡ none → nat_le 16 pad ≡ least → nat_le pad 1000 ≡ most → (not none && not (least && most)) ≡ false → IsPadLength pad
@@ -27,8 +28,8 @@ pad_length pad false true true e f g h = record { least = λ some. grind (arith,
 pad_length pad false true false e f g h = absurd (false≢true (sym h))
 pad_length pad false false most e f g h = absurd (false≢true (sym h))
 
-kept_pad : (all before : List MacroLine) (line : MacroLine) (behind : List MacroLine) → broken_line WrongPad all before line behind ≡ None → breaks_pad line.content ≡ false
-unfolding broken_line
+kept_pad : (all before : List MacroLine) (line : MacroLine) (behind : List MacroLine) → broken_macro_line WrongPad all before line behind ≡ None → breaks_pad line.content ≡ false
+unfolding broken_macro_line
 kept_pad all before line behind h = not_broken line (breaks_pad line.content) h
 
 code_pad : (psb : Option (List ℕ)) (content : Macro) → breaks_pad content ≡ false → IfSome (code_in psb content) (λ code. IsPadLength code.transaction.scratch_pad)
@@ -42,7 +43,7 @@ code_pad (Some name) _ h = tt
 pads_in : (all lines before : List MacroLine) (psb : Option (List ℕ)) → first_line WrongPad all before lines ≡ None → All (λ code. IsPadLength code.transaction.scratch_pad) (codes_in psb lines)
 pads_in all [] before psb h = none_holds (λ code. IsPadLength code.transaction.scratch_pad)
 pads_in all (line ∷ lines) before psb h =
-    let both = neither (broken_line WrongPad all before line lines) (first_line WrongPad all (before ++ line ∷ []) lines) h in
+    let both = neither (broken_macro_line WrongPad all before line lines) (first_line WrongPad all (before ++ line ∷ []) lines) h in
     made_holds (λ code. IsPadLength code.transaction.scratch_pad) (code_in psb line.content) (codes_in (psb_after psb line.content) lines)
     (code_pad psb line.content (kept_pad all before line lines both.0)) (pads_in all lines (before ++ line ∷ []) (psb_after psb line.content) both.1)
 
@@ -58,7 +59,7 @@ found_pad false true code rest e h more = absurd (false≢true (sym h))
 
 no_pad_by : (name : List ℕ) (psb : Option (List ℕ)) (content : Macro) (rest : List Code) → is_conversational name content ≡ false
     → IfSome (find (λ c. bytes_eq c.transaction.code name) rest) (λ c. c.transaction.scratch_pad ≡ 0)
-    → IfSome (find (λ c. bytes_eq c.transaction.code name) (and_then (code_in psb content) rest)) (λ c. c.transaction.scratch_pad ≡ 0)
+    → IfSome (find (λ c. bytes_eq c.transaction.code name) (value_and_then (code_in psb content) rest)) (λ c. c.transaction.scratch_pad ≡ 0)
 no_pad_by name None content rest h more = more
 no_pad_by name (Some psb) (Transaction transaction) rest h more =
     found_pad (transaction.scratch_pad == 0) (bytes_eq transaction.code name) (record { psb = psb; transaction = transaction })
@@ -76,21 +77,21 @@ no_pad name (line ∷ lines) psb h =
 abbrev pub KeepsDestination : List MacroLine → MacroLine → Type 0
 KeepsDestination all line = breaks_destination all line.content ≡ false
 
-kept_destination : (all before : List MacroLine) (line : MacroLine) (behind : List MacroLine) → broken_line DestinationUnknown all before line behind ≡ None → KeepsDestination all line
-unfolding broken_line
+kept_destination : (all before : List MacroLine) (line : MacroLine) (behind : List MacroLine) → broken_macro_line DestinationUnknown all before line behind ≡ None → KeepsDestination all line
+unfolding broken_macro_line
 kept_destination all before line behind h = not_broken line (breaks_destination all line.content) h
 
 pub keeps_in : (all lines before : List MacroLine) → first_line DestinationUnknown all before lines ≡ None → All (KeepsDestination all) lines
 keeps_in all [] before h = none_holds (KeepsDestination all)
 keeps_in all (line ∷ lines) before h =
-    let both = neither (broken_line DestinationUnknown all before line lines) (first_line DestinationUnknown all (before ++ line ∷ []) lines) h in
+    let both = neither (broken_macro_line DestinationUnknown all before line lines) (first_line DestinationUnknown all (before ++ line ∷ []) lines) h in
     All-cons (KeepsDestination all) line lines (kept_destination all before line lines both.0) (keeps_in all lines (before ++ line ∷ []) both.1)
 
 pcb_sent : (databases : List Dbd) (all : List MacroLine) (content : Macro) → breaks_destination all content ≡ false → IfSome (pcb_in databases content) (IsSentTo (codes_in None all))
 unfolding breaks_destination
 pcb_sent databases all (DatabasePcb database options) h = tt
 pcb_sent databases all (DestinationPcb destination) h =
-    let unknown : Bool = not (has (is_terminal destination) all || has (is_code destination) all) in
+    let unknown : Bool = not (has (is_terminal_named destination) all || has (is_code_named destination) all) in
     no_pad destination all None (either_false unknown (has (is_conversational destination) all) h).1
 pcb_sent databases all ModifiablePcb h = tt
 pcb_sent databases all _ h = tt

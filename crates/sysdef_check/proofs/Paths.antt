@@ -22,39 +22,40 @@ use Rattle.system_types.specs.Calls.{segment_name}
 use Rattle.system_types.proofs.Indexed.{found_at}
 use Rattle.sysdef_rules.specs.declared.lookups.MacroKind.TheVariants.{Segments}
 use Rattle.sysdef_rules.specs.declared.segments.SegmentRule.TheVariants.{ParentAstray}
-use Rattle.sysdef_rules.specs.Calls.{fill_levels, go_down, has_insert_form, is_below, is_parent}
-use Rattle.sysdef_rules.specs.Lookups.{has, is_of, is_segment, number_of, parent_at, parent_named}
+use Rattle.sysdef_rules.specs.Calls.{fill_levels, go_down, has_insert_form, is_below_segment, is_parent}
+use Rattle.sysdef_rules.specs.Lookups.{has, is_of_kind, is_segment_named, line_number_of, parent_at, parent_named}
 use Rattle.sysdef_rules.specs.Segments.{breaks_parent, breaks_segment, first_segment, own_line}
-use Rattle.sysdef_check.specs.Systems.{and_then, parent_number, type_in, types_in}
-use Rattle.sysdef_check.proofs.Kept.{and_parts, neither, not_broken}
+use Rattle.sysdef_check.specs.Systems.{value_and_then, parent_number, type_in, types_in}
+use Rattle.sysdef_check.proofs.Kept.{and_parts, not_broken}
 use Rattle.sysdef_check.proofs.Made.{none_holds}
+use Rattle.tm_types.proofs.Truths.{neither}
 
 abbrev AreSegments : List MacroLine → Type 0
-AreSegments lines = IsTrue (list_all (λ l. is_of Segments l.content) lines)
+AreSegments lines = IsTrue (list_all (λ l. is_of_kind Segments l.content) lines)
 
 -- A type stands at the place of its segment.
 place_by : (b : Bool) (from : ℕ) (more others : Option ℕ) → more ≡ others → cond b (Some from) more ≡ cond b (Some from) others
 place_by b from more others e = ap (λ o. cond b (Some from) o) e
 
-place_here : (before : List MacroLine) (content : Macro) (rest : List SegType) (name : List ℕ) (from : ℕ) (others : Option ℕ) → is_of Segments content ≡ true
+place_here : (before : List MacroLine) (content : Macro) (rest : List SegType) (name : List ℕ) (from : ℕ) (others : Option ℕ) → is_of_kind Segments content ≡ true
     → position_from (λ s. bytes_eq s.name name) (from + 1) rest ≡ others
-    → position_from (λ s. bytes_eq s.name name) from (and_then (type_in before content) rest) ≡ cond (is_segment name content) (Some from) others
+    → position_from (λ s. bytes_eq s.name name) from (value_and_then (type_in before content) rest) ≡ cond (is_segment_named name content) (Some from) others
 place_here before (Segment segment parent key bytes) rest name from others e h = ap (λ o. cond (bytes_eq segment name) (Some from) o) h
 place_here before _ rest name from others e h = absurd (false≢true e)
 
 place_from : (lines before : List MacroLine) (name : List ℕ) (from : ℕ) → AreSegments lines
-    → position_from (λ s. bytes_eq s.name name) from (types_in before lines) ≡ position_from (λ l. is_segment name l.content) from lines
+    → position_from (λ s. bytes_eq s.name name) from (types_in before lines) ≡ position_from (λ l. is_segment_named name l.content) from lines
 place_from [] before name from h = refl
 place_from (line ∷ lines) before name from h =
-    let both = and_parts (is_of Segments line.content) (list_all (λ l. is_of Segments l.content) lines) h in
-    place_here before line.content (types_in (before ++ line ∷ []) lines) name from (position_from (λ l. is_segment name l.content) (from + 1) lines) both.0
+    let both = and_parts (is_of_kind Segments line.content) (list_all (λ l. is_of_kind Segments l.content) lines) h in
+    place_here before line.content (types_in (before ++ line ∷ []) lines) name from (position_from (λ l. is_segment_named name l.content) (from + 1) lines) both.0
     (place_from lines (before ++ line ∷ []) name (from + 1) both.1)
 
-pub place_is : (segments : List MacroLine) (name : List ℕ) → AreSegments segments → place_named (types_in [] segments) name ≡ position (λ l. is_segment name l.content) segments
+pub place_is : (segments : List MacroLine) (name : List ℕ) → AreSegments segments → place_named (types_in [] segments) name ≡ position (λ l. is_segment_named name l.content) segments
 place_is segments name h =
-    position_from-zero (λ s. bytes_eq s.name name) (types_in [] segments) ∙ place_from segments [] name 0 h ∙ sym (position_from-zero (λ l. is_segment name l.content) segments)
+    position_from-zero (λ s. bytes_eq s.name name) (types_in [] segments) ∙ place_from segments [] name 0 h ∙ sym (position_from-zero (λ l. is_segment_named name l.content) segments)
 
-number_is : (segments : List MacroLine) (name : List ℕ) → AreSegments segments → number_named (types_in [] segments) name ≡ number_of (is_segment name) segments
+number_is : (segments : List MacroLine) (name : List ℕ) → AreSegments segments → number_named (types_in [] segments) name ≡ line_number_of (is_segment_named name) segments
 number_is segments name h = ap (λ o. option_map_or (λ place. place + 1) o 0) (place_is segments name h)
 
 some_by : (b more : Bool) (place : ℕ) (rest : Option ℕ) → (more ≡ true → IsSome rest) → (b || more) ≡ true → IsSome (cond b (Some place) rest)
@@ -66,9 +67,9 @@ some_from p place [] e = absurd (false≢true e)
 some_from p place (x ∷ xs) e = some_by (p x) (list_any p xs) place (position_from p (place + 1) xs) (some_from p (place + 1) xs) e
 
 -- a segment that is there has a type
-pub is_named : (segments : List MacroLine) (name : List ℕ) → AreSegments segments → has (is_segment name) segments ≡ true → IsSome (place_named (types_in [] segments) name)
+pub is_named : (segments : List MacroLine) (name : List ℕ) → AreSegments segments → has (is_segment_named name) segments ≡ true → IsSome (place_named (types_in [] segments) name)
 is_named segments name h there =
-    subst (λ (o : Option ℕ). IsSome o) (sym (place_is segments name h ∙ position_from-zero (λ l. is_segment name l.content) segments)) (some_from (λ l. is_segment name l.content) 0 segments there)
+    subst (λ (o : Option ℕ). IsSome o) (sym (place_is segments name h ∙ position_from-zero (λ l. is_segment_named name l.content) segments)) (some_from (λ l. is_segment_named name l.content) 0 segments there)
 
 -- the type of a name, by the number that the name has
 type_by : (types : List SegType) (number place : ℕ) (b : Bool) → (number == 0) ≡ b → number ≡ place + 1 → cond b None (slice_get types (number - 1)) ≡ slice_get types place
@@ -93,13 +94,13 @@ prefix_from : {X : Type 0} (p : X → Bool) (from : ℕ) (xs ys : List X) → li
 prefix_from p from [] ys e = absurd (false≢true e)
 prefix_from p from (x ∷ xs) ys e = prefix_by (p x) (list_any p xs) from (position_from p (from + 1) (xs ++ ys)) (position_from p (from + 1) xs) (prefix_from p (from + 1) xs ys) e
 
-prefix_number : (before others : List MacroLine) (name : List ℕ) → has (is_segment name) before ≡ true → number_of (is_segment name) (before ++ others) ≡ number_of (is_segment name) before
+prefix_number : (before others : List MacroLine) (name : List ℕ) → has (is_segment_named name) before ≡ true → line_number_of (is_segment_named name) (before ++ others) ≡ line_number_of (is_segment_named name) before
 prefix_number before others name there =
-    let test : MacroLine → Bool = λ l. is_segment name l.content in
+    let test : MacroLine → Bool = λ l. is_segment_named name l.content in
     ap (λ o. option_map_or (λ place. place + 1) o 0)
     (position_from-zero test (before ++ others) ∙ prefix_from test 0 before others there ∙ sym (position_from-zero test before))
 
-not_false : (b : Bool) → not b ≡ false → b ≡ true
+pub not_false : (b : Bool) → not b ≡ false → b ≡ true
 not_false true h = refl
 not_false false h = absurd (false≢true (sym h))
 
@@ -108,7 +109,7 @@ parent_is : (before others : List MacroLine) (name : List ℕ) (parent : Option 
 unfolding breaks_parent
 parent_is before others name None key bytes h = refl
 parent_is [] others name (Some parent) key bytes h = absurd (false≢true (sym h))
-parent_is (line ∷ before) others name (Some parent) key bytes h = sym (prefix_number (line ∷ before) others parent (not_false (has (is_segment parent) (line ∷ before)) h))
+parent_is (line ∷ before) others name (Some parent) key bytes h = sym (prefix_number (line ∷ before) others parent (not_false (has (is_segment_named parent) (line ∷ before)) h))
 
 abbrev HasParentOf : List MacroLine → Option SegType → Option MacroLine → Type 0
 HasParentOf segments found line = IsSomeAnd found (λ s. s.parent ≡ parent_number segments (parent_at line))
@@ -119,9 +120,9 @@ parent_by true more segments s line found other e rest h = e
 parent_by false more segments s line found other e rest h = rest h
 
 parent_here : (segments before : List MacroLine) (number : ℕ) (content : Macro) (others : List MacroLine) (rest : List SegType) (name : List ℕ) (more : Bool) (other : Option MacroLine)
-    → segments ≡ before ++ others → is_of Segments content ≡ true → breaks_parent before content ≡ false
-    → (more ≡ true → HasParentOf segments (find (λ s. bytes_eq s.name name) rest) other) → (is_segment name content || more) ≡ true
-    → HasParentOf segments (find (λ s. bytes_eq s.name name) (and_then (type_in before content) rest)) (cond (is_segment name content) (Some (record { number = number; content = content })) other)
+    → segments ≡ before ++ others → is_of_kind Segments content ≡ true → breaks_parent before content ≡ false
+    → (more ≡ true → HasParentOf segments (find (λ s. bytes_eq s.name name) rest) other) → (is_segment_named name content || more) ≡ true
+    → HasParentOf segments (find (λ s. bytes_eq s.name name) (value_and_then (type_in before content) rest)) (cond (is_segment_named name content) (Some (record { number = number; content = content })) other)
 parent_here segments before number (Segment segment parent key bytes) others rest name more other whole e kept behind h =
     parent_by (bytes_eq segment name) more segments (record { name = segment; parent = parent_number before parent; key = key; bytes = bytes }) (record { number = number; content = Segment segment parent key bytes })
     (find (λ s. bytes_eq s.name name) rest) other
@@ -129,21 +130,21 @@ parent_here segments before number (Segment segment parent key bytes) others res
 parent_here segments before number _ others rest name more other whole e kept behind h = absurd (false≢true e)
 
 parent_from : (segments lines before : List MacroLine) (name : List ℕ) → segments ≡ before ++ lines → AreSegments lines → first_segment ParentAstray segments before lines ≡ None
-    → has (is_segment name) lines ≡ true → HasParentOf segments (find (λ s. bytes_eq s.name name) (types_in before lines)) (find (λ l. is_segment name l.content) lines)
+    → has (is_segment_named name) lines ≡ true → HasParentOf segments (find (λ s. bytes_eq s.name name) (types_in before lines)) (find (λ l. is_segment_named name l.content) lines)
 parent_from segments [] before name whole all kept there = absurd (false≢true there)
 parent_from segments (line ∷ lines) before name whole all kept there =
-    let both = and_parts (is_of Segments line.content) (list_all (λ l. is_of Segments l.content) lines) all in
+    let both = and_parts (is_of_kind Segments line.content) (list_all (λ l. is_of_kind Segments l.content) lines) all in
     let keeps = neither (own_line line (breaks_segment ParentAstray segments before line.content)) (first_segment ParentAstray segments (before ++ line ∷ []) lines) kept in
-    parent_here segments before line.number line.content (line ∷ lines) (types_in (before ++ line ∷ []) lines) name (has (is_segment name) lines) (find (λ l. is_segment name l.content) lines) whole both.0
+    parent_here segments before line.number line.content (line ∷ lines) (types_in (before ++ line ∷ []) lines) name (has (is_segment_named name) lines) (find (λ l. is_segment_named name l.content) lines) whole both.0
     (not_broken line (breaks_segment ParentAstray segments before line.content) keeps.0)
     (λ more. parent_from segments lines (before ++ line ∷ []) name (whole ∙ sym (append_assoc before (line ∷ []) lines)) both.1 keeps.1 more) there
 
 -- the type of a name has the parent that the segment of this name has
-pub type_parent : (segments : List MacroLine) (name : List ℕ) → AreSegments segments → first_segment ParentAstray segments [] segments ≡ None → has (is_segment name) segments ≡ true
+pub type_parent : (segments : List MacroLine) (name : List ℕ) → AreSegments segments → first_segment ParentAstray segments [] segments ≡ None → has (is_segment_named name) segments ≡ true
     → IsSomeAnd (type_at (types_in [] segments) (number_named (types_in [] segments) name)) (λ s. s.parent ≡ parent_number segments (parent_named segments name))
 unfolding parent_named
 type_parent segments name all kept there =
-    subst (λ (o : Option SegType). HasParentOf segments o (find (λ l. is_segment name l.content) segments)) (sym (type_named (types_in [] segments) name))
+    subst (λ (o : Option SegType). HasParentOf segments o (find (λ l. is_segment_named name l.content) segments)) (sym (type_named (types_in [] segments) name))
     (parent_from segments segments [] name refl all kept there)
 
 -- the number of the segment above, and 0 above the root
@@ -164,16 +165,16 @@ child_by segments found number above e h = subst (λ n. IsSomeAnd found (λ s. s
 
 -- the arguments that go down name segments
 name_and : (segments : List MacroLine) (above : Option (List ℕ)) (ssa : ScriptSsa) (ssas : List ScriptSsa) → go_down segments above (ssa ∷ ssas) ≡ true
-    → (has (is_segment (segment_name ssa)) segments ≡ true) × (go_down segments (Some (segment_name ssa)) ssas ≡ true)
+    → (has (is_segment_named (segment_name ssa)) segments ≡ true) × (go_down segments (Some (segment_name ssa)) ssas ≡ true)
 name_and segments above ssa ssas h =
-    let outer = and_parts (has (is_segment (segment_name ssa)) segments && is_below segments (segment_name ssa) above) (go_down segments (Some (segment_name ssa)) ssas) h in
-    ((and_parts (has (is_segment (segment_name ssa)) segments) (is_below segments (segment_name ssa) above) outer.0).0, outer.1)
+    let outer = and_parts (has (is_segment_named (segment_name ssa)) segments && is_below_segment segments (segment_name ssa) above) (go_down segments (Some (segment_name ssa)) ssas) h in
+    ((and_parts (has (is_segment_named (segment_name ssa)) segments) (is_below_segment segments (segment_name ssa) above) outer.0).0, outer.1)
 
-pub all_there : (segments : List MacroLine) (above : Option (List ℕ)) (ssas : List ScriptSsa) → go_down segments above ssas ≡ true → All (λ ssa. has (is_segment (segment_name ssa)) segments ≡ true) ssas
-all_there segments above [] h = none_holds (λ ssa. has (is_segment (segment_name ssa)) segments ≡ true)
+pub all_there : (segments : List MacroLine) (above : Option (List ℕ)) (ssas : List ScriptSsa) → go_down segments above ssas ≡ true → All (λ ssa. has (is_segment_named (segment_name ssa)) segments ≡ true) ssas
+all_there segments above [] h = none_holds (λ ssa. has (is_segment_named (segment_name ssa)) segments ≡ true)
 all_there segments above (ssa ∷ ssas) h =
     let both = name_and segments above ssa ssas h in
-    All-cons (λ s. has (is_segment (segment_name s)) segments ≡ true) ssa ssas both.0 (all_there segments (Some (segment_name ssa)) ssas both.1)
+    All-cons (λ s. has (is_segment_named (segment_name s)) segments ≡ true) ssa ssas both.0 (all_there segments (Some (segment_name ssa)) ssas both.1)
 
 -- the arguments of an ISRT that fill levels are in order
 fill_and : (segments : List MacroLine) (above : Option (List ℕ)) (ssa : ScriptSsa) (ssas : List ScriptSsa) → fill_levels segments above (ssa ∷ ssas) ≡ true
@@ -184,23 +185,23 @@ fill_and segments above ssa ssas h =
     (inner.0, inner.1, outer.1)
 
 child : (segments : List MacroLine) (above : Option (List ℕ)) (name : List ℕ) → AreSegments segments → first_segment ParentAstray segments [] segments ≡ None
-    → has (is_segment name) segments ≡ true → is_parent above (parent_named segments name) ≡ true
+    → has (is_segment_named name) segments ≡ true → is_parent above (parent_named segments name) ≡ true
     → IsSomeAnd (type_at (types_in [] segments) (number_named (types_in [] segments) name)) (λ s. s.parent ≡ above_number segments above)
 child segments above name all kept there h =
     child_by segments (type_at (types_in [] segments) (number_named (types_in [] segments) name)) (parent_number segments (parent_named segments name)) (above_number segments above)
     (parent_above segments above (parent_named segments name) all h) (type_parent segments name all kept there)
 
 pub in_order : (state : ScriptState) (segments : List MacroLine) (above : Option (List ℕ)) (ssa : ScriptSsa) (ssas : List ScriptSsa) → AreSegments segments → first_segment ParentAstray segments [] segments ≡ None
-    → All (λ s. has (is_segment (segment_name s)) segments ≡ true) (ssa ∷ ssas) → fill_levels segments above (ssa ∷ ssas) ≡ true
+    → All (λ s. has (is_segment_named (segment_name s)) segments ≡ true) (ssa ∷ ssas) → fill_levels segments above (ssa ∷ ssas) ≡ true
     → AreInsertSsas (types_in [] segments) (above_number segments above) (map (call_ssa state) (ssa ∷ ssas))
 in_order state segments above (Any name) [] all kept there h =
     let parts = fill_and segments above (Any name) [] h in
-    let here = All-head (λ s. has (is_segment (segment_name s)) segments ≡ true) (Any name) [] there in
+    let here = All-head (λ s. has (is_segment_named (segment_name s)) segments ≡ true) (Any name) [] there in
     (child segments above name all kept here parts.0, refl)
 in_order state segments above (Equal name x) (next ∷ ssas) all kept there h =
     let parts = fill_and segments above (Equal name x) (next ∷ ssas) h in
-    let here = All-head (λ s. has (is_segment (segment_name s)) segments ≡ true) (Equal name x) (next ∷ ssas) there in
-    let others = All-tail (λ s. has (is_segment (segment_name s)) segments ≡ true) (Equal name x) (next ∷ ssas) there in
+    let here = All-head (λ s. has (is_segment_named (segment_name s)) segments ≡ true) (Equal name x) (next ∷ ssas) there in
+    let others = All-tail (λ s. has (is_segment_named (segment_name s)) segments ≡ true) (Equal name x) (next ∷ ssas) there in
     (child segments above name all kept here parts.0, tt, in_order state segments (Some name) next ssas all kept others parts.2)
 in_order state segments above (Any name) (next ∷ ssas) all kept there h = absurd (false≢true (fill_and segments above (Any name) (next ∷ ssas) h).1)
 in_order state segments above (Equal name x) [] all kept there h = absurd (false≢true (fill_and segments above (Equal name x) [] h).1)

@@ -22,34 +22,31 @@ use Rattle.system_types.specs.declared.definition.Macro.{Macro}
 use Rattle.system_types.specs.declared.definition.Macro.TheVariants.{Application, DatabasePcb, DestinationPcb, ModifiablePcb, Program}
 use Rattle.system_types.specs.declared.definition.MacroLine.{MacroLine}
 use Rattle.system_types.specs.Calls.{is_database_function, segment_name}
-use Rattle.system_types.specs.Valid.{IsCallOn, IsDatabaseCall, IsPcbOf, IsServable}
+use Rattle.system_types.specs.ValidSystem.{IsCallOn, IsDatabaseCall, IsPcbOf, IsServable}
 use Rattle.sysdef_rules.specs.declared.calls.CallRule.{CallRule}
 use Rattle.sysdef_rules.specs.declared.calls.CallRule.TheVariants.{PcbMissing, SsaAstray, NoInsertPath}
 use Rattle.sysdef_rules.specs.declared.cross.CrossRule.TheVariants.{DatabaseUnknown, OfCalls, OfSegments, WrongCount}
 use Rattle.sysdef_rules.specs.declared.lookups.MacroKind.TheVariants.{Pcbs, Segments}
 use Rattle.sysdef_rules.specs.declared.segments.SegmentRule.TheVariants.{ParentAstray}
-use Rattle.sysdef_rules.specs.Calls.{breaks_call, broken_by_call, broken_call, go_down, is_insert_path, misses_path, pcb_has, segments_at, segments_in, serves, strays}
+use Rattle.sysdef_rules.specs.Calls.{breaks_call, broken_by_call, broken_call, go_down, is_insert_path, misses_path, pcb_has, segments_of_pcb, segments_in, pcb_serves, strays}
 use Rattle.sysdef_rules.specs.Counts.{past_limit}
-use Rattle.sysdef_rules.specs.Cross.{breaks_pcb, broken_line, first_line}
-use Rattle.sysdef_rules.specs.Lookups.{behind, front, has, is_application, is_database, is_of, is_segment, numbered, pcbs_of, segments_of}
+use Rattle.sysdef_rules.specs.Cross.{breaks_pcb, broken_macro_line, first_line}
+use Rattle.sysdef_rules.specs.Lookups.{lines_behind_first, front, has, is_application_named, is_database, is_of_kind, is_segment_named, macro_line_numbered, pcbs_of, segments_of}
 use Rattle.sysdef_rules.specs.Segments.{first_segment}
-use Rattle.sysdef_check.specs.Systems.{and_then, databases_in, pcb_in, pcbs_for, pcbs_in, program_in, programs_in, types_in}
+use Rattle.sysdef_check.specs.Systems.{value_and_then, databases_in, pcb_in, pcbs_for, pcbs_in, program_in, programs_in, types_in}
 use Rattle.sysdef_check.proofs.Dbds.{database_found, database_numbered, parents_kept}
 use Rattle.sysdef_rules.proofs.Fronts.{front_all, front_holds}
-use Rattle.sysdef_check.proofs.Kept.{and_parts, kept_count, neither, not_broken}
+use Rattle.sysdef_check.proofs.Kept.{and_parts, kept_count, not_broken}
 use Rattle.sysdef_check.proofs.Made.{made_holds, none_holds, short_list}
-use Rattle.sysdef_check.proofs.Paths.{all_there, in_order, is_named}
-
-not_false : (b : Bool) → not b ≡ false → b ≡ true
-not_false true h = refl
-not_false false h = absurd (false≢true (sym h))
+use Rattle.sysdef_check.proofs.Paths.{all_there, in_order, is_named, not_false}
+use Rattle.tm_types.proofs.Truths.{neither}
 
 -- A program has at most 8 PCBs.
 few_by : (b : Bool) (lines more : List MacroLine) → (b ≡ true → length (front Pcbs lines) ≤ 8) → length (front Pcbs more) ≤ 8 → length (front Pcbs (cond b lines more)) ≤ 8
 few_by true lines more here there = here refl
 few_by false lines more here there = there
 
-few_here : (psb : List ℕ) (content : Macro) (rest : List MacroLine) → past_limit content rest ≡ None → is_application psb content ≡ true → length (front Pcbs rest) ≤ 8
+few_here : (psb : List ℕ) (content : Macro) (rest : List MacroLine) → past_limit content rest ≡ None → is_application_named psb content ≡ true → length (front Pcbs rest) ≤ 8
 few_here psb (Application name) rest h e = short_list (λ l. l.number) (front Pcbs rest) 8 h
 few_here psb _ rest h e = absurd (false≢true e)
 
@@ -57,11 +54,11 @@ few_in : (all lines before : List MacroLine) (psb : List ℕ) → first_line Wro
 unfolding pcbs_of
 few_in all [] before psb h = omega arith
 few_in all (line ∷ lines) before psb h =
-    let both = neither (broken_line WrongCount all before line lines) (first_line WrongCount all (before ++ line ∷ []) lines) h in
-    few_by (is_application psb line.content) lines (behind (is_application psb) lines) (λ e. few_here psb line.content lines (kept_count all before line lines both.0).1 e)
+    let both = neither (broken_macro_line WrongCount all before line lines) (first_line WrongCount all (before ++ line ∷ []) lines) h in
+    few_by (is_application_named psb line.content) lines (lines_behind_first (is_application_named psb) lines) (λ e. few_here psb line.content lines (kept_count all before line lines both.0).1 e)
     (few_in all lines (before ++ line ∷ []) psb both.1)
 
-pcb_counted : (databases : List Dbd) (content : Macro) (rest : List Pcb) → length (and_then (pcb_in databases content) rest) ≤ suc (length rest)
+pcb_counted : (databases : List Dbd) (content : Macro) (rest : List Pcb) → length (value_and_then (pcb_in databases content) rest) ≤ suc (length rest)
 pcb_counted databases (DatabasePcb database options) rest = omega arith
 pcb_counted databases (DestinationPcb destination) rest = omega arith
 pcb_counted databases ModifiablePcb rest = omega arith
@@ -75,31 +72,31 @@ pcbs_counted databases (line ∷ lines) = omega (arith, pcb_counted databases li
 abbrev KeepsDatabase : List MacroLine → MacroLine → Type 0
 KeepsDatabase all line = breaks_pcb all line.content ≡ false
 
-kept_pcb : (all before : List MacroLine) (line : MacroLine) (rest : List MacroLine) → broken_line DatabaseUnknown all before line rest ≡ None → KeepsDatabase all line
-unfolding broken_line
+kept_pcb : (all before : List MacroLine) (line : MacroLine) (rest : List MacroLine) → broken_macro_line DatabaseUnknown all before line rest ≡ None → KeepsDatabase all line
+unfolding broken_macro_line
 kept_pcb all before line rest h = not_broken line (breaks_pcb all line.content) h
 
 keeps_in : (all lines before : List MacroLine) → first_line DatabaseUnknown all before lines ≡ None → All (KeepsDatabase all) lines
 keeps_in all [] before h = none_holds (KeepsDatabase all)
 keeps_in all (line ∷ lines) before h =
-    let both = neither (broken_line DatabaseUnknown all before line lines) (first_line DatabaseUnknown all (before ++ line ∷ []) lines) h in
+    let both = neither (broken_macro_line DatabaseUnknown all before line lines) (first_line DatabaseUnknown all (before ++ line ∷ []) lines) h in
     All-cons (KeepsDatabase all) line lines (kept_pcb all before line lines both.0) (keeps_in all lines (before ++ line ∷ []) both.1)
 
 behind_by : (P : MacroLine → Type 0) (b : Bool) (lines more : List MacroLine) → All P lines → All P more → All P (cond b lines more)
 behind_by P true lines more h rest = h
 behind_by P false lines more h rest = rest
 
-behind_holds : (P : MacroLine → Type 0) (test : Macro → Bool) (lines : List MacroLine) → All P lines → All P (behind test lines)
+behind_holds : (P : MacroLine → Type 0) (test : Macro → Bool) (lines : List MacroLine) → All P lines → All P (lines_behind_first test lines)
 behind_holds P test [] h = h
-behind_holds P test (line ∷ lines) h = behind_by P (test line.content) lines (behind test lines) (All-tail P line lines h) (behind_holds P test lines (All-tail P line lines h))
+behind_holds P test (line ∷ lines) h = behind_by P (test line.content) lines (lines_behind_first test lines) (All-tail P line lines h) (behind_holds P test lines (All-tail P line lines h))
 
 pub pcbs_hold : (P : MacroLine → Type 0) (psb : List ℕ) (lines : List MacroLine) → All P lines → All P (pcbs_of psb lines)
 unfolding pcbs_of
-pcbs_hold P psb lines h = front_holds P Pcbs (behind (is_application psb) lines) (behind_holds P (is_application psb) lines h)
+pcbs_hold P psb lines h = front_holds P Pcbs (lines_behind_first (is_application_named psb) lines) (behind_holds P (is_application_named psb) lines h)
 
-pcbs_all : (psb : List ℕ) (lines : List MacroLine) → IsTrue (list_all (λ l. is_of Pcbs l.content) (pcbs_of psb lines))
+pcbs_all : (psb : List ℕ) (lines : List MacroLine) → IsTrue (list_all (λ l. is_of_kind Pcbs l.content) (pcbs_of psb lines))
 unfolding pcbs_of
-pcbs_all psb lines = front_all Pcbs (behind (is_application psb) lines)
+pcbs_all psb lines = front_all Pcbs (lines_behind_first (is_application_named psb) lines)
 
 there_by : (P : Dbd → Type 0) (found : Option Dbd) → IsSomeAnd found P → IsSome found
 there_by P (Some database) h = refl
@@ -122,34 +119,34 @@ pcbs_fit all (line ∷ lines) h =
     (pcbs_fit all lines (All-tail (KeepsDatabase all) line lines h))
 
 -- A PCB stands at the place of its line.
-pcb_first : (databases : List Dbd) (content : Macro) (rest : List Pcb) → is_of Pcbs content ≡ true → slice_get (and_then (pcb_in databases content) rest) 0 ≡ pcb_in databases content
+pcb_first : (databases : List Dbd) (content : Macro) (rest : List Pcb) → is_of_kind Pcbs content ≡ true → slice_get (value_and_then (pcb_in databases content) rest) 0 ≡ pcb_in databases content
 pcb_first databases (DatabasePcb database options) rest e = refl
 pcb_first databases (DestinationPcb destination) rest e = refl
 pcb_first databases ModifiablePcb rest e = refl
 pcb_first databases _ rest e = absurd (false≢true e)
 
-pcb_behind : (databases : List Dbd) (content : Macro) (rest : List Pcb) (n : ℕ) → is_of Pcbs content ≡ true → slice_get (and_then (pcb_in databases content) rest) (suc n) ≡ slice_get rest n
+pcb_behind : (databases : List Dbd) (content : Macro) (rest : List Pcb) (n : ℕ) → is_of_kind Pcbs content ≡ true → slice_get (value_and_then (pcb_in databases content) rest) (suc n) ≡ slice_get rest n
 pcb_behind databases (DatabasePcb database options) rest n e = refl
 pcb_behind databases (DestinationPcb destination) rest n e = refl
 pcb_behind databases ModifiablePcb rest n e = refl
 pcb_behind databases _ rest n e = absurd (false≢true e)
 
-pcb_place : (databases : List Dbd) (lines : List MacroLine) (n : ℕ) → IsTrue (list_all (λ l. is_of Pcbs l.content) lines)
+pcb_place : (databases : List Dbd) (lines : List MacroLine) (n : ℕ) → IsTrue (list_all (λ l. is_of_kind Pcbs l.content) lines)
     → slice_get (pcbs_in databases lines) n ≡ option_and_then (λ l. pcb_in databases l.content) (slice_get lines n)
 pcb_place databases [] n h = refl
 pcb_place databases (line ∷ lines) zero h =
-    pcb_first databases line.content (pcbs_in databases lines) (and_parts (is_of Pcbs line.content) (list_all (λ l. is_of Pcbs l.content) lines) h).0
+    pcb_first databases line.content (pcbs_in databases lines) (and_parts (is_of_kind Pcbs line.content) (list_all (λ l. is_of_kind Pcbs l.content) lines) h).0
 pcb_place databases (line ∷ lines) (suc n) h =
-    let both = and_parts (is_of Pcbs line.content) (list_all (λ l. is_of Pcbs l.content) lines) h in
+    let both = and_parts (is_of_kind Pcbs line.content) (list_all (λ l. is_of_kind Pcbs l.content) lines) h in
     pcb_behind databases line.content (pcbs_in databases lines) n both.0 ∙ pcb_place databases lines n both.1
 
-pcb_by : (databases : List Dbd) (lines : List MacroLine) (number : ℕ) (b : Bool) → IsTrue (list_all (λ l. is_of Pcbs l.content) lines)
+pcb_by : (databases : List Dbd) (lines : List MacroLine) (number : ℕ) (b : Bool) → IsTrue (list_all (λ l. is_of_kind Pcbs l.content) lines)
     → cond b None (slice_get (pcbs_in databases lines) (number - 1)) ≡ option_and_then (λ l. pcb_in databases l.content) (cond b None (slice_get lines (number - 1)))
 pcb_by databases lines number true h = refl
 pcb_by databases lines number false h = pcb_place databases lines (number - 1) h
 
-pcb_numbered : (databases : List Dbd) (lines : List MacroLine) (number : ℕ) → IsTrue (list_all (λ l. is_of Pcbs l.content) lines)
-    → pcb_at (pcbs_in databases lines) number ≡ option_and_then (λ l. pcb_in databases l.content) (numbered lines number)
+pcb_numbered : (databases : List Dbd) (lines : List MacroLine) (number : ℕ) → IsTrue (list_all (λ l. is_of_kind Pcbs l.content) lines)
+    → pcb_at (pcbs_in databases lines) number ≡ option_and_then (λ l. pcb_in databases l.content) (macro_line_numbered lines number)
 pcb_numbered databases lines number h = pcb_by databases lines number (number == 0) h
 
 -- A call that breaks no rule is one that its PCB has.
@@ -157,18 +154,18 @@ plain_ssas : (ssas : List ScriptSsa) → strays None ssas ≡ false → ssas ≡
 plain_ssas [] h = refl
 plain_ssas (ssa ∷ ssas) h = absurd (false≢true (sym h))
 
-types_named : (segments : List MacroLine) (ssas : List ScriptSsa) → IsTrue (list_all (λ l. is_of Segments l.content) segments)
-    → All (λ ssa. has (is_segment (segment_name ssa)) segments ≡ true) ssas → All (λ ssa. IsSome (place_named (types_in [] segments) (segment_name ssa))) ssas
+types_named : (segments : List MacroLine) (ssas : List ScriptSsa) → IsTrue (list_all (λ l. is_of_kind Segments l.content) segments)
+    → All (λ ssa. has (is_segment_named (segment_name ssa)) segments ≡ true) ssas → All (λ ssa. IsSome (place_named (types_in [] segments) (segment_name ssa))) ssas
 types_named segments ssas all h = λ k d below. is_named segments (segment_name (get_or ssas k d)) all (h k d below)
 
-path_by : (segments : List MacroLine) (ssas : List ScriptSsa) (state : ScriptState) → IsTrue (list_all (λ l. is_of Segments l.content) segments) → first_segment ParentAstray segments [] segments ≡ None
-    → All (λ ssa. has (is_segment (segment_name ssa)) segments ≡ true) ssas → not (is_insert_path segments ssas) ≡ false
+path_by : (segments : List MacroLine) (ssas : List ScriptSsa) (state : ScriptState) → IsTrue (list_all (λ l. is_of_kind Segments l.content) segments) → first_segment ParentAstray segments [] segments ≡ None
+    → All (λ ssa. has (is_segment_named (segment_name ssa)) segments ≡ true) ssas → not (is_insert_path segments ssas) ≡ false
     → AreSsasOf ISRT (types_in [] segments) (map (call_ssa state) ssas)
 path_by segments [] state all kept there h = absurd (false≢true (sym h))
 path_by segments (ssa ∷ ssas) state all kept there h = in_order state segments None ssa ssas all kept there (not_false (is_insert_path segments (ssa ∷ ssas)) h)
 
-path_of : (function : Function) (segments : List MacroLine) (ssas : List ScriptSsa) (state : ScriptState) → IsTrue (list_all (λ l. is_of Segments l.content) segments)
-    → first_segment ParentAstray segments [] segments ≡ None → All (λ ssa. has (is_segment (segment_name ssa)) segments ≡ true) ssas → misses_path (Some segments) function ssas ≡ false
+path_of : (function : Function) (segments : List MacroLine) (ssas : List ScriptSsa) (state : ScriptState) → IsTrue (list_all (λ l. is_of_kind Segments l.content) segments)
+    → first_segment ParentAstray segments [] segments ≡ None → All (λ ssa. has (is_segment_named (segment_name ssa)) segments ≡ true) ssas → misses_path (Some segments) function ssas ≡ false
     → AreSsasOf function (types_in [] segments) (map (call_ssa state) ssas)
 path_of ISRT segments ssas state all kept there h = path_by segments ssas state all kept there h
 path_of GU segments ssas state all kept there h = tt
@@ -184,12 +181,12 @@ path_of CHNG segments ssas state all kept there h = tt
 path_of ROLB segments ssas state all kept there h = tt
 path_of ROLL segments ssas state all kept there h = tt
 
-segments_all : (name : List ℕ) (lines : List MacroLine) → IsTrue (list_all (λ l. is_of Segments l.content) (segments_of name lines))
+segments_all : (name : List ℕ) (lines : List MacroLine) → IsTrue (list_all (λ l. is_of_kind Segments l.content) (segments_of name lines))
 unfolding segments_of
-segments_all name lines = front_all Segments (behind (is_database name) lines)
+segments_all name lines = front_all Segments (lines_behind_first (is_database name) lines)
 
 on_database : (function : Function) (ssas : List ScriptSsa) (segments : List MacroLine) (found : Option Dbd) → IsTrue (is_database_function function)
-    → IsTrue (list_all (λ l. is_of Segments l.content) segments) → first_segment ParentAstray segments [] segments ≡ None
+    → IsTrue (list_all (λ l. is_of_kind Segments l.content) segments) → first_segment ParentAstray segments [] segments ≡ None
     → strays (Some segments) ssas ≡ false → misses_path (Some segments) function ssas ≡ false
     → IsSomeAnd found (λ d. d.types ≡ types_in [] segments) → IsSomeAnd found (IsDatabaseCall function ssas)
 on_database function ssas segments (Some dbd) f all kept s p e =
@@ -215,7 +212,7 @@ on_content all function ssas ModifiablePcb parents there f s p = record { has_fu
 on_content all function ssas _ parents there f s p = absurd (false≢true f)
 
 on_line : (all : List MacroLine) (function : Function) (ssas : List ScriptSsa) (line : Option MacroLine) → first_line (OfSegments ParentAstray) all [] all ≡ None → IfSome line (KeepsDatabase all)
-    → serves line function ≡ true → strays (segments_at all line) ssas ≡ false → misses_path (segments_at all line) function ssas ≡ false
+    → pcb_serves line function ≡ true → strays (segments_of_pcb all line) ssas ≡ false → misses_path (segments_of_pcb all line) function ssas ≡ false
     → IsCallOn (databases_in all) function ssas (option_and_then (λ l. pcb_in (databases_in all) l.content) line)
 on_line all function ssas (Some line) parents there f s p = on_content all function ssas line.content parents there f s p
 on_line all function ssas None parents there f s p = absurd (false≢true f)
@@ -243,7 +240,7 @@ number_by : (P : MacroLine → Type 0) (lines : List MacroLine) (number : ℕ) (
 number_by P lines number true h = tt
 number_by P lines number false h = line_at P lines (number - 1) h
 
-line_numbered : (P : MacroLine → Type 0) (lines : List MacroLine) (number : ℕ) → All P lines → IfSome (numbered lines number) P
+line_numbered : (P : MacroLine → Type 0) (lines : List MacroLine) (number : ℕ) → All P lines → IfSome (macro_line_numbered lines number) P
 line_numbered P lines number h = number_by P lines number (number == 0) h
 
 served_by : (b s : Bool) → (b && not s) ≡ false → b ≡ true → s ≡ true
@@ -263,9 +260,9 @@ module _ (all : List MacroLine) (parents : first_line (OfSegments ParentAstray) 
         calls = λ place number pcb function area ssas at above.
             let line : ScriptLine = record { number = number; statement = Call function pcb area ssas } in
             let positive : nat_le 1 pcb ≡ true = grind (arith, nat_tests) in
-            let served = served_by (nat_le 1 pcb) (serves (numbered pcbs pcb) function) (unbroken PcbMissing all pcbs script place line missing at) positive in
+            let served = served_by (nat_le 1 pcb) (pcb_serves (macro_line_numbered pcbs pcb) function) (unbroken PcbMissing all pcbs script place line missing at) positive in
             subst (λ (o : Option Pcb). IsCallOn (databases_in all) function ssas o) (sym (pcb_numbered (databases_in all) pcbs pcb (pcbs_all name all)))
-            (on_line all function ssas (numbered pcbs pcb) parents (line_numbered (KeepsDatabase all) pcbs pcb keeps) served
+            (on_line all function ssas (macro_line_numbered pcbs pcb) parents (line_numbered (KeepsDatabase all) pcbs pcb keeps) served
             (unbroken SsaAstray all pcbs script place line astray at) (unbroken NoInsertPath all pcbs script place line path at));
       }
 
@@ -277,17 +274,17 @@ module _ (all : List MacroLine) (parents : first_line (OfSegments ParentAstray) 
   program_by (Program name script) missing astray path = program_serves name script missing astray path
   program_by _ missing astray path = tt
 
-  kept_call : (rule : CallRule) (before : List MacroLine) (line : MacroLine) (rest : List MacroLine) → broken_line (OfCalls rule) all before line rest ≡ None → broken_by_call rule all line.content ≡ None
-  unfolding broken_line
+  kept_call : (rule : CallRule) (before : List MacroLine) (line : MacroLine) (rest : List MacroLine) → broken_macro_line (OfCalls rule) all before line rest ≡ None → broken_by_call rule all line.content ≡ None
+  unfolding broken_macro_line
   kept_call rule before line rest h = h
 
   serves_in : (lines before : List MacroLine) → first_line (OfCalls PcbMissing) all before lines ≡ None → first_line (OfCalls SsaAstray) all before lines ≡ None
       → first_line (OfCalls NoInsertPath) all before lines ≡ None → All Serves (programs_in (databases_in all) all lines)
   serves_in [] before missing astray path = none_holds Serves
   serves_in (line ∷ lines) before missing astray path =
-      let m = neither (broken_line (OfCalls PcbMissing) all before line lines) (first_line (OfCalls PcbMissing) all (before ++ line ∷ []) lines) missing in
-      let s = neither (broken_line (OfCalls SsaAstray) all before line lines) (first_line (OfCalls SsaAstray) all (before ++ line ∷ []) lines) astray in
-      let p = neither (broken_line (OfCalls NoInsertPath) all before line lines) (first_line (OfCalls NoInsertPath) all (before ++ line ∷ []) lines) path in
+      let m = neither (broken_macro_line (OfCalls PcbMissing) all before line lines) (first_line (OfCalls PcbMissing) all (before ++ line ∷ []) lines) missing in
+      let s = neither (broken_macro_line (OfCalls SsaAstray) all before line lines) (first_line (OfCalls SsaAstray) all (before ++ line ∷ []) lines) astray in
+      let p = neither (broken_macro_line (OfCalls NoInsertPath) all before line lines) (first_line (OfCalls NoInsertPath) all (before ++ line ∷ []) lines) path in
       made_holds Serves (program_in (pcbs_for (databases_in all) all line.content) line.content) (programs_in (databases_in all) all lines)
       (program_by line.content (kept_call PcbMissing before line lines m.0) (kept_call SsaAstray before line lines s.0) (kept_call NoInsertPath before line lines p.0))
       (serves_in lines (before ++ line ∷ []) m.1 s.1 p.1)

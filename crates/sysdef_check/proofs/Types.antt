@@ -9,9 +9,9 @@ use Rattle.system_types.specs.declared.definition.Macro.{Macro}
 use Rattle.system_types.specs.declared.definition.Macro.TheVariants.{Segment}
 use Rattle.system_types.specs.declared.definition.MacroLine.{MacroLine}
 use Rattle.system_types.specs.Definitions.{IsInRange}
-use Rattle.sysdef_rules.specs.Lookups.{is_segment}
+use Rattle.sysdef_rules.specs.Lookups.{is_segment_named}
 use Rattle.sysdef_rules.specs.Segments.{breaks_key, breaks_parent}
-use Rattle.sysdef_check.specs.Systems.{and_then, parent_number, type_in, types_in, database_in, databases_in}
+use Rattle.sysdef_check.specs.Systems.{value_and_then, parent_number, type_in, types_in, database_in, databases_in}
 use Rattle.sysdef_rules.proofs.Cuts.{cut_at, more_at}
 use Rattle.tm_types.specs.declared.dbd.Dbd.{Dbd}
 
@@ -46,7 +46,7 @@ parent_numbers [] name None key bytes p = (((λ z. refl), (λ z. refl)), omega a
 parent_numbers [] name (Some parent) key bytes p = absurd (false≢true (sym p))
 parent_numbers (line ∷ before) name None key bytes p = absurd (false≢true (sym p))
 parent_numbers (line ∷ before) name (Some parent) key bytes p =
-    let test : MacroLine → Bool = λ l. is_segment parent l.content in
+    let test : MacroLine → Bool = λ l. is_segment_named parent l.content in
     let h : position_or_len test (line ∷ before) < length (line ∷ before) = passes_within test (line ∷ before) (not_false (list_any test (line ∷ before)) p) in
     numbers_by (parent_number (line ∷ before) (Some parent)) (position_or_len test (line ∷ before)) (length (line ∷ before))
     (place_number (position_or_len test (line ∷ before)) (length (line ∷ before)) (nat_lt (position_or_len test (line ∷ before)) (length (line ∷ before))) refl h) h
@@ -59,32 +59,32 @@ type_fits before (Segment name parent key bytes) p k range =
     record { root = n.0; parent = n.1; key_least = range.0; key_most = range.1; key_within = ltb-false bytes key k }
 type_fits before _ p k range = tt
 
-before_rest : {A : Type 0} (value : Option A) (values : List A) → and_then value [] ++ values ≡ and_then value values
+before_rest : {A : Type 0} (value : Option A) (values : List A) → value_and_then value [] ++ values ≡ value_and_then value values
 before_rest (Some value) values = refl
 before_rest None values = refl
 
 -- values with one more, where there is one, and those that are still to come
-pub one_more : {A : Type 0} (before after rest whole : List A) (value : Option A) → after ≡ before ++ and_then value [] → before ++ and_then value rest ≡ whole → after ++ rest ≡ whole
+pub one_more : {A : Type 0} (before after rest whole : List A) (value : Option A) → after ≡ before ++ value_and_then value [] → before ++ value_and_then value rest ≡ whole → after ++ rest ≡ whole
 one_more before after rest whole value e h =
-    ap (λ xs. xs ++ rest) e ∙ (append_assoc before (and_then value []) rest ∙ (ap (λ xs. before ++ xs) (before_rest value rest) ∙ h))
+    ap (λ xs. xs ++ rest) e ∙ (append_assoc before (value_and_then value []) rest ∙ (ap (λ xs. before ++ xs) (before_rest value rest) ∙ h))
 
 -- a segment more has its type
 pub types_step : (segments : List MacroLine) (index : ℕ) (line : MacroLine) (before after whole : List SegType) → index < length segments → line ≡ get_or segments index line
-    → after ≡ before ++ and_then (type_in (take index segments) line.content) [] → before ++ types_in (take index segments) (drop index segments) ≡ whole
+    → after ≡ before ++ value_and_then (type_in (take index segments) line.content) [] → before ++ types_in (take index segments) (drop index segments) ≡ whole
     → after ++ types_in (take (index + 1) segments) (drop (index + 1) segments) ≡ whole
 types_step segments index line before after whole h e more so =
     let cut = cut_at segments index line h e in
     let taken = more_at segments index line h e in
-    let here : before ++ and_then (type_in (take index segments) line.content) (types_in (take index segments ++ line ∷ []) (drop (index + 1) segments)) ≡ whole =
+    let here : before ++ value_and_then (type_in (take index segments) line.content) (types_in (take index segments ++ line ∷ []) (drop (index + 1) segments)) ≡ whole =
     subst (λ (ls : List MacroLine). before ++ types_in (take index segments) ls ≡ whole) cut so in
     subst (λ (ls : List MacroLine). after ++ types_in ls (drop (index + 1) segments) ≡ whole) (sym taken)
     (one_more before after (types_in (take index segments ++ line ∷ []) (drop (index + 1) segments)) whole (type_in (take index segments) line.content) more here)
 
 -- a line more has its database, if it is a DBD
 pub databases_step : (lines : List MacroLine) (index : ℕ) (line : MacroLine) (before after whole : List Dbd) → index < length lines → line ≡ get_or lines index line
-    → after ≡ before ++ and_then (database_in line.content (drop (index + 1) lines)) [] → before ++ databases_in (drop index lines) ≡ whole → after ++ databases_in (drop (index + 1) lines) ≡ whole
+    → after ≡ before ++ value_and_then (database_in line.content (drop (index + 1) lines)) [] → before ++ databases_in (drop index lines) ≡ whole → after ++ databases_in (drop (index + 1) lines) ≡ whole
 databases_step lines index line before after whole h e more so =
     let cut = cut_at lines index line h e in
-    let here : before ++ and_then (database_in line.content (drop (index + 1) lines)) (databases_in (drop (index + 1) lines)) ≡ whole =
+    let here : before ++ value_and_then (database_in line.content (drop (index + 1) lines)) (databases_in (drop (index + 1) lines)) ≡ whole =
     subst (λ (ls : List MacroLine). before ++ databases_in ls ≡ whole) cut so in
     one_more before after (databases_in (drop (index + 1) lines)) whole (database_in line.content (drop (index + 1) lines)) more here

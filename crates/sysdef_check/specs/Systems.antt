@@ -15,17 +15,17 @@ use Rattle.model_system.specs.declared.screen.Screen.{Screen}
 use Rattle.model_system.specs.declared.screen.SystemFormat.{SystemFormat}
 use Rattle.model_system.specs.declared.system_program.SystemProgram.{SystemProgram}
 use Rattle.model_system.specs.System.{System}
-use Rattle.sysdef_rules.specs.Lookups.{front, is_segment, number_of, pcbs_of}
+use Rattle.sysdef_rules.specs.Lookups.{front, is_segment_named, line_number_of, pcbs_of}
 use Rattle.sysdef_rules.specs.Cross.{cross_rules}
 
 -- the value before those that follow, where there is one
-abbrev pub and_then : {A : Type 0} → Option A → List A → List A
-and_then (Some value) values = value ∷ values
-and_then None values = values
+abbrev pub value_and_then : {A : Type 0} → Option A → List A → List A
+value_and_then (Some value) values = value ∷ values
+value_and_then None values = values
 
 -- the number of a segment's parent, counted from 1 among those before it; a root has 0
 abbrev pub parent_number : List MacroLine → Option (List ℕ) → ℕ
-parent_number before (Some parent) = number_of (is_segment parent) before
+parent_number before (Some parent) = line_number_of (is_segment_named parent) before
 parent_number before None = 0
 
 abbrev pub type_in : List MacroLine → Macro → Option SegType
@@ -35,7 +35,7 @@ type_in before _ = None
 -- the segment types of a database, behind those before them
 abbrev pub types_in : List MacroLine → List MacroLine → List SegType
 types_in before [] = []
-types_in before (line ∷ lines) = and_then (type_in before line.content) (types_in (before ++ line ∷ []) lines)
+types_in before (line ∷ lines) = value_and_then (type_in before line.content) (types_in (before ++ line ∷ []) lines)
 
 -- The segments of a database stand right behind its DBD. A record has one sector.
 abbrev pub database_in : Macro → List MacroLine → Option Dbd
@@ -45,7 +45,7 @@ database_in _ behind = None
 -- what stands in the macros, in the order of their lines
 abbrev pub databases_in : List MacroLine → List Dbd
 databases_in [] = []
-databases_in (line ∷ lines) = and_then (database_in line.content lines) (databases_in lines)
+databases_in (line ∷ lines) = value_and_then (database_in line.content lines) (databases_in lines)
 
 -- the number of the database with this name, counted from 1
 abbrev pub database_number : List Dbd → List ℕ → ℕ
@@ -59,7 +59,7 @@ pcb_in databases _ = None
 
 abbrev pub pcbs_in : List Dbd → List MacroLine → List Pcb
 pcbs_in databases [] = []
-pcbs_in databases (line ∷ lines) = and_then (pcb_in databases line.content) (pcbs_in databases lines)
+pcbs_in databases (line ∷ lines) = value_and_then (pcb_in databases line.content) (pcbs_in databases lines)
 
 -- a program has the PCBs of its PSB
 abbrev pub pcbs_for : List Dbd → List MacroLine → Macro → List Pcb
@@ -72,13 +72,13 @@ program_in pcbs _ = None
 
 abbrev pub programs_in : List Dbd → List MacroLine → List MacroLine → List SystemProgram
 programs_in databases all [] = []
-programs_in databases all (line ∷ lines) = and_then (program_in (pcbs_for databases all line.content) line.content) (programs_in databases all lines)
+programs_in databases all (line ∷ lines) = value_and_then (program_in (pcbs_for databases all line.content) line.content) (programs_in databases all lines)
 
 -- the same where the PCBs for each line stand in a list
 abbrev pub programs_with : List MacroLine → List (List Pcb) → List SystemProgram
 programs_with [] lists = []
 programs_with (line ∷ lines) [] = []
-programs_with (line ∷ lines) (pcbs ∷ lists) = and_then (program_in pcbs line.content) (programs_with lines lists)
+programs_with (line ∷ lines) (pcbs ∷ lists) = value_and_then (program_in pcbs line.content) (programs_with lines lists)
 
 -- the formats, under their names
 abbrev pub format_in : Macro → Option SystemFormat
@@ -87,7 +87,7 @@ format_in _ = None
 
 abbrev pub formats_in : List MacroLine → List SystemFormat
 formats_in [] = []
-formats_in (line ∷ lines) = and_then (format_in line.content) (formats_in lines)
+formats_in (line ∷ lines) = value_and_then (format_in line.content) (formats_in lines)
 
 -- the terminals that have a format
 abbrev pub screen_in : Macro → Option Screen
@@ -96,7 +96,7 @@ screen_in _ = None
 
 abbrev pub screens_in : List MacroLine → List Screen
 screens_in [] = []
-screens_in (line ∷ lines) = and_then (screen_in line.content) (screens_in lines)
+screens_in (line ∷ lines) = value_and_then (screen_in line.content) (screens_in lines)
 
 abbrev pub terminal_in : Macro → Option (List ℕ)
 terminal_in (Terminal name format) = Some name
@@ -104,7 +104,7 @@ terminal_in _ = None
 
 abbrev pub terminals_in : List MacroLine → List (List ℕ)
 terminals_in [] = []
-terminals_in (line ∷ lines) = and_then (terminal_in line.content) (terminals_in lines)
+terminals_in (line ∷ lines) = value_and_then (terminal_in line.content) (terminals_in lines)
 
 abbrev pub region_in : Macro → Option (List ℕ)
 region_in (Region classes) = Some classes
@@ -112,7 +112,7 @@ region_in _ = None
 
 abbrev pub regions_in : List MacroLine → List (List ℕ)
 regions_in [] = []
-regions_in (line ∷ lines) = and_then (region_in line.content) (regions_in lines)
+regions_in (line ∷ lines) = value_and_then (region_in line.content) (regions_in lines)
 
 -- A code has the PSB of the last APPLCTN before it.
 abbrev pub psb_after : Option (List ℕ) → Macro → Option (List ℕ)
@@ -125,7 +125,7 @@ code_in _ _ = None
 
 abbrev pub codes_in : Option (List ℕ) → List MacroLine → List Code
 codes_in psb [] = []
-codes_in psb (line ∷ lines) = and_then (code_in psb line.content) (codes_in (psb_after psb line.content) lines)
+codes_in psb (line ∷ lines) = value_and_then (code_in psb line.content) (codes_in (psb_after psb line.content) lines)
 
 abbrev pub control_of : Macro → ℕ × ℕ
 control_of (Control qbytes logs) = (qbytes, logs)
@@ -149,10 +149,10 @@ system_of lines = record {
   regions = regions_in lines;
 }
 
-abbrev pub made : System → Result (Unit {0}) (ℕ × ℕ) → Result System (ℕ × ℕ)
-made system (Ok _) = Ok system
-made system (Err fault) = Err fault
+abbrev pub system_made : System → Result (Unit {0}) (ℕ × ℕ) → Result System (ℕ × ℕ)
+system_made system (Ok _) = Ok system
+system_made system (Err fault) = Err fault
 
 -- the system, or the rule that is broken first and its line
 unfoldable pub checked : List MacroLine → Result System (ℕ × ℕ)
-checked lines = made (system_of lines) (cross_rules lines)
+checked lines = system_made (system_of lines) (cross_rules lines)

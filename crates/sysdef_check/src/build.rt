@@ -1,7 +1,7 @@
 //! The system that macros define.
 ghost use Rattle.std.specs.Prelude.{◌≡◌, ◌<◌, ◌++◌, [], Ok, None, IfOk, OnOk, length, map};
 ghost use Rattle.system_types.specs.Definitions.{IsDefinition};
-ghost use Rattle.system_types.specs.Parts.{parts_of};
+ghost use Rattle.system_types.specs.Parts.{system_of_parts};
 ghost use Rattle.sysdef_rules.specs.Cross.{cross_rules};
 ghost use Rattle.sysdef_check.specs.Systems as spec;
 
@@ -24,7 +24,7 @@ pub(crate) fn system_of(alloc: Global, lines: Vec<MacroLine>) -> Result<System, 
 fn parts_in(alloc: Global, lines: Vec<MacroLine>) -> Result<SystemParts, AllocError>
     requires definition { IsDefinition lines.items }
     requires kept { cross_rules lines.items ≡ Ok tt }
-    ensures { IfOk result (λ parts. parts_of parts ≡ spec.system_of lines.items) }
+    ensures { IfOk result (λ parts. system_of_parts parts ≡ spec.system_of lines.items) }
 {
     let (qbytes, logs) = control_in(&lines);
     let databases = databases_in(alloc, &lines)?;
@@ -207,8 +207,8 @@ fn add_block(
     pcbs: Pcbs,
     content: Macro,
 ) -> Result<(), AllocError>
-    ensures programs { OnOk result (programs.new.items ≡ programs.old.items ++ spec.and_then (spec.program_in pcbs content) []) }
-    ensures formats { OnOk result (formats.new.items ≡ formats.old.items ++ spec.and_then (spec.format_in content) []) }
+    ensures programs { OnOk result (programs.new.items ≡ programs.old.items ++ spec.value_and_then (spec.program_in pcbs content) []) }
+    ensures formats { OnOk result (formats.new.items ≡ formats.old.items ++ spec.value_and_then (spec.format_in content) []) }
 {
     match content {
         Macro::Program { name, program } => {

@@ -7,7 +7,7 @@ ghost use Rattle.sysdef_rules.specs.declared.lookups.MacroKind.TheVariants.{Segm
 ghost use Rattle.sysdef_rules.specs.declared.segments.SegmentRule.TheVariants.{ParentAstray, KeyTooLong};
 ghost use Rattle.sysdef_rules.specs.Counts.{past_limit};
 ghost use Rattle.sysdef_rules.specs.Cross.{first_line};
-ghost use Rattle.sysdef_rules.specs.Lookups.{is_of};
+ghost use Rattle.sysdef_rules.specs.Lookups.{is_of_kind};
 ghost use Rattle.system_types.specs.Definitions.{IsInRange};
 ghost use Rattle.sysdef_rules.specs.Segments.{breaks_key, breaks_parent, broken_by_segment, first_segment};
 ghost use Rattle.sysdef_check.specs.Systems as spec;
@@ -53,11 +53,11 @@ fn type_in(before: &[MacroLine], content: &Macro) -> Option<SegType>
 fn add_type(types: &mut SegTypes, before: &[MacroLine], content: &Macro) -> Result<(), AllocError>
     requires few { length before.now < 256 }
     requires place { length types.old ≡ length before.now }
-    requires segment { is_of Segments content.now ≡ true }
+    requires segment { is_of_kind Segments content.now ≡ true }
     requires parent { breaks_parent before.now content.now ≡ false }
     requires key { breaks_key content.now ≡ false }
     requires range { IsInRange content.now }
-    ensures value { OnOk result (types.new ≡ types.old ++ spec.and_then (spec.type_in before.now content.now) []) }
+    ensures value { OnOk result (types.new ≡ types.old ++ spec.value_and_then (spec.type_in before.now content.now) []) }
     ensures counted { OnOk result (length types.new ≡ length types.old + 1) }
 {
     match type_in(before, content) {
@@ -68,7 +68,7 @@ fn add_type(types: &mut SegTypes, before: &[MacroLine], content: &Macro) -> Resu
 
 /// The types of the segments of a database, which keep the rules on parents and keys.
 fn types_in(alloc: Global, segments: &[MacroLine]) -> Result<SegTypes, AllocError>
-    requires all { IsTrue (list_all (λ line. is_of Segments line.content) segments.now) }
+    requires all { IsTrue (list_all (λ line. is_of_kind Segments line.content) segments.now) }
     requires parents { first_segment ParentAstray segments.now [] segments.now ≡ None }
     requires keys { first_segment KeyTooLong segments.now [] segments.now ≡ None }
     requires few { length segments.now ≤ 16 }
@@ -116,7 +116,7 @@ fn add_database(
     requires keys { broken_by_segment KeyTooLong line.now line.now.content behind.now ≡ None }
     requires few { past_limit line.now.content behind.now ≡ None }
     requires range { All (λ l. IsInRange l.content) behind.now }
-    ensures { OnOk result (databases.new.items ≡ databases.old.items ++ spec.and_then (spec.database_in line.now.content behind.now) []) }
+    ensures { OnOk result (databases.new.items ≡ databases.old.items ++ spec.value_and_then (spec.database_in line.now.content behind.now) []) }
 {
     match database_in(alloc, line, behind)? {
         Some(database) => databases.push(database)?,

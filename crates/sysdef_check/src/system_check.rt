@@ -1,7 +1,7 @@
 //! A definition is checked.
 ghost use Rattle.std.specs.Prelude.{◌≡◌};
 ghost use Rattle.sysdef_check.specs.Systems.{checked};
-ghost use Rattle.sysdef_rules.specs.Refused.{Answers};
+ghost use Rattle.sysdef_rules.specs.CheckAnswer.{AnswersCheck};
 
 use crate::build::system_of;
 use std::alloc::Global;
@@ -14,7 +14,7 @@ use system_types::{Definition, System};
 /// lowest rule that is broken with the lowest line that breaks it, or want of memory.
 #[tactic(auto, unfolding(crate::specs::Systems::checked))]
 pub fn check(alloc: Global, definition: Definition) -> Result<System, CrossRefused>
-    ensures { Answers result (checked definition) }
+    ensures { AnswersCheck result (checked definition) }
 {
     match cross_rules(alloc, definition.items()) {
         Err(CrossRefused::BadCross(line, rule)) => Err(CrossRefused::BadCross(line, rule)),

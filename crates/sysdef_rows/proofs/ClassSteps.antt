@@ -1,7 +1,7 @@
 -- Classes that are read one after another.
 use Rattle.std.proofs.Common.{ℕ, ◌≡◌, List, [], ◌∷◌, ◌++◌, Result, Ok, Err, min, refl, ap, sym, append_assoc, append-nil, arith}
-use Rattle.text_rows.specs.Lowest.{both}
-use Rattle.sysdef_rows.specs.Values.{with_class, with_last}
+use Rattle.text_rows.specs.LowestRule.{both}
+use Rattle.sysdef_rows.specs.Values.{with_class, with_last_class}
 
 -- the classes so far, and those that are still to be read
 abbrev pub joined : Result (List ℕ) ℕ → Result (List ℕ) ℕ → Result (List ℕ) ℕ
@@ -10,7 +10,7 @@ joined (Ok classes) (Err rule) = Err rule
 joined (Err rule) (Ok more) = Err rule
 joined (Err rule) (Err other) = Err (min rule other)
 
-pub one_more : (classes : Result (List ℕ) ℕ) (class : Result ℕ ℕ) (more : Result (List ℕ) ℕ) → joined classes (with_class (both class more)) ≡ joined (with_last (both classes class)) more
+pub one_more : (classes : Result (List ℕ) ℕ) (class : Result ℕ ℕ) (more : Result (List ℕ) ℕ) → joined classes (with_class (both class more)) ≡ joined (with_last_class (both classes class)) more
 unfolding both
 one_more (Ok classes) (Ok class) (Ok more) = ap Ok (sym (append_assoc classes (class ∷ []) more))
 one_more (Ok classes) (Ok class) (Err rule) = refl

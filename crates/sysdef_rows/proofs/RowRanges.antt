@@ -7,18 +7,18 @@ use Rattle.model_system.specs.declared.code.SegmentKind.TheVariants.{Multiple}
 use Rattle.text_rows.specs.Lists.{three_of}
 use Rattle.text_rows.specs.Names.{name_of}
 use Rattle.tm_types.specs.Name.{is_name_byte}
-use Rattle.text_rows.specs.Lowest.{also, both}
+use Rattle.text_rows.specs.LowestRule.{also, both}
 use Rattle.text_rows.specs.Numbers.{is_number, number_between, number_of}
 use Rattle.text_rows.specs.Operands.{needed, only, or_as, read_or, values}
 use Rattle.system_types.specs.declared.definition.Macro.{Macro}
-use Rattle.system_types.specs.Definitions.{IsInRange, is_application, is_control, is_end, may_stand}
+use Rattle.system_types.specs.Definitions.{IsInRange, is_application, is_control, is_end_macro, may_stand}
 use Rattle.sysdef_rows.specs.declared.kinds.Kind.{Kind}
 use Rattle.sysdef_rows.specs.declared.kinds.Kind.TheVariants.{Control, Database, Segment, Application, Pcb, Transaction, Terminal, Region, End}
 use Rattle.sysdef_rows.specs.declared.pcbs.PcbForm.{PcbForm}
 use Rattle.sysdef_rows.specs.declared.pcbs.PcbForm.TheVariants.{OnDatabase, ToDestination, Modifiable}
-use Rattle.sysdef_rows.specs.Pcbs.{database_pcb, destination_pcb, form_of, modifiable_pcb, pcb_of, pcb_row, standing_database, standing_output}
+use Rattle.sysdef_rows.specs.Pcbs.{database_pcb, destination_pcb, pcb_form, modifiable_pcb, pcb_of, pcb_row, standing_database, standing_output}
 use Rattle.sysdef_rows.specs.Values.{message_type_in, message_type_of, priorities_in, priorities_of, response_of, segment_kind_of}
-use Rattle.sysdef_rows.specs.Rows.{application_made, application_row, code_part, limit_part, segment_part, control_made, control_row, database_made, database_row, length_part, region_made, region_row, row, segment_made, segment_row, terminal_made, terminal_row, transaction_made, transaction_row}
+use Rattle.sysdef_rows.specs.Rows.{application_made, application_row, code_part, limit_part, segment_part, control_made, control_row, database_made, database_row, length_part, region_made, region_row, macro_row, segment_made, segment_row, terminal_made, terminal_row, transaction_made, transaction_row}
 
 -- what holds of a value that is read holds where something besides is judged
 pub also_left : {A B : Type 0} (P : A → Type 0) (a : Result A ℕ) (b : Result B ℕ) → IfOk a P → IfOk (also a b) P
@@ -88,7 +88,7 @@ or_as_holds P key read default ops h each = read_by P (Ok default) read (only (v
 -- the macro of a row is of the row's kind, with numbers in their ranges
 abbrev pub IsOfKind : Kind → Macro → Type 0
 IsOfKind Control content = is_control content ≡ true
-IsOfKind End content = is_end content ≡ true
+IsOfKind End content = is_end_macro content ≡ true
 IsOfKind Application content = is_application content ≡ true
 IsOfKind Transaction content = Unit {0}
 IsOfKind _ content = may_stand false content ≡ true
@@ -262,10 +262,10 @@ pcb_by (Err rule) ops = also_left (Fits Pcb) (also (Err rule) (standing_database
 
 pcb_fits : (ops : List (List ℕ)) → IfOk (pcb_row ops) (Fits Pcb)
 unfolding pcb_row
-pcb_fits ops = pcb_by (form_of ops) ops
+pcb_fits ops = pcb_by (pcb_form ops) ops
 
-pub row_fits : (kind : Kind) (ops : List (List ℕ)) → IfOk (row kind ops) (Fits kind)
-unfolding row
+pub row_fits : (kind : Kind) (ops : List (List ℕ)) → IfOk (macro_row kind ops) (Fits kind)
+unfolding macro_row
 row_fits Control ops = control_fits ops
 row_fits Database ops = database_fits ops
 row_fits Segment ops = segment_fits ops

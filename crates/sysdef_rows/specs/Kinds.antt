@@ -4,7 +4,7 @@ use Rattle.std.specs.Str.{bytes_eq}
 use Rattle.text_rows.specs.Operands.{known_among}
 use Rattle.sysdef_rows.specs.declared.kinds.Kind.{Kind}
 use Rattle.sysdef_rows.specs.declared.kinds.Kind.TheVariants.{Control, Database, Segment, Application, Pcb, Transaction, Terminal, Region, End}
-use Rattle.sysdef_rows.specs.Pcbs.{form_keys, form_of, pcb_keys}
+use Rattle.sysdef_rows.specs.Pcbs.{form_keys, pcb_form, pcb_keys}
 
 -- Rule 1: the name is one of these.
 unfoldable pub kind_of : List ℕ → Result Kind ℕ
@@ -27,21 +27,21 @@ abbrev pub transaction_keys : List (List ℕ)
 transaction_keys = codes "CODE" ∷ codes "MSGTYPE" ∷ codes "PRTY" ∷ codes "PROCLIM" ∷ codes "SPA" ∷ codes "SEGNO" ∷ codes "SEGSIZE" ∷ codes "SERIAL" ∷ []
 
 -- the keys that a macro has
-abbrev pub keys : Kind → List (List ℕ)
-keys Control = codes "QBYTES" ∷ codes "LOGS" ∷ []
-keys Database = codes "NAME" ∷ codes "ROOTS" ∷ []
-keys Segment = segment_keys
-keys Application = codes "PSB" ∷ []
-keys Pcb = pcb_keys
-keys Transaction = transaction_keys
-keys Terminal = codes "LTERM" ∷ codes "FORMAT" ∷ []
-keys Region = codes "CLASS" ∷ []
-keys End = []
+abbrev pub macro_keys : Kind → List (List ℕ)
+macro_keys Control = codes "QBYTES" ∷ codes "LOGS" ∷ []
+macro_keys Database = codes "NAME" ∷ codes "ROOTS" ∷ []
+macro_keys Segment = segment_keys
+macro_keys Application = codes "PSB" ∷ []
+macro_keys Pcb = pcb_keys
+macro_keys Transaction = transaction_keys
+macro_keys Terminal = codes "LTERM" ∷ codes "FORMAT" ∷ []
+macro_keys Region = codes "CLASS" ∷ []
+macro_keys End = []
 
 abbrev pub format_keys : List (List ℕ)
 format_keys = codes "NAME" ∷ []
 
 -- Rule 2: each operand has one of the macro's keys, or of the keys of the PCB's form.
-unfoldable pub known : Kind → List (List ℕ) → Result (Unit {0}) ℕ
-known Pcb operands = known_among (form_keys (form_of operands)) operands
-known kind operands = known_among (keys kind) operands
+unfoldable pub macro_keys_known : Kind → List (List ℕ) → Result (Unit {0}) ℕ
+macro_keys_known Pcb operands = known_among (form_keys (pcb_form operands)) operands
+macro_keys_known kind operands = known_among (macro_keys kind) operands

@@ -1,7 +1,7 @@
 -- The PCBs of a definition, which have one of three forms.
 use Rattle.std.specs.Prelude.{ℕ, Bool, true, false, List, [], ◌∷◌, codes, Result, Ok, Err, if◌then◌else◌}
 use Rattle.std.specs.Str.{bytes_eq}
-use Rattle.text_rows.specs.Lowest.{both, also}
+use Rattle.text_rows.specs.LowestRule.{both, also}
 use Rattle.text_rows.specs.Names.{name_of}
 use Rattle.text_rows.specs.Operands.{needed, or_as, stands}
 use Rattle.system_types.specs.declared.definition.Macro.{Macro}
@@ -19,8 +19,8 @@ output_form false = Modifiable
 unfoldable pub form_in : Bool → List ℕ → Result PcbForm ℕ
 form_in named word = if bytes_eq word (codes "DB") then Ok OnDatabase else (if bytes_eq word (codes "TP") then Ok (output_form named) else Err 9)
 
-unfoldable pub form_of : List (List ℕ) → Result PcbForm ℕ
-form_of ops = needed (codes "TYPE") (form_in (stands (codes "LTERM") ops)) ops
+unfoldable pub pcb_form : List (List ℕ) → Result PcbForm ℕ
+pcb_form ops = needed (codes "TYPE") (form_in (stands (codes "LTERM") ops)) ops
 
 -- The keys of a form; so LTERM and MODIFY don't stand together. Where TYPE tells no form all keys
 -- are known.
@@ -52,16 +52,16 @@ modifiable_pcb (Ok _) = Ok macro.ModifiablePcb
 modifiable_pcb (Err rule) = Err rule
 
 -- whether a value is one, apart from which
-abbrev pub judged : {A : Type 0} → Result A ℕ → Result (Unit {0}) ℕ
-judged (Ok value) = Ok tt
-judged (Err rule) = Err rule
+abbrev pub judged_operand : {A : Type 0} → Result A ℕ → Result (Unit {0}) ℕ
+judged_operand (Ok value) = Ok tt
+judged_operand (Err rule) = Err rule
 
 -- the operands that stand there, of which none is missing
 unfoldable pub standing_database : List (List ℕ) → Result (Unit {0}) ℕ
-standing_database ops = also (or_as (codes "DBDNAME") (λ text. judged (name_of text)) tt ops) (or_as (codes "PROCOPT") (λ text. judged (options_of text)) tt ops)
+standing_database ops = also (or_as (codes "DBDNAME") (λ text. judged_operand (name_of text)) tt ops) (or_as (codes "PROCOPT") (λ text. judged_operand (options_of text)) tt ops)
 
 unfoldable pub standing_output : List (List ℕ) → Result (Unit {0}) ℕ
-standing_output ops = also (or_as (codes "LTERM") (λ text. judged (name_of text)) tt ops) (or_as (codes "MODIFY") modify_of tt ops)
+standing_output ops = also (or_as (codes "LTERM") (λ text. judged_operand (name_of text)) tt ops) (or_as (codes "MODIFY") modify_of tt ops)
 
 -- Where TYPE tells no form no other operand is missing.
 abbrev pub pcb_of : Result PcbForm ℕ → List (List ℕ) → Result Macro ℕ
@@ -71,4 +71,4 @@ pcb_of (Ok Modifiable) ops = modifiable_pcb (needed (codes "MODIFY") modify_of o
 pcb_of (Err rule) ops = also (also (Err rule) (standing_database ops)) (standing_output ops)
 
 unfoldable pub pcb_row : List (List ℕ) → Result Macro ℕ
-pcb_row ops = pcb_of (form_of ops) ops
+pcb_row ops = pcb_of (pcb_form ops) ops

@@ -1,7 +1,7 @@
 -- The table of macros: a row for each, with its operands and their defaults.
 use Rattle.std.specs.Prelude.{ℕ, Bool, false, List, [], ◌∷◌, codes, Option, Some, None, Result, Ok, Err}
 use Rattle.text_rows.specs.Lines.{split_at}
-use Rattle.text_rows.specs.Lowest.{also, both}
+use Rattle.text_rows.specs.LowestRule.{also, both}
 use Rattle.text_rows.specs.Names.{name_of}
 use Rattle.text_rows.specs.Numbers.{number_between}
 use Rattle.text_rows.specs.Operands.{known_among, needed, or_as}
@@ -13,7 +13,7 @@ use Rattle.sysdef_rows.specs.declared.kinds.Kind.{Kind}
 use Rattle.sysdef_rows.specs.declared.kinds.Kind.TheVariants.{Control, Database, Segment, Application, Pcb, Transaction, Terminal, Region, End}
 use Rattle.sysdef_rows.specs.Kinds.{format_keys}
 use Rattle.sysdef_rows.specs.Pcbs.{pcb_row}
-use Rattle.sysdef_rows.specs.Values.{named, parent_of, message_type_of, priorities_of, limits_of, pad_of, serial_of, classes_of}
+use Rattle.sysdef_rows.specs.Values.{parent_name, parent_of, message_type_of, priorities_of, limits_of, pad_length_of, serial_of, classes_of}
 
 -- IMSCTRL QBYTES, LOGS
 abbrev pub control_made : Result (ℕ × ℕ) ℕ → Result Macro ℕ
@@ -59,7 +59,7 @@ terminal_made (Ok (name, format)) = Ok (macro.Terminal name format)
 terminal_made (Err rule) = Err rule
 
 unfoldable pub terminal_row : List (List ℕ) → Result Macro ℕ
-terminal_row ops = terminal_made (both (needed (codes "LTERM") name_of ops) (or_as (codes "FORMAT") (λ text. named (name_of text)) None ops))
+terminal_row ops = terminal_made (both (needed (codes "LTERM") name_of ops) (or_as (codes "FORMAT") (λ text. parent_name (name_of text)) None ops))
 
 -- REGION CLASS
 abbrev pub region_made : Result (List ℕ) ℕ → Result Macro ℕ
@@ -92,7 +92,7 @@ unfoldable pub code_part : List (List ℕ) → Result (List ℕ × (SegmentKind 
 code_part ops = both (needed (codes "CODE") name_of ops) (or_as (codes "MSGTYPE") message_type_of (Multiple, 1) ops)
 
 unfoldable pub pad_part : List (List ℕ) → Result (ℕ × Bool) ℕ
-pad_part ops = both (or_as (codes "SPA") pad_of 0 ops) (or_as (codes "SERIAL") serial_of false ops)
+pad_part ops = both (or_as (codes "SPA") pad_length_of 0 ops) (or_as (codes "SERIAL") serial_of false ops)
 
 unfoldable pub segment_part : List (List ℕ) → Result ((ℕ × ℕ) × (ℕ × Bool)) ℕ
 segment_part ops = both (both (or_as (codes "SEGNO") (number_between 1 32) 32 ops) (or_as (codes "SEGSIZE") (number_between 5 2000) 2000 ops)) (pad_part ops)
@@ -104,16 +104,16 @@ unfoldable pub transaction_row : List (List ℕ) → Result Macro ℕ
 transaction_row ops = transaction_made (both (code_part ops) (limit_part ops))
 
 -- the row of a kind; END has no operands
-unfoldable pub row : Kind → List (List ℕ) → Result Macro ℕ
-row Control ops = control_row ops
-row Database ops = database_row ops
-row Segment ops = segment_row ops
-row Application ops = application_row ops
-row Pcb ops = pcb_row ops
-row Transaction ops = transaction_row ops
-row Terminal ops = terminal_row ops
-row Region ops = region_row ops
-row End ops = Ok macro.End
+unfoldable pub macro_row : Kind → List (List ℕ) → Result Macro ℕ
+macro_row Control ops = control_row ops
+macro_row Database ops = database_row ops
+macro_row Segment ops = segment_row ops
+macro_row Application ops = application_row ops
+macro_row Pcb ops = pcb_row ops
+macro_row Transaction ops = transaction_row ops
+macro_row Terminal ops = terminal_row ops
+macro_row Region ops = region_row ops
+macro_row End ops = Ok macro.End
 
 -- PROGRAM: what stands behind the blank is the name
 abbrev pub program_name_in : Option (List ℕ × List ℕ) → Result (List ℕ) ℕ
@@ -125,5 +125,5 @@ unfoldable pub program_name : List ℕ → Result (List ℕ) ℕ
 program_name line = program_name_in (split_at 32 line)
 
 -- FMT: its one operand is the name
-unfoldable pub format_name : List (List ℕ) → Result (List ℕ) ℕ
-format_name ops = also (needed (codes "NAME") name_of ops) (known_among format_keys ops)
+unfoldable pub read_format_name : List (List ℕ) → Result (List ℕ) ℕ
+read_format_name ops = also (needed (codes "NAME") name_of ops) (known_among format_keys ops)

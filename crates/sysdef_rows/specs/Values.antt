@@ -3,7 +3,7 @@ use Rattle.std.specs.Prelude.{ℕ, ◌+◌, ◌==◌, min, Bool, true, false, �
 use Rattle.std.specs.List.{list_any}
 use Rattle.std.specs.Str.{bytes_eq}
 use Rattle.text_rows.specs.Lists.{list_of, two_of, three_of}
-use Rattle.text_rows.specs.Lowest.{both, also}
+use Rattle.text_rows.specs.LowestRule.{both, also}
 use Rattle.text_rows.specs.Names.{name_of}
 use Rattle.text_rows.specs.Numbers.{is_number, number_of, number_between}
 use Rattle.model_system.specs.declared.code.SegmentKind.{SegmentKind}
@@ -20,12 +20,12 @@ unfoldable pub serial_of : List ℕ → Result Bool ℕ
 serial_of word = if bytes_eq word (codes "NO") then Ok false else Err 9
 
 -- PARENT: 0 alone is the root's, and no name
-abbrev pub named : Result (List ℕ) ℕ → Result (Option (List ℕ)) ℕ
-named (Ok name) = Ok (Some name)
-named (Err rule) = Err rule
+abbrev pub parent_name : Result (List ℕ) ℕ → Result (Option (List ℕ)) ℕ
+parent_name (Ok name) = Ok (Some name)
+parent_name (Err rule) = Err rule
 
 unfoldable pub parent_of : List ℕ → Result (Option (List ℕ)) ℕ
-parent_of text = if bytes_eq text (codes "0") then Ok None else named (name_of text)
+parent_of text = if bytes_eq text (codes "0") then Ok None else parent_name (name_of text)
 
 -- MODIFY: YES
 unfoldable pub modify_of : List ℕ → Result (Unit {0}) ℕ
@@ -86,12 +86,12 @@ unfoldable pub limits_of : List ℕ → Result (ℕ × ℕ) ℕ
 limits_of text = limits_in (two_of text)
 
 -- SPA: any number; above 65,535 it counts as 65,535. Which lengths a scratch pad may have is a rule among macros.
-abbrev pub capped : Result ℕ ℕ → Result ℕ ℕ
-capped (Ok number) = Ok number
-capped (Err rule) = if rule == 6 then Ok 65535 else Err rule
+abbrev pub capped_pad : Result ℕ ℕ → Result ℕ ℕ
+capped_pad (Ok number) = Ok number
+capped_pad (Err rule) = if rule == 6 then Ok 65535 else Err rule
 
-unfoldable pub pad_of : List ℕ → Result ℕ ℕ
-pad_of text = if is_number text then Ok (min (number_of text) 65535) else Err 5
+unfoldable pub pad_length_of : List ℕ → Result ℕ ℕ
+pad_length_of text = if is_number text then Ok (min (number_of text) 65535) else Err 5
 
 -- CLASS: 1 to 4 classes of 1 to 255
 abbrev pub with_class : Result (ℕ × List ℕ) ℕ → Result (List ℕ) ℕ
@@ -110,6 +110,6 @@ unfoldable pub classes_of : List ℕ → Result (List ℕ) ℕ
 classes_of text = classes_in (list_of text)
 
 -- the classes with one more at the end
-abbrev pub with_last : Result (List ℕ × ℕ) ℕ → Result (List ℕ) ℕ
-with_last (Ok (classes, class)) = Ok (classes ++ class ∷ [])
-with_last (Err rule) = Err rule
+abbrev pub with_last_class : Result (List ℕ × ℕ) ℕ → Result (List ℕ) ℕ
+with_last_class (Ok (classes, class)) = Ok (classes ++ class ∷ [])
+with_last_class (Err rule) = Err rule

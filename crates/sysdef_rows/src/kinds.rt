@@ -59,9 +59,9 @@ pub fn kind_of(name: &[u8]) -> Result<Kind, u8>
 }
 
 /// Rule 2 where an operand isn't one of the macro's, or of the PCB's form.
-#[tactic(auto, unfolding(crate::specs::Kinds::known))]
+#[tactic(auto, unfolding(crate::specs::Kinds::macro_keys_known))]
 pub fn known(kind: Kind, operands: &Operands<'_>) -> Result<(), u8>
-    ensures { result ≡ spec.known kind operands.now }
+    ensures { result ≡ spec.macro_keys_known kind operands.now }
 {
     match kind {
         Kind::Control => operands.known_among(&[b"QBYTES", b"LOGS"]),

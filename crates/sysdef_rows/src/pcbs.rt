@@ -46,9 +46,9 @@ fn form_in(named: bool, word: &[u8]) -> Result<PcbForm, u8>
 }
 
 /// The form of a PCB, or the lowest rule that its TYPE breaks.
-#[tactic(auto, unfolding(text_rows::specs::Operands::needed, crate::specs::Pcbs::form_of))]
+#[tactic(auto, unfolding(text_rows::specs::Operands::needed, crate::specs::Pcbs::pcb_form))]
 pub(crate) fn form_of(operands: &Operands<'_>) -> Result<PcbForm, u8>
-    ensures { result ≡ spec.form_of operands.now }
+    ensures { result ≡ spec.pcb_form operands.now }
 {
     match operands.only_value(b"TYPE")? {
         Some(text) => form_in(operands.stands(b"LTERM"), text),
@@ -89,18 +89,16 @@ fn modify(operands: &Operands<'_>) -> Result<(), u8>
 }
 
 fn judged<A: Drop>(value: Result<A, u8>) -> Result<(), u8>
-    ensures { result ≡ spec.judged value }
+    ensures { result ≡ spec.judged_operand value }
 {
-    match value {
-        Ok(_) => Ok(()),
-        Err(rule) => Err(rule),
-    }
+    value?;
+    Ok(())
 }
 
 /// The name under a key, where it stands there.
 #[tactic(auto, unfolding(text_rows::specs::Operands::or_as))]
 fn standing_name(key: &[u8], operands: &Operands<'_>) -> Result<(), u8>
-    ensures { result ≡ or_as key.now (λ text. spec.judged (names.name_of text)) tt operands.now }
+    ensures { result ≡ or_as key.now (λ text. spec.judged_operand (names.name_of text)) tt operands.now }
 {
     match operands.only_value(key)? {
         Some(text) => judged(name_of(text)),
@@ -110,7 +108,7 @@ fn standing_name(key: &[u8], operands: &Operands<'_>) -> Result<(), u8>
 
 #[tactic(auto, unfolding(text_rows::specs::Operands::or_as))]
 fn standing_options(operands: &Operands<'_>) -> Result<(), u8>
-    ensures { result ≡ or_as (codes "PROCOPT") (λ text. spec.judged (values.options_of text)) tt operands.now }
+    ensures { result ≡ or_as (codes "PROCOPT") (λ text. spec.judged_operand (values.options_of text)) tt operands.now }
 {
     match operands.only_value(b"PROCOPT")? {
         Some(text) => judged(options_of(text)),

@@ -131,7 +131,7 @@ fn segment_size(operands: &Operands<'_>) -> Result<u16, u8>
 
 #[tactic(auto, unfolding(text_rows::specs::Operands::or_as))]
 fn scratch_pad(operands: &Operands<'_>) -> Result<u16, u8>
-    ensures { result ≡ or_as (codes "SPA") values.pad_of 0 operands.now }
+    ensures { result ≡ or_as (codes "SPA") values.pad_length_of 0 operands.now }
 {
     match operands.only_value(b"SPA")? {
         Some(text) => pad_of(text),
@@ -152,7 +152,7 @@ fn serial(operands: &Operands<'_>) -> Result<bool, u8>
 /// The name of a terminal's format, if it has one.
 #[tactic(auto, unfolding(text_rows::specs::Operands::or_as))]
 fn format(operands: &Operands<'_>) -> Result<Option<Name>, u8>
-    ensures { result ≡ or_as (codes "FORMAT") (λ text. values.named (names.name_of text)) None operands.now }
+    ensures { result ≡ or_as (codes "FORMAT") (λ text. values.parent_name (names.name_of text)) None operands.now }
 {
     match operands.only_value(b"FORMAT")? {
         Some(text) => Ok(Some(name_of(text)?)),
@@ -299,9 +299,9 @@ fn transaction_row(operands: &Operands<'_>) -> Result<Macro, u8>
 }
 
 /// The macro of a kind that has these operands, or the lowest rule that their values break.
-#[tactic(auto, unfolding(crate::specs::Rows::row))]
+#[tactic(auto, unfolding(crate::specs::Rows::macro_row))]
 pub fn row(kind: Kind, operands: &Operands<'_>) -> Result<Macro, u8>
-    ensures { result ≡ spec.row kind operands.now }
+    ensures { result ≡ spec.macro_row kind operands.now }
 {
     match kind {
         Kind::Control => control_row(operands),
@@ -328,9 +328,9 @@ pub fn program_name(line: &[u8]) -> Result<Name, u8>
 }
 
 /// The name of an FMT that has these operands, or the lowest rule that they break.
-#[tactic(auto, unfolding(crate::specs::Rows::format_name))]
+#[tactic(auto, unfolding(crate::specs::Rows::read_format_name))]
 pub fn format_name(operands: &Operands<'_>) -> Result<Name, u8>
-    ensures { result ≡ spec.format_name operands.now }
+    ensures { result ≡ spec.read_format_name operands.now }
 {
     also(
         operands.needed_name(b"NAME"),

@@ -1,6 +1,6 @@
 //! The values of operands.
 ghost use Rattle.std.specs.Prelude.{◌≡◌, ◌<◌, ◌≤◌, ◌+◌, ◌||◌, length, Ok, Err, IfOk};
-ghost use Rattle.text_rows.specs.Lowest.{both};
+ghost use Rattle.text_rows.specs.LowestRule.{both};
 ghost use Rattle.text_rows.specs.Numbers.{number_between};
 ghost use Rattle.sysdef_rows.specs.Values as spec;
 
@@ -16,10 +16,7 @@ use tm_types::processing::{DELETE, GET, INSERT, REPLACE};
 pub(crate) fn short_between(low: u16, high: u16, text: &[u8]) -> Result<u16, u8>
     ensures { result ≡ number_between low high text.now }
 {
-    match number_between(u32::from(low), u32::from(high), text) {
-        Ok(number) => Ok(number as u16),
-        Err(rule) => Err(rule),
-    }
+    Ok(number_between(u32::from(low), u32::from(high), text)? as u16)
 }
 
 #[tactic(auto, unfolding(crate::specs::Values::segment_kind_of))]
@@ -48,7 +45,7 @@ fn response_of(word: &[u8]) -> Result<(), u8>
 
 /// SPA: a number; above 65,535 it counts as 65,535.
 pub(crate) fn pad_of(text: &[u8]) -> Result<u16, u8>
-    ensures { result ≡ spec.pad_of text.now }
+    ensures { result ≡ spec.pad_length_of text.now }
 {
     match number_between(0, 65535, text) {
         Ok(number) => Ok(number as u16),
@@ -58,7 +55,7 @@ pub(crate) fn pad_of(text: &[u8]) -> Result<u16, u8>
 
 /// A number out of range counts as 65,535.
 fn capped(rule: u8) -> Result<u16, u8>
-    ensures { result ≡ spec.capped (Err rule) }
+    ensures { result ≡ spec.capped_pad (Err rule) }
 {
     if rule == OUT_OF_RANGE {
         Ok(65535)
@@ -87,10 +84,7 @@ pub(crate) fn parent_of(text: &[u8]) -> Result<Option<Name>, u8>
     if is_word(text, b"0") {
         return Ok(None);
     }
-    match name_of(text) {
-        Ok(name) => Ok(Some(name)),
-        Err(rule) => Err(rule),
-    }
+    Ok(Some(name_of(text)?))
 }
 
 /// MODIFY: only YES is there.
@@ -240,14 +234,10 @@ fn classes_in(elements: Pieces<'_>) -> Result<Classes, u8>
 fn with_last(classes: Result<Classes, u8>, count: u8, class: Result<u8, u8>) -> Result<Classes, u8>
     requires few { count < 4 }
     requires counted { IfOk classes (λ before. length before ≡ count) }
-    ensures value { result ≡ spec.with_last (both classes class) }
+    ensures value { result ≡ spec.with_last_class (both classes class) }
     ensures counted { IfOk result (λ after. length after ≡ count + 1) }
 {
-    match both(classes, class) {
-        Ok((mut classes, class)) => {
-            classes.push(class);
-            Ok(classes)
-        }
-        Err(rule) => Err(rule),
-    }
+    let (mut classes, class) = both(classes, class)?;
+    classes.push(class);
+    Ok(classes)
 }

@@ -15,7 +15,7 @@ use Rattle.system_types.specs.declared.definition.MacroLine.{MacroLine}
 use Rattle.sysdef_rules.specs.declared.calls.CallRule.{CallRule}
 use Rattle.sysdef_rules.specs.declared.calls.CallRule.TheVariants.{PcbMissing, SsaAstray, NoInsertPath}
 use Rattle.system_types.specs.Calls.{is_database_function, is_output_function, segment_name}
-use Rattle.sysdef_rules.specs.Lookups.{has, is_segment, segments_of, pcbs_of, numbered, parent_named}
+use Rattle.sysdef_rules.specs.Lookups.{has, is_segment_named, segments_of, pcbs_of, macro_line_numbered, parent_named}
 
 -- which functions a PCB has
 abbrev pub pcb_has : Macro → Function → Bool
@@ -24,23 +24,23 @@ pcb_has (DestinationPcb destination) function = is_output_function function
 pcb_has ModifiablePcb function = is_output_function function
 pcb_has _ function = false
 
-abbrev pub serves : Option MacroLine → Function → Bool
-serves (Some line) function = pcb_has line.content function
-serves None function = false
+abbrev pub pcb_serves : Option MacroLine → Function → Bool
+pcb_serves (Some line) function = pcb_has line.content function
+pcb_serves None function = false
 
 -- A call on a PCB above 0 that isn't there, or that hasn't this function. What PCB 0 has is a rule of
 -- scripts.
 abbrev pub misses_pcb : List MacroLine → ℕ → Function → Bool
-misses_pcb pcbs number function = nat_le 1 number && not (serves (numbered pcbs number) function)
+misses_pcb pcbs number function = nat_le 1 number && not (pcb_serves (macro_line_numbered pcbs number) function)
 
 -- the segments of the database that a PCB is on
 abbrev pub segments_in : List MacroLine → Macro → Option (List MacroLine)
 segments_in all (DatabasePcb database options) = Some (segments_of database all)
 segments_in all _ = None
 
-abbrev pub segments_at : List MacroLine → Option MacroLine → Option (List MacroLine)
-segments_at all (Some line) = segments_in all line.content
-segments_at all None = None
+abbrev pub segments_of_pcb : List MacroLine → Option MacroLine → Option (List MacroLine)
+segments_of_pcb all (Some line) = segments_in all line.content
+segments_of_pcb all None = None
 
 -- within so many steps from a segment's parent up there stands this one
 abbrev pub is_above : List MacroLine → List ℕ → ℕ → Option (List ℕ) → Bool
@@ -53,15 +53,15 @@ is_above segments above (suc steps) (Some name) = bytes_eq name above || is_abov
 unfoldable pub is_descendant : List MacroLine → List ℕ → List ℕ → Bool
 is_descendant segments name above = is_above segments above (length segments) (parent_named segments name)
 
-abbrev pub is_below : List MacroLine → List ℕ → Option (List ℕ) → Bool
-is_below segments name (Some above) = is_descendant segments name above
-is_below segments name None = true
+abbrev pub is_below_segment : List MacroLine → List ℕ → Option (List ℕ) → Bool
+is_below_segment segments name (Some above) = is_descendant segments name above
+is_below_segment segments name None = true
 
 -- the arguments name segments, each a descendant of the one before
 abbrev pub go_down : List MacroLine → Option (List ℕ) → List ScriptSsa → Bool
 go_down segments above [] = true
 go_down segments above (ssa ∷ ssas) =
-    has (is_segment (segment_name ssa)) segments && is_below segments (segment_name ssa) above && go_down segments (Some (segment_name ssa)) ssas
+    has (is_segment_named (segment_name ssa)) segments && is_below_segment segments (segment_name ssa) above && go_down segments (Some (segment_name ssa)) ssas
 
 -- An argument names a segment of the PCB's database, so a PCB without a database has none.
 abbrev pub strays : Option (List MacroLine) → List ScriptSsa → Bool
@@ -98,8 +98,8 @@ misses_path _ function ssas = false
 
 abbrev pub breaks_call : CallRule → List MacroLine → List MacroLine → Statement → Bool
 breaks_call PcbMissing all pcbs (Call function pcb area ssas) = misses_pcb pcbs pcb function
-breaks_call SsaAstray all pcbs (Call function pcb area ssas) = strays (segments_at all (numbered pcbs pcb)) ssas
-breaks_call NoInsertPath all pcbs (Call function pcb area ssas) = misses_path (segments_at all (numbered pcbs pcb)) function ssas
+breaks_call SsaAstray all pcbs (Call function pcb area ssas) = strays (segments_of_pcb all (macro_line_numbered pcbs pcb)) ssas
+breaks_call NoInsertPath all pcbs (Call function pcb area ssas) = misses_path (segments_of_pcb all (macro_line_numbered pcbs pcb)) function ssas
 breaks_call rule all pcbs _ = false
 
 -- the line of the first call of a script that breaks the rule

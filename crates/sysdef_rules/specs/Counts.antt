@@ -20,13 +20,13 @@ breaks_count all before (Program name lines) = nat_le 64 (count Programs before)
 breaks_count all before End = (count Terminals all == 0) || (count Regions all == 0)
 breaks_count all before _ = false
 
-abbrev pub number_at : Option MacroLine → Option ℕ
-number_at line = option_map (λ l. l.number) line
+abbrev pub macro_number_at : Option MacroLine → Option ℕ
+macro_number_at line = option_map (λ l. l.number) line
 
 -- a database has at most 16 segments, and a PSB at most 8 PCBs: the first line past that
 abbrev pub past_limit : Macro → List MacroLine → Option ℕ
-past_limit (Database name roots) behind = number_at (slice_get (front Segments behind) 16)
-past_limit (Application psb) behind = number_at (slice_get (front Pcbs behind) 8)
+past_limit (Database name roots) behind = macro_number_at (slice_get (front Segments behind) 16)
+past_limit (Application psb) behind = macro_number_at (slice_get (front Pcbs behind) 8)
 past_limit _ behind = None
 
 -- the lowest line of a macro and those that belong to it that is past a limit

@@ -2,6 +2,6 @@ pub mod Lookups
 pub mod Segments
 pub mod Calls
 pub mod Counts
-pub mod Refused
+pub mod CheckAnswer
 pub mod Cross
 pub mod Indexes

@@ -7,18 +7,18 @@ use Rattle.system_types.specs.declared.definition.MacroLine.{MacroLine}
 use Rattle.sysdef_rules.specs.declared.lookups.MacroKind.TheVariants.{Segments}
 use Rattle.sysdef_rules.specs.declared.segments.SegmentRule.{SegmentRule}
 use Rattle.sysdef_rules.specs.declared.segments.SegmentRule.TheVariants.{Twice, ParentAstray, KeyTooLong, LevelTooHigh}
-use Rattle.sysdef_rules.specs.Lookups.{has, is_segment, front, parent_in, parent_named}
+use Rattle.sysdef_rules.specs.Lookups.{has, is_segment_named, front, parent_in, parent_named}
 
 -- Each rule says whether a segment breaks it, behind those before it in its database.
 
 -- a segment stands once
 unfoldable pub breaks_name : List MacroLine → Macro → Bool
-breaks_name before (Segment name parent key bytes) = has (is_segment name) before
+breaks_name before (Segment name parent key bytes) = has (is_segment_named name) before
 breaks_name before _ = false
 
 -- one of the segments has this name
 abbrev pub stands_in : List MacroLine → Option (List ℕ) → Bool
-stands_in segments (Some name) = has (is_segment name) segments
+stands_in segments (Some name) = has (is_segment_named name) segments
 stands_in segments None = false
 
 -- the first segment is the root and has no parent; each other one has a parent that stands before it

@@ -1,7 +1,7 @@
 //! The rules on the calls of a program.
 ghost use Rattle.std.specs.Prelude.{◌≡◌, None};
 ghost use Rattle.std.specs.Option.{option_copied};
-ghost use Rattle.sysdef_rules.specs.Lookups.{numbered};
+ghost use Rattle.sysdef_rules.specs.Lookups.{macro_line_numbered};
 ghost use Rattle.system_types.specs.Calls.{is_database_function, is_output_function, segment_name};
 ghost use Rattle.sysdef_rules.specs.Calls as spec;
 
@@ -38,7 +38,7 @@ fn is_output_function(function: Function) -> bool
 }
 
 fn serves(pcb: Option<&MacroLine>, function: Function) -> bool
-    ensures { result ≡ spec.serves (option_copied pcb.entry) function }
+    ensures { result ≡ spec.pcb_serves (option_copied pcb.entry) function }
 {
     match pcb {
         Some(line) => pcb_has(&line.content, function),
@@ -76,7 +76,7 @@ fn segments_in<'a>(all: &'a [MacroLine], content: &Macro) -> Option<&'a [MacroLi
 
 /// The segments of the database that the PCB of this number is on.
 fn segments_at<'a>(all: &'a [MacroLine], pcbs: &[MacroLine], number: u8) -> Option<&'a [MacroLine]>
-    ensures { option_copied result ≡ spec.segments_at all.now (numbered pcbs.now number) }
+    ensures { option_copied result ≡ spec.segments_of_pcb all.now (macro_line_numbered pcbs.now number) }
 {
     match numbered(pcbs, number) {
         Some(line) => segments_in(all, &line.content),
@@ -109,7 +109,7 @@ fn is_descendant(segments: &[MacroLine], name: &Name, above: &Name) -> bool
 }
 
 fn is_below(segments: &[MacroLine], name: &Name, above: Option<&Name>) -> bool
-    ensures { result ≡ spec.is_below segments.now name.now (option_copied above.entry) }
+    ensures { result ≡ spec.is_below_segment segments.now name.now (option_copied above.entry) }
 {
     match above {
         Some(above) => is_descendant(segments, name, above),

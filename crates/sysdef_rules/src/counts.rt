@@ -23,7 +23,7 @@ fn breaks_count(all: &[MacroLine], before: &[MacroLine], content: &Macro) -> boo
 }
 
 fn number_at(line: Option<&MacroLine>) -> Option<u32>
-    ensures { result ≡ spec.number_at (option_copied line.entry) }
+    ensures { result ≡ spec.macro_number_at (option_copied line.entry) }
 {
     match line {
         Some(line) => Some(line.number),

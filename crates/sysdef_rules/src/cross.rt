@@ -3,7 +3,7 @@ ghost use Rattle.std.specs.Prelude.{◌≡◌, [], IfOk};
 ghost use Rattle.std.specs.Option.{option_or};
 ghost use Rattle.sysdef_rules.specs.Segments.{own_line};
 ghost use Rattle.sysdef_rules.specs.Cross as spec;
-ghost use Rattle.sysdef_rules.specs.Refused.{Answers};
+ghost use Rattle.sysdef_rules.specs.CheckAnswer.{AnswersCheck};
 
 use crate::CrossRefused;
 use crate::calls::{CallRule, broken_by_call};
@@ -186,7 +186,7 @@ fn own_line(line: &MacroLine, broken: bool) -> Option<u32>
 }
 
 /// The lowest line of the macro, and of those that belong to it, that breaks the rule.
-#[tactic(auto, unfolding(crate::specs::Cross::broken_line))]
+#[tactic(auto, unfolding(crate::specs::Cross::broken_macro_line))]
 fn broken_line(
     rule: CrossRule,
     all: &NamedMacros<'_>,
@@ -194,7 +194,7 @@ fn broken_line(
     line: &MacroLine,
     behind: &[MacroLine],
 ) -> Option<u32>
-    ensures { result ≡ spec.broken_line rule all.now before.now line.now behind.now }
+    ensures { result ≡ spec.broken_macro_line rule all.now before.now line.now behind.now }
 {
     match rule {
         CrossRule::DatabaseTwice => own_line(line, breaks_database(before, &line.content)),
@@ -214,7 +214,7 @@ fn broken_line(
 }
 
 fn number_of(rule: CrossRule) -> u8
-    ensures { result ≡ spec.number_of rule }
+    ensures { result ≡ spec.rule_number rule }
 {
     match rule {
         CrossRule::DatabaseTwice => 1,
@@ -261,7 +261,7 @@ fn first_line(
 /// The lowest line that breaks the rule, with the rule's number.
 #[tactic(auto, unfolding(crate::specs::Cross::keeps))]
 fn keeps(alloc: Global, rule: CrossRule, all: &NamedMacros<'_>) -> Result<(), CrossRefused>
-    ensures { Answers result (spec.keeps rule all.now) }
+    ensures { AnswersCheck result (spec.keeps rule all.now) }
 {
     match first_line(alloc, rule, all, all.lines()) {
         Ok(Some(line)) => Err(CrossRefused::BadCross(line, number_of(rule))),
@@ -272,7 +272,7 @@ fn keeps(alloc: Global, rule: CrossRule, all: &NamedMacros<'_>) -> Result<(), Cr
 
 /// The lowest line that breaks the first rule of the list that is broken, with the rule's number.
 fn keep_all(alloc: Global, rules: &[CrossRule], all: &NamedMacros<'_>) -> Result<(), CrossRefused>
-    ensures { Answers result (spec.keeps_all rules.now all.now) }
+    ensures { AnswersCheck result (spec.keeps_all rules.now all.now) }
 {
     for &rule in rules {
         keeps(alloc, rule, all)?;
@@ -283,7 +283,7 @@ fn keep_all(alloc: Global, rules: &[CrossRule], all: &NamedMacros<'_>) -> Result
 /// The lowest line that breaks the lowest rule that is broken, and this rule's number.
 #[tactic(auto, unfolding(crate::specs::Cross::cross_rules))]
 pub fn cross_rules(alloc: Global, lines: &[MacroLine]) -> Result<(), CrossRefused>
-    ensures { Answers result (spec.cross_rules lines.now) }
+    ensures { AnswersCheck result (spec.cross_rules lines.now) }
 {
     let rules = [
         CrossRule::DatabaseTwice,

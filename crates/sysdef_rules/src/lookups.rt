@@ -21,7 +21,7 @@ pub enum MacroKind {
 }
 
 pub(crate) fn is_of(kind: MacroKind, content: &Macro) -> bool
-    ensures { result ≡ spec.is_of kind content.now }
+    ensures { result ≡ spec.is_of_kind kind content.now }
 {
     match kind {
         MacroKind::Databases => matches!(content, Macro::Database { .. }),
@@ -61,7 +61,7 @@ pub(crate) fn count(kind: MacroKind, lines: &[MacroLine]) -> usize
 /// The lines at the front that are of this kind.
 pub fn front(kind: MacroKind, lines: &[MacroLine]) -> &[MacroLine]
     ensures value { result.now ≡ spec.front kind lines.now }
-    ensures all { IsTrue (list_all (λ line. spec.is_of kind line.content) result.now) }
+    ensures all { IsTrue (list_all (λ line. spec.is_of_kind kind line.content) result.now) }
 {
     front_of(kind, lines)
 }
@@ -78,7 +78,7 @@ fn front_of(kind: MacroKind, lines: &[MacroLine]) -> &[MacroLine]
 }
 
 fn behind_database<'a>(name: &Name, lines: &'a [MacroLine]) -> &'a [MacroLine]
-    ensures { result.now ≡ spec.behind (spec.is_database name.now) lines.now }
+    ensures { result.now ≡ spec.lines_behind_first (spec.is_database name.now) lines.now }
 {
     for (index, line) in lines.iter().enumerate() {
         if is_database(name, &line.content) {
@@ -89,7 +89,7 @@ fn behind_database<'a>(name: &Name, lines: &'a [MacroLine]) -> &'a [MacroLine]
 }
 
 fn behind_application<'a>(psb: &Name, lines: &'a [MacroLine]) -> &'a [MacroLine]
-    ensures { result.now ≡ spec.behind (spec.is_application psb.now) lines.now }
+    ensures { result.now ≡ spec.lines_behind_first (spec.is_application_named psb.now) lines.now }
 {
     for (index, line) in lines.iter().enumerate() {
         if is_application(psb, &line.content) {
@@ -117,7 +117,7 @@ pub fn pcbs_of<'a>(psb: &Name, lines: &'a [MacroLine]) -> &'a [MacroLine]
 
 /// The line of this number, counted from 1.
 pub(crate) fn numbered(lines: &[MacroLine], number: u8) -> Option<&MacroLine>
-    ensures { option_copied result ≡ spec.numbered lines.now number }
+    ensures { option_copied result ≡ spec.macro_line_numbered lines.now number }
 {
     if number == 0 {
         return None;
@@ -128,7 +128,7 @@ pub(crate) fn numbered(lines: &[MacroLine], number: u8) -> Option<&MacroLine>
 /// The number of the segment with this name, counted from 1, or 0 where there is none.
 pub fn segment_number(name: &Name, segments: &[MacroLine]) -> u8
     requires { length segments.now < 256 }
-    ensures { result ≡ spec.number_of (spec.is_segment name.now) segments.now }
+    ensures { result ≡ spec.line_number_of (spec.is_segment_named name.now) segments.now }
 {
     match segment_place(name, segments) {
         Some(place) => place as u8 + 1,
@@ -137,7 +137,7 @@ pub fn segment_number(name: &Name, segments: &[MacroLine]) -> u8
 }
 
 fn segment_place(name: &Name, segments: &[MacroLine]) -> Option<usize>
-    ensures value { result ≡ position (λ line. spec.is_segment name.now line.content) segments.now }
+    ensures value { result ≡ position (λ line. spec.is_segment_named name.now line.content) segments.now }
     ensures within { IfSome result (λ place. place < length segments.now) }
 {
     segments
@@ -146,7 +146,7 @@ fn segment_place(name: &Name, segments: &[MacroLine]) -> Option<usize>
 }
 
 fn segment_named<'a>(name: &Name, segments: &'a [MacroLine]) -> Option<&'a MacroLine>
-    ensures { option_copied result ≡ find (λ line. spec.is_segment name.now line.content) segments.now }
+    ensures { option_copied result ≡ find (λ line. spec.is_segment_named name.now line.content) segments.now }
 {
     for line in segments {
         if is_segment(name, &line.content) {
@@ -187,13 +187,13 @@ fn is_database(name: &Name, content: &Macro) -> bool
 }
 
 pub(crate) fn has_segment(name: &Name, lines: &[MacroLine]) -> bool
-    ensures { result ≡ spec.has (spec.is_segment name.now) lines.now }
+    ensures { result ≡ spec.has (spec.is_segment_named name.now) lines.now }
 {
     lines.iter().any(|line| is_segment(name, &line.content))
 }
 
 pub(crate) fn is_segment(name: &Name, content: &Macro) -> bool
-    ensures { result ≡ spec.is_segment name.now content.now }
+    ensures { result ≡ spec.is_segment_named name.now content.now }
 {
     match content {
         Macro::Segment { name: segment, .. } => segment == name,
@@ -202,7 +202,7 @@ pub(crate) fn is_segment(name: &Name, content: &Macro) -> bool
 }
 
 fn is_application(name: &Name, content: &Macro) -> bool
-    ensures { result ≡ spec.is_application name.now content.now }
+    ensures { result ≡ spec.is_application_named name.now content.now }
 {
     match content {
         Macro::Application { psb } => psb == name,

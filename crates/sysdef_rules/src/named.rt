@@ -119,13 +119,13 @@ impl<'a> NamedMacros<'a> {
     }
 
     pub(crate) fn has_application(&self, name: &Name) -> bool
-        ensures { result ≡ spec.has (spec.is_application name.now) self.now }
+        ensures { result ≡ spec.has (spec.is_application_named name.now) self.now }
     {
         has_name(&self.applications, name)
     }
 
     pub(crate) fn has_code(&self, name: &Name) -> bool
-        ensures { result ≡ spec.has (spec.is_code name.now) self.now }
+        ensures { result ≡ spec.has (spec.is_code_named name.now) self.now }
     {
         has_name(&self.codes, name)
     }
@@ -137,19 +137,19 @@ impl<'a> NamedMacros<'a> {
     }
 
     pub(crate) fn has_terminal(&self, name: &Name) -> bool
-        ensures { result ≡ spec.has (spec.is_terminal name.now) self.now }
+        ensures { result ≡ spec.has (spec.is_terminal_named name.now) self.now }
     {
         has_name(&self.terminals, name)
     }
 
     pub(crate) fn has_format(&self, name: &Name) -> bool
-        ensures { result ≡ spec.has (spec.is_format name.now) self.now }
+        ensures { result ≡ spec.has (spec.is_format_named name.now) self.now }
     {
         has_name(&self.formats, name)
     }
 
     pub(crate) fn has_program(&self, name: &Name) -> bool
-        ensures { result ≡ spec.has (spec.is_program name.now) self.now }
+        ensures { result ≡ spec.has (spec.is_program_named name.now) self.now }
     {
         has_name(&self.programs, name)
     }
@@ -181,7 +181,7 @@ fn note_application(
     content: &Macro,
     place: usize,
 ) -> Result<(), AllocError>
-    ensures { OnOk result ((name : List ℕ) → place_in index.new name ≡ option_or (place_in index.old name) (cond (spec.is_application name content.now) (Some place) None)) }
+    ensures { OnOk result ((name : List ℕ) → place_in index.new name ≡ option_or (place_in index.old name) (cond (spec.is_application_named name content.now) (Some place) None)) }
 {
     match content {
         Macro::Application { psb: name } => add_name(index, name, place),
@@ -195,7 +195,7 @@ fn note_code(
     content: &Macro,
     place: usize,
 ) -> Result<(), AllocError>
-    ensures { OnOk result ((name : List ℕ) → place_in index.new name ≡ option_or (place_in index.old name) (cond (spec.is_code name content.now) (Some place) None)) }
+    ensures { OnOk result ((name : List ℕ) → place_in index.new name ≡ option_or (place_in index.old name) (cond (spec.is_code_named name content.now) (Some place) None)) }
 {
     match content {
         Macro::Transaction(transaction) => add_name(index, &transaction.code, place),
@@ -237,7 +237,7 @@ fn note_terminal(
     content: &Macro,
     place: usize,
 ) -> Result<(), AllocError>
-    ensures { OnOk result ((name : List ℕ) → place_in index.new name ≡ option_or (place_in index.old name) (cond (spec.is_terminal name content.now) (Some place) None)) }
+    ensures { OnOk result ((name : List ℕ) → place_in index.new name ≡ option_or (place_in index.old name) (cond (spec.is_terminal_named name content.now) (Some place) None)) }
 {
     match content {
         Macro::Terminal { name, .. } => add_name(index, name, place),
@@ -251,7 +251,7 @@ fn note_format(
     content: &Macro,
     place: usize,
 ) -> Result<(), AllocError>
-    ensures { OnOk result ((name : List ℕ) → place_in index.new name ≡ option_or (place_in index.old name) (cond (spec.is_format name content.now) (Some place) None)) }
+    ensures { OnOk result ((name : List ℕ) → place_in index.new name ≡ option_or (place_in index.old name) (cond (spec.is_format_named name content.now) (Some place) None)) }
 {
     match content {
         Macro::Format { name, .. } => add_name(index, name, place),
@@ -265,7 +265,7 @@ fn note_program(
     content: &Macro,
     place: usize,
 ) -> Result<(), AllocError>
-    ensures { OnOk result ((name : List ℕ) → place_in index.new name ≡ option_or (place_in index.old name) (cond (spec.is_program name content.now) (Some place) None)) }
+    ensures { OnOk result ((name : List ℕ) → place_in index.new name ≡ option_or (place_in index.old name) (cond (spec.is_program_named name content.now) (Some place) None)) }
 {
     match content {
         Macro::Program { name, .. } => add_name(index, name, place),

@@ -4,16 +4,16 @@ use Rattle.std.proofs.Common.{ℕ, suc, ◌≡◌, ◌&&◌, ◌||◌, cond, Boo
 use Rattle.std.proofs.lemmas.Bool.{false≢true}
 use Rattle.std.proofs.lemmas.List.Elements.{All-cons}
 use Rattle.model_system.specs.declared.program.ScriptLine.{ScriptLine}
-use Rattle.model_system.specs.Formats.{FormatLines}
+use Rattle.model_system.specs.FormatLines.{FormatLines}
 use Rattle.text_rows.specs.Lines.{is_passed_over}
-use Rattle.text_rows.specs.Lowest.{also}
+use Rattle.text_rows.specs.LowestRule.{also}
 use Rattle.text_rows.specs.Operands.{macro_name}
 use Rattle.text_rows.specs.Refusals.{at_line, then_lines}
-use Rattle.script_text.specs.Scripts.{is_last}
+use Rattle.script_text.specs.Scripts.{is_script_last}
 use Rattle.system_types.specs.declared.definition.Macro.{Macro}
 use Rattle.system_types.specs.declared.definition.Macro.TheVariants as macro
 use Rattle.system_types.specs.declared.definition.MacroLine.{MacroLine}
-use Rattle.system_types.specs.Definitions.{IsDefinition, IsInRange, are_applied, begins_well, ends_well, is_application, is_control, is_end, may_stand}
+use Rattle.system_types.specs.Definitions.{IsDefinition, IsInRange, are_applied, begins_well, ends_well, is_application, is_control, is_end_macro, may_stand}
 use Rattle.sysdef_rows.specs.declared.kinds.Kind.{Kind}
 use Rattle.sysdef_rows.specs.declared.kinds.Kind.TheVariants.{Control, Database, Segment, Application, Pcb, Transaction, Terminal, Region, End}
 use Rattle.sysdef_rows.specs.Kinds.{kind_of}
@@ -22,11 +22,11 @@ use Rattle.sysdef_text.specs.declared.modes.Mode.{Mode}
 use Rattle.sysdef_text.specs.declared.modes.Mode.TheVariants.{Start, BehindDatabase, BehindApplication, BehindTransaction, Elsewhere, InProgram, InFormat}
 use Rattle.sysdef_text.specs.declared.modes.Step.{Step}
 use Rattle.sysdef_text.specs.declared.modes.Step.TheVariants.{Pass, Item, Last}
-use Rattle.sysdef_text.specs.Definitions.{definition, follow}
+use Rattle.sysdef_text.specs.Definitions.{definition, step_follows}
 use Rattle.sysdef_text.specs.Formats.{format_block, is_format_end}
-use Rattle.sysdef_text.specs.Places.{control_place, family_place, is_format, is_program, macro_line, format_line, program_line, program_place, within}
+use Rattle.sysdef_text.specs.MacroPlaces.{control_place, family_place, is_format_word, is_program_word, macro_line, format_head, program_line, program_line_place, within_definition}
 use Rattle.sysdef_text.specs.Programs.{program_block}
-use Rattle.sysdef_text.specs.Steps.{format_read, format_step, macro_read, macro_step, outside_step, passed, program_read, program_step, step}
+use Rattle.sysdef_text.specs.LineSteps.{format_read, format_step, macro_read, macro_step, outside_step, passed, program_read, program_step, definition_step}
 
 -- a macro stands where it may
 itself : (r : Result (Unit {0}) ℕ) → IfOk r (λ value. r ≡ Ok tt)
@@ -42,7 +42,7 @@ line_fits kind mode over line behind =
     if_both (Fits kind) (λ content. IsPlaced mode kind) _
     (also_left (Fits kind) _ _ (also_left (Fits kind) _ _ (also_left (Fits kind) _ _ (row_fits kind _))))
     (also_right (IsPlaced mode kind) _ _
-    (also_left (λ value. IsPlaced mode kind) _ (within over behind)
+    (also_left (λ value. IsPlaced mode kind) _ (within_definition over behind)
     (if_both (λ value. control_place mode kind ≡ Ok tt) (λ value. family_place mode kind ≡ Ok tt) (also (family_place mode kind) (control_place mode kind))
     (also_right (control_place mode kind ≡ Ok tt) (family_place mode kind) (control_place mode kind) (itself (control_place mode kind)))
     (also_left (λ value. family_place mode kind ≡ Ok tt) (family_place mode kind) (control_place mode kind) (itself (family_place mode kind))))))
@@ -89,7 +89,7 @@ control_no_code : (content : Macro) → is_control content ≡ true → may_stan
 control_no_code (macro.Control qbytes logs) h = refl
 control_no_code _ h = absurd (false≢true h)
 
-end_no_code : (content : Macro) → is_end content ≡ true → may_stand false content ≡ true
+end_no_code : (content : Macro) → is_end_macro content ≡ true → may_stand false content ≡ true
 end_no_code macro.End h = refl
 end_no_code _ h = absurd (false≢true h)
 
@@ -135,7 +135,7 @@ may_behind _ = refl
 abbrev Steps : Mode → Result Step (ℕ × ℕ) → Type 0
 Steps mode (Ok (Pass next)) = (mode ≡ Start → next ≡ Start) × (has_come next ≡ true → has_come mode ≡ true)
 Steps mode (Ok (Item content next)) = IsInRange content × (mode ≡ Start → is_control content ≡ true) × Applies mode content next
-Steps mode (Ok (Last content)) = IsInRange content × (is_end content ≡ true) × (mode ≡ Start → is_control content ≡ true)
+Steps mode (Ok (Last content)) = IsInRange content × (is_end_macro content ≡ true) × (mode ≡ Start → is_control content ≡ true)
 Steps mode (Err fault) = Unit {0}
 
 macro_steps : (kind : Kind) (mode : Mode) (number : ℕ) (read : Result Macro ℕ) → IfOk read (λ content. Fits kind content × IsPlaced mode kind) → Steps mode (macro_read kind (at_line number read))
@@ -162,18 +162,18 @@ kind_steps : (kind : Result Kind ℕ) (mode : Mode) (over : Bool) (number : ℕ)
 kind_steps (Ok kind) mode over number line behind = macro_steps kind mode number (macro_line kind mode over line behind) (line_fits kind mode over line behind)
 kind_steps (Err rule) mode over number line behind = tt
 
-no_program_first : program_place Start ≡ Ok tt → ⊥
+no_program_first : program_line_place Start ≡ Ok tt → ⊥
 no_program_first h = cc
 
-first_place : (mode : Mode) → program_place mode ≡ Ok tt → mode ≡ Start → ⊥
-first_place mode h e = no_program_first (subst (λ m. program_place m ≡ Ok tt) e h)
+first_place : (mode : Mode) → program_line_place mode ≡ Ok tt → mode ≡ Start → ⊥
+first_place mode h e = no_program_first (subst (λ m. program_line_place m ≡ Ok tt) e h)
 
-named_steps : (mode : Mode) (name : Result (List ℕ) (ℕ × ℕ)) (lines : Result (List ScriptLine) (ℕ × ℕ)) → IfOk name (λ n. program_place mode ≡ Ok tt) → Steps mode (program_read name lines)
+named_steps : (mode : Mode) (name : Result (List ℕ) (ℕ × ℕ)) (lines : Result (List ScriptLine) (ℕ × ℕ)) → IfOk name (λ n. program_line_place mode ≡ Ok tt) → Steps mode (program_read name lines)
 named_steps mode (Ok name) (Ok lines) h = (tt, λ e. absurd (first_place mode h e), no_code mode InProgram (macro.Program name lines) refl refl)
 named_steps mode (Ok name) (Err fault) h = tt
 named_steps mode (Err fault) lines h = tt
 
-formed_steps : (mode : Mode) (name : Result (List ℕ) (ℕ × ℕ)) (format : Result FormatLines (ℕ × ℕ)) → IfOk name (λ n. program_place mode ≡ Ok tt) → Steps mode (format_read name format)
+formed_steps : (mode : Mode) (name : Result (List ℕ) (ℕ × ℕ)) (format : Result FormatLines (ℕ × ℕ)) → IfOk name (λ n. program_line_place mode ≡ Ok tt) → Steps mode (format_read name format)
 formed_steps mode (Ok name) (Ok format) h = (tt, λ e. absurd (first_place mode h e), no_code mode InFormat (macro.Format name format) refl refl)
 formed_steps mode (Ok name) (Err fault) h = tt
 formed_steps mode (Err fault) format h = tt
@@ -182,15 +182,15 @@ at_ok : {A : Type 0} (Q : Type 0) (number : ℕ) (read : Result A ℕ) → IfOk 
 at_ok Q number (Ok value) h = h
 at_ok Q number (Err rule) h = tt
 
-program_ok : (mode : Mode) (over : Bool) (line : List ℕ) (behind : List (List ℕ)) → IfOk (program_line mode over line behind) (λ name. program_place mode ≡ Ok tt)
+program_ok : (mode : Mode) (over : Bool) (line : List ℕ) (behind : List (List ℕ)) → IfOk (program_line mode over line behind) (λ name. program_line_place mode ≡ Ok tt)
 unfolding program_line
 program_ok mode over line behind =
-    also_right (program_place mode ≡ Ok tt) _ _ (also_left (λ value. program_place mode ≡ Ok tt) (program_place mode) (within over behind) (itself (program_place mode)))
+    also_right (program_line_place mode ≡ Ok tt) _ _ (also_left (λ value. program_line_place mode ≡ Ok tt) (program_line_place mode) (within_definition over behind) (itself (program_line_place mode)))
 
-format_ok : (mode : Mode) (over : Bool) (line : List ℕ) (behind : List (List ℕ)) → IfOk (format_line mode over line behind) (λ name. program_place mode ≡ Ok tt)
-unfolding format_line
+format_ok : (mode : Mode) (over : Bool) (line : List ℕ) (behind : List (List ℕ)) → IfOk (format_head mode over line behind) (λ name. program_line_place mode ≡ Ok tt)
+unfolding format_head
 format_ok mode over line behind =
-    also_right (program_place mode ≡ Ok tt) _ _ (also_left (λ value. program_place mode ≡ Ok tt) (program_place mode) (within over behind) (itself (program_place mode)))
+    also_right (program_line_place mode ≡ Ok tt) _ _ (also_left (λ value. program_line_place mode ≡ Ok tt) (program_line_place mode) (within_definition over behind) (itself (program_line_place mode)))
 
 passed_steps : (mode : Mode) (judged : Result (Unit {0}) (ℕ × ℕ)) → Steps mode (passed mode judged)
 passed_steps mode (Ok value) = (λ e. e, λ e. e)
@@ -205,12 +205,12 @@ choose_steps mode false false false pass program format others h k f l = l
 
 outside_steps : (mode : Mode) (over : Bool) (number : ℕ) (line : List ℕ) (behind : List (List ℕ)) → Steps mode (outside_step mode over number line behind)
 outside_steps mode over number line behind =
-    choose_steps mode (is_passed_over line) (is_program line) (is_format line) (passed mode (at_line number (within over behind))) (program_step mode over number line behind)
-    (format_step mode over number line behind) (macro_step (kind_of (macro_name line)) mode over number line behind) (passed_steps mode (at_line number (within over behind)))
+    choose_steps mode (is_passed_over line) (is_program_word line) (is_format_word line) (passed mode (at_line number (within_definition over behind))) (program_step mode over number line behind)
+    (format_step mode over number line behind) (macro_step (kind_of (macro_name line)) mode over number line behind) (passed_steps mode (at_line number (within_definition over behind)))
     (named_steps mode (at_line number (program_line mode over line behind)) (program_block over (suc number) behind)
-    (at_ok (program_place mode ≡ Ok tt) number (program_line mode over line behind) (program_ok mode over line behind)))
-    (formed_steps mode (at_line number (format_line mode over line behind)) (format_block over (suc number) behind)
-    (at_ok (program_place mode ≡ Ok tt) number (format_line mode over line behind) (format_ok mode over line behind)))
+    (at_ok (program_line_place mode ≡ Ok tt) number (program_line mode over line behind) (program_ok mode over line behind)))
+    (formed_steps mode (at_line number (format_head mode over line behind)) (format_block over (suc number) behind)
+    (at_ok (program_line_place mode ≡ Ok tt) number (format_head mode over line behind) (format_ok mode over line behind)))
     (kind_steps (kind_of (macro_name line)) mode over number line behind)
 
 inside_start : (b : Bool) → (InProgram ≡ Start → cond b Elsewhere InProgram ≡ Start) × (has_come (cond b Elsewhere InProgram) ≡ true → has_come InProgram ≡ true)
@@ -221,9 +221,9 @@ in_format_start : (b : Bool) → (InFormat ≡ Start → cond b Elsewhere InForm
 in_format_start true = (λ e. cc, λ e. e)
 in_format_start false = (λ e. cc, λ e. e)
 
-line_steps : (mode : Mode) (over : Bool) (number : ℕ) (line : List ℕ) (behind : List (List ℕ)) → Steps mode (step mode over number line behind)
-unfolding step
-line_steps InProgram over number line behind = inside_start (is_last line)
+line_steps : (mode : Mode) (over : Bool) (number : ℕ) (line : List ℕ) (behind : List (List ℕ)) → Steps mode (definition_step mode over number line behind)
+unfolding definition_step
+line_steps InProgram over number line behind = inside_start (is_script_last line)
 line_steps InFormat over number line behind = in_format_start (is_format_end line)
 line_steps Start over number line behind = outside_steps Start over number line behind
 line_steps BehindDatabase over number line behind = outside_steps BehindDatabase over number line behind
@@ -286,11 +286,11 @@ pass_reads : (mode next : Mode) (read : Result (List MacroLine) (ℕ × ℕ)) �
 pass_reads mode next (Ok items) h later reads = (reads.0, reads.1, λ e. reads.2 (h e), applied_more (has_come next) (has_come mode) items later reads.3)
 pass_reads mode next (Err fault) h later reads = tt
 
-last_applied : (b : Bool) (content : Macro) (number : ℕ) → is_end content ≡ true → are_applied b (record { number = number; content = content } ∷ []) ≡ true
+last_applied : (b : Bool) (content : Macro) (number : ℕ) → is_end_macro content ≡ true → are_applied b (record { number = number; content = content } ∷ []) ≡ true
 last_applied b content number h = and_true (may_stand b content) true (may_always content b (end_no_code content h)) refl
 
 follow_reads : (mode : Mode) (number : ℕ) (taken : Result Step (ℕ × ℕ)) (more : Mode → Result (List MacroLine) (ℕ × ℕ)) → Steps mode taken → ((next : Mode) → Reads next (more next))
-    → Reads mode (follow number taken more)
+    → Reads mode (step_follows number taken more)
 follow_reads mode number (Ok (Pass next)) more h each = pass_reads mode next (more next) h.0 h.1 (each next)
 follow_reads mode number (Ok (Item content next)) more h each = item_reads mode next (record { number = number; content = content }) (more next) h.0 h.1 h.2 (each next)
 follow_reads mode number (Ok (Last content)) more h each = (h.1, last_all (record { number = number; content = content }) h.0, h.2, last_applied (has_come mode) content number h.1)
@@ -299,7 +299,7 @@ follow_reads mode number (Err fault) more h each = tt
 definition_reads : (mode : Mode) (over : Bool) (number : ℕ) (lines : List (List ℕ)) → Reads mode (definition mode over number lines)
 definition_reads mode over number [] = tt
 definition_reads mode over number (line ∷ lines) =
-    follow_reads mode number (step mode over number line lines) (λ next. definition next over (suc number) lines) (line_steps mode over number line lines)
+    follow_reads mode number (definition_step mode over number line lines) (λ next. definition next over (suc number) lines) (line_steps mode over number line lines)
     (λ next. definition_reads next over (suc number) lines)
 
 -- what is read is a definition

@@ -7,20 +7,20 @@ use Rattle.sysdef_text.specs.declared.modes.Mode.{Mode}
 use Rattle.sysdef_text.specs.declared.modes.Mode.TheVariants.{Start}
 use Rattle.sysdef_text.specs.declared.modes.Step.{Step}
 use Rattle.sysdef_text.specs.declared.modes.Step.TheVariants.{Pass, Item, Last}
-use Rattle.sysdef_text.specs.Steps.{step}
+use Rattle.sysdef_text.specs.LineSteps.{definition_step}
 
 -- a step, and what is read of the lines behind it
-abbrev pub follow : ℕ → Result Step (ℕ × ℕ) → (Mode → Result (List MacroLine) (ℕ × ℕ)) → Result (List MacroLine) (ℕ × ℕ)
-follow number (Ok (Pass mode)) more = more mode
-follow number (Ok (Item macro mode)) more = then_lines (Ok (record { number = number; content = macro })) (more mode)
-follow number (Ok (Last macro)) more = Ok ((record { number = number; content = macro }) ∷ [])
-follow number (Err fault) more = Err fault
+abbrev pub step_follows : ℕ → Result Step (ℕ × ℕ) → (Mode → Result (List MacroLine) (ℕ × ℕ)) → Result (List MacroLine) (ℕ × ℕ)
+step_follows number (Ok (Pass mode)) more = more mode
+step_follows number (Ok (Item macro mode)) more = then_lines (Ok (record { number = number; content = macro })) (more mode)
+step_follows number (Ok (Last macro)) more = Ok ((record { number = number; content = macro }) ∷ [])
+step_follows number (Err fault) more = Err fault
 
 -- The macros of lines up to END, the first line having this number. Rule 13: where END doesn't
 -- come it is missing one past the last line.
 abbrev pub definition : Mode → Bool → ℕ → List (List ℕ) → Result (List MacroLine) (ℕ × ℕ)
 definition mode over number [] = Err (number, 13)
-definition mode over number (line ∷ lines) = follow number (step mode over number line lines) (λ next. definition next over (suc number) lines)
+definition mode over number (line ∷ lines) = step_follows number (definition_step mode over number line lines) (λ next. definition next over (suc number) lines)
 
 -- the lines of a text: each ends by LF, and a CR before that isn't of the line; the last may lack
 -- its LF, and then keeps its CR

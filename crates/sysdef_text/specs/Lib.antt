@@ -1,6 +1,6 @@
-pub mod Places
+pub mod MacroPlaces
 pub mod Programs
 pub mod Formats
-pub mod Steps
+pub mod LineSteps
 pub mod Definitions
-pub mod Ends
+pub mod DefinitionEnd

@@ -1,8 +1,8 @@
 //! The reader of a definition whose lines come one after another.
 ghost use Rattle.std.specs.Prelude.{◌≡◌, ◌≤◌, false, length, OnOk, OnErr};
-ghost use Rattle.text_rows.specs.Refusals.{Answers};
+ghost use Rattle.text_rows.specs.Refusals.{AnswersLines};
 ghost use Rattle.sysdef_text.specs.Definitions.{definition_in};
-ghost use Rattle.sysdef_text.specs.Ends as spec;
+ghost use Rattle.sysdef_text.specs.DefinitionEnd as spec;
 
 use crate::places::is_program;
 use crate::reader::read_definition_lines;
@@ -26,7 +26,7 @@ pub struct DefinitionReader {
 }
 
 impl Model for DefinitionReader {
-    ghost use Rattle.sysdef_text.specs.Ends.{IsReading, Reading};
+    ghost use Rattle.sysdef_text.specs.DefinitionEnd.{IsReading, Reading};
 
     ghost Value = { Reading };
 
@@ -50,10 +50,10 @@ impl DefinitionReader {
     }
 
     /// Takes the next line of the definition. Where there is no memory nothing has changed.
-    #[tactic(auto, unfolding(crate::specs::Ends::ends_definition))]
+    #[tactic(auto, unfolding(crate::specs::DefinitionEnd::ends_definition))]
     pub fn add(&mut self, line: Line) -> Result<(), AllocError>
         requires { self.old.ended ≡ false }
-        ensures added { OnOk result (self.new ≡ spec.with_line line self.old) }
+        ensures added { OnOk result (self.new ≡ spec.with_read_line line self.old) }
         ensures err { OnErr result (self.new ≡ self.old) }
     {
         let size = line.bytes().len() + 1;
@@ -86,7 +86,7 @@ impl DefinitionReader {
     /// The answer is the definition exactly where no line breaks a rule, else the lowest line that
     /// breaks one with the lowest rule that it breaks, or want of memory.
     pub fn read(&self) -> Result<Definition, LineRefused>
-        ensures { Answers result (definition_in self.now.lines) }
+        ensures { AnswersLines result (definition_in self.now.lines) }
     {
         read_definition_lines(self.alloc, &self.lines)
     }
@@ -105,7 +105,7 @@ fn stays_inside(inside: bool, line: &[u8]) -> bool
 
 /// Whether the line is the macro END.
 fn is_end(inside: bool, line: &[u8]) -> bool
-    ensures { result ≡ spec.is_end inside line.now }
+    ensures { result ≡ spec.is_end_line inside line.now }
 {
     let (name, _) = split_macro(line);
     !inside && is_word(name, b"END")

@@ -1,6 +1,6 @@
 //! The lines of a message format within a definition.
 ghost use Rattle.std.specs.Prelude.{◌≡◌, ◌+◌, ◌<◌, ◌^◌, length};
-ghost use Rattle.text_rows.specs.Refusals.{Answers};
+ghost use Rattle.text_rows.specs.Refusals.{AnswersLines};
 ghost use Rattle.sysdef_text.specs.Formats as spec;
 
 use crate::places::{is_format, is_program, within};
@@ -21,7 +21,7 @@ pub(crate) fn format_block(
     lines: &[Line],
 ) -> Result<Format, LineRefused>
     requires { number + length lines.now < 2 ^ 32 }
-    ensures { Answers result (spec.format_block over number lines.now) }
+    ensures { AnswersLines result (spec.format_block over number lines.now) }
 {
     let apart = format_apart(over, number, lines);
     match (read_format(alloc, lines, number), apart) {

@@ -1,6 +1,6 @@
 //! Where a macro may stand.
 ghost use Rattle.std.specs.Prelude.{◌≡◌};
-ghost use Rattle.sysdef_text.specs.Places as spec;
+ghost use Rattle.sysdef_text.specs.MacroPlaces as spec;
 
 use crate::Mode;
 use crate::rules::{CONTROL_NOT_FIRST, OUT_OF_PLACE, TEXT_TOO_LONG};
@@ -47,7 +47,7 @@ fn control_place(mode: Mode, kind: Kind) -> Result<(), u8>
 }
 
 fn program_place(mode: Mode) -> Result<(), u8>
-    ensures { result ≡ spec.program_place mode }
+    ensures { result ≡ spec.program_line_place mode }
 {
     match mode {
         Mode::Start => Err(CONTROL_NOT_FIRST),
@@ -57,7 +57,7 @@ fn program_place(mode: Mode) -> Result<(), u8>
 
 /// Rule 12 where the text is too long and no line is behind.
 pub(crate) fn within(over: bool, behind: &[Line]) -> Result<(), u8>
-    ensures { result ≡ spec.within over behind.now }
+    ensures { result ≡ spec.within_definition over behind.now }
 {
     match (over, behind) {
         (true, []) => Err(TEXT_TOO_LONG),
@@ -66,7 +66,7 @@ pub(crate) fn within(over: bool, behind: &[Line]) -> Result<(), u8>
 }
 
 /// The macro that a line spells, or the lowest rule that it breaks.
-#[tactic(auto, unfolding(crate::specs::Places::macro_line))]
+#[tactic(auto, unfolding(crate::specs::MacroPlaces::macro_line))]
 pub(crate) fn macro_line(
     kind: Kind,
     mode: Mode,
@@ -86,7 +86,7 @@ pub(crate) fn macro_line(
 }
 
 /// The name of a PROGRAM, or the lowest rule that its line breaks.
-#[tactic(auto, unfolding(crate::specs::Places::program_line))]
+#[tactic(auto, unfolding(crate::specs::MacroPlaces::program_line))]
 pub(crate) fn program_line(mode: Mode, over: bool, line: &[u8], behind: &[Line]) -> Result<Name, u8>
     ensures { result ≡ spec.program_line mode over line.now behind.now }
 {
@@ -97,16 +97,16 @@ pub(crate) fn program_line(mode: Mode, over: bool, line: &[u8], behind: &[Line])
 }
 
 pub(crate) fn is_program(line: &[u8]) -> bool
-    ensures { result ≡ spec.is_program line.now }
+    ensures { result ≡ spec.is_program_word line.now }
 {
     let (name, _) = split_macro(line);
     is_word(name, b"PROGRAM")
 }
 
 /// The name of an FMT, or the lowest rule that its line breaks.
-#[tactic(auto, unfolding(crate::specs::Places::format_line))]
+#[tactic(auto, unfolding(crate::specs::MacroPlaces::format_head))]
 pub(crate) fn format_line(mode: Mode, over: bool, line: &[u8], behind: &[Line]) -> Result<Name, u8>
-    ensures { result ≡ spec.format_line mode over line.now behind.now }
+    ensures { result ≡ spec.format_head mode over line.now behind.now }
 {
     let (_, operands) = split_macro(line);
     also(
@@ -116,7 +116,7 @@ pub(crate) fn format_line(mode: Mode, over: bool, line: &[u8], behind: &[Line]) 
 }
 
 pub(crate) fn is_format(line: &[u8]) -> bool
-    ensures { result ≡ spec.is_format line.now }
+    ensures { result ≡ spec.is_format_word line.now }
 {
     let (name, _) = split_macro(line);
     is_word(name, b"FMT")

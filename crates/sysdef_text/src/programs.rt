@@ -1,6 +1,6 @@
 //! The lines of a program within a definition.
 ghost use Rattle.std.specs.Prelude.{◌≡◌, ◌+◌, ◌<◌, ◌≤◌, ◌^◌, length};
-ghost use Rattle.text_rows.specs.Refusals.{Answers};
+ghost use Rattle.text_rows.specs.Refusals.{AnswersLines};
 ghost use Rattle.sysdef_text.specs.Programs as spec;
 
 use crate::places::within;
@@ -21,7 +21,7 @@ pub(crate) fn program_block(
     lines: &[Line],
 ) -> Result<Program, LineRefused>
     requires { number + length lines.now < 2 ^ 32 }
-    ensures { Answers result (spec.program_block over number lines.now) }
+    ensures { AnswersLines result (spec.program_block over number lines.now) }
 {
     let bytes = program_bytes(over, number, lines);
     match (read_program(alloc, lines, number), bytes) {

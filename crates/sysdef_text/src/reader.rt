@@ -1,10 +1,10 @@
 //! The reader of definitions.
 ghost use Rattle.std.specs.Prelude.{◌≡◌, ◌+◌, ◌<◌, ◌^◌, length, Ok};
-ghost use Rattle.text_rows.specs.Refusals.{Answers};
+ghost use Rattle.text_rows.specs.Refusals.{AnswersLines};
 ghost use Rattle.sysdef_text.specs.declared.modes.Mode.TheVariants.{Start};
 ghost use Rattle.text_rows.specs.Operands as operands;
 ghost use Rattle.sysdef_rows.specs.Kinds as kinds;
-ghost use Rattle.sysdef_text.specs.Steps as steps;
+ghost use Rattle.sysdef_text.specs.LineSteps as steps;
 ghost use Rattle.sysdef_text.specs.Definitions as spec;
 
 use crate::formats::{format_block, is_format_end};
@@ -29,7 +29,7 @@ use tm_edge::Line;
 /// breaks one with the lowest rule that it breaks, or want of memory.
 #[tactic(auto, unfolding(crate::specs::Definitions::definition_of))]
 pub fn read_definition(alloc: Global, text: &[u8]) -> Result<Definition, LineRefused>
-    ensures { Answers result (spec.definition_of text.now) }
+    ensures { AnswersLines result (spec.definition_of text.now) }
 {
     let lines = lines_of(alloc, kept(text))?;
     definition(alloc, TEXT_LIMIT < text.len(), &lines)
@@ -43,7 +43,7 @@ pub fn read_definition(alloc: Global, text: &[u8]) -> Result<Definition, LineRef
 #[tactic(auto, unfolding(crate::specs::Definitions::definition_in))]
 pub fn read_definition_lines(alloc: Global, lines: &[Line]) -> Result<Definition, LineRefused>
     requires { 1 + length lines.now < 2 ^ 32 }
-    ensures { Answers result (spec.definition_in lines.now) }
+    ensures { AnswersLines result (spec.definition_in lines.now) }
 {
     definition(alloc, passes_limit(lines), lines)
 }
@@ -65,7 +65,7 @@ fn passes_limit(lines: &[Line]) -> bool
 
 fn definition(alloc: Global, over: bool, lines: &[Line]) -> Result<Definition, LineRefused>
     requires { 1 + length lines.now < 2 ^ 32 }
-    ensures { Answers result (spec.definition Start over 1 lines.now) }
+    ensures { AnswersLines result (spec.definition Start over 1 lines.now) }
 {
     let mut items = Vec::new(alloc);
     let mut mode = Mode::Start;
@@ -87,7 +87,7 @@ fn definition(alloc: Global, over: bool, lines: &[Line]) -> Result<Definition, L
 }
 
 /// What the line of this number does, before the lines behind it.
-#[tactic(auto, unfolding(crate::specs::Steps::step))]
+#[tactic(auto, unfolding(crate::specs::LineSteps::definition_step))]
 fn step(
     alloc: Global,
     mode: Mode,
@@ -97,7 +97,7 @@ fn step(
     behind: &[Line],
 ) -> Result<Step, LineRefused>
     requires { number + 1 + length behind.now < 2 ^ 32 }
-    ensures { Answers result (steps.step mode over number line.now behind.now) }
+    ensures { AnswersLines result (steps.definition_step mode over number line.now behind.now) }
 {
     match mode {
         Mode::InProgram if is_last(line) => Ok(Step::Pass(Mode::Elsewhere)),
@@ -117,7 +117,7 @@ fn outside_step(
     behind: &[Line],
 ) -> Result<Step, LineRefused>
     requires { number + 1 + length behind.now < 2 ^ 32 }
-    ensures { Answers result (steps.outside_step mode over number line.now behind.now) }
+    ensures { AnswersLines result (steps.outside_step mode over number line.now behind.now) }
 {
     if is_passed_over(line) {
         return match within(over, behind) {
@@ -143,7 +143,7 @@ fn program_step(
     behind: &[Line],
 ) -> Result<Step, LineRefused>
     requires { number + 1 + length behind.now < 2 ^ 32 }
-    ensures { Answers result (steps.program_step mode over number line.now behind.now) }
+    ensures { AnswersLines result (steps.program_step mode over number line.now behind.now) }
 {
     match program_line(mode, over, line, behind) {
         Ok(name) => {
@@ -163,7 +163,7 @@ fn format_step(
     behind: &[Line],
 ) -> Result<Step, LineRefused>
     requires { number + 1 + length behind.now < 2 ^ 32 }
-    ensures { Answers result (steps.format_step mode over number line.now behind.now) }
+    ensures { AnswersLines result (steps.format_step mode over number line.now behind.now) }
 {
     match format_line(mode, over, line, behind) {
         Ok(name) => {
@@ -182,7 +182,7 @@ fn macro_step(
     line: &[u8],
     behind: &[Line],
 ) -> Result<Step, LineRefused>
-    ensures { Answers result (steps.macro_step (kinds.kind_of (operands.macro_name line.now)) mode over number line.now behind.now) }
+    ensures { AnswersLines result (steps.macro_step (kinds.kind_of (operands.macro_name line.now)) mode over number line.now behind.now) }
 {
     let (name, _) = split_macro(line);
     let kind = match kind_of(name) {

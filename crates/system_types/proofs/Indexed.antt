@@ -16,15 +16,12 @@ use Rattle.std.proofs.lemmas.Map.Text.{is_eq-slice_cmp}
 use Rattle.std.proofs.lemmas.Option.{slice_get_past}
 use Rattle.std.proofs.lemmas.Slice.Eq.{bytes_eq-Decides}
 use Rattle.tm_types.specs.Name.{IsName}
-use Rattle.system_types.specs.Indexes.{AreNamed, IsIndex, place_in}
+use Rattle.system_types.specs.Indexes.{AreItemsNamed, IsIndex, place_in}
+use Rattle.tm_types.proofs.Truths.{none_is}
 
 pub first_none : (found : Option ℕ) → found ≡ option_or found None
 first_none (Some place) = refl
 first_none None = refl
-
-none_is : (found : Option ℕ) → is_some found ≡ false → found ≡ None
-none_is (Some place) e = cc
-none_is None e = refl
 
 added_by : (f g : List ℕ → Option ℕ) (label name : List ℕ) (place : ℕ) (b : Bool) → bytes_eq label name ≡ b → f label ≡ None
     → g name ≡ cond b (Some place) (f name) → g name ≡ option_or (f name) (cond b (Some place) None)
@@ -93,17 +90,17 @@ place_or_len p xs = or_len_by p xs (nat_lt (position_or_len p xs) (length xs)) r
 
 -- ---- names
 
-named_push : {X : Type 0} (name_of : X → List ℕ) (xs : List X) (x : X) → AreNamed name_of xs → IsName (name_of x) → AreNamed name_of (xs ++ x ∷ [])
+named_push : {X : Type 0} (name_of : X → List ℕ) (xs : List X) (x : X) → AreItemsNamed name_of xs → IsName (name_of x) → AreItemsNamed name_of (xs ++ x ∷ [])
 named_push name_of [] x h is = (is, tt)
 named_push name_of (first ∷ xs) x h is = (h.0, named_push name_of xs x h.1 is)
 
 pub named_more : {X : Type 0} (name_of : X → List ℕ) (items : List X) (place : ℕ) (item : X) → place < length items → item ≡ get_or items place item
-    → AreNamed name_of (take place items) → IsName (name_of item) → AreNamed name_of (take (place + 1) items)
+    → AreItemsNamed name_of (take place items) → IsName (name_of item) → AreItemsNamed name_of (take (place + 1) items)
 named_more {X} name_of items place item h e before is =
     let whole : take (place + 1) items ≡ take place items ++ item ∷ [] = take_more items place item h ∙ ap (λ (x : X). take place items ++ x ∷ []) (sym e) in
-    subst (AreNamed name_of) (sym whole) (named_push name_of (take place items) item before is)
+    subst (AreItemsNamed name_of) (sym whole) (named_push name_of (take place items) item before is)
 
-unnamed_from : {X : Type 0} (name_of : X → List ℕ) (word : List ℕ) (place : ℕ) (xs : List X) → AreNamed name_of xs → (IsName word → ⊥) → position_from (λ x. bytes_eq (name_of x) word) place xs ≡ None
+unnamed_from : {X : Type 0} (name_of : X → List ℕ) (word : List ℕ) (place : ℕ) (xs : List X) → AreItemsNamed name_of xs → (IsName word → ⊥) → position_from (λ x. bytes_eq (name_of x) word) place xs ≡ None
 unnamed_from name_of word place [] h isnt = refl
 unnamed_from name_of word place (x ∷ xs) h isnt = by (bytes_eq (name_of x) word) refl (unnamed_from name_of word (place + 1) xs h.1 isnt)
   where
@@ -113,7 +110,7 @@ unnamed_from name_of word place (x ∷ xs) h isnt = by (bytes_eq (name_of x) wor
     by false e rest = rest
 
 -- nothing has a word that is no name
-pub unnamed : {X : Type 0} (name_of : X → List ℕ) (word : List ℕ) (xs : List X) → AreNamed name_of xs → (IsName word → ⊥) → None ≡ position (λ x. bytes_eq (name_of x) word) xs
+pub unnamed : {X : Type 0} (name_of : X → List ℕ) (word : List ℕ) (xs : List X) → AreItemsNamed name_of xs → (IsName word → ⊥) → None ≡ position (λ x. bytes_eq (name_of x) word) xs
 unnamed name_of word xs h isnt = sym (position_from-zero (λ x. bytes_eq (name_of x) word) xs ∙ unnamed_from name_of word 0 xs h isnt)
 
 -- ---- a place is found where one passes

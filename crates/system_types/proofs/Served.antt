@@ -13,7 +13,7 @@ use Rattle.model_system.specs.System.{System}
 use Rattle.system_types.specs.declared.job.Job.{Job}
 use Rattle.system_types.specs.Indexes.{has_program_name, program_place}
 use Rattle.system_types.specs.Jobs.{lent_job}
-use Rattle.system_types.specs.Valid.{IsPadLength, IsSentTo, IsServable, IsSystem}
+use Rattle.system_types.specs.ValidSystem.{IsPadLength, IsSentTo, IsServable, IsSystem}
 use Rattle.system_types.proofs.Indexed.{found_at}
 
 place_of : (programs : List SystemProgram) (places : List ℕ) (codes : List Code) (place : Option ℕ) → places ≡ map (program_place programs) codes

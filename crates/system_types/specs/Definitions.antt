@@ -28,9 +28,9 @@ abbrev pub is_control : Macro → Bool
 is_control (Control qbytes logs) = true
 is_control _ = false
 
-abbrev pub is_end : Macro → Bool
-is_end End = true
-is_end _ = false
+abbrev pub is_end_macro : Macro → Bool
+is_end_macro End = true
+is_end_macro _ = false
 
 -- the first macro is IMSCTRL
 abbrev pub begins_well : List MacroLine → Bool
@@ -40,7 +40,7 @@ begins_well (line ∷ lines) = is_control line.content
 -- the last macro is END
 abbrev pub ends_well : List MacroLine → Bool
 ends_well [] = false
-ends_well (line ∷ []) = is_end line.content
+ends_well (line ∷ []) = is_end_macro line.content
 ends_well (line ∷ next ∷ lines) = ends_well (next ∷ lines)
 
 abbrev pub is_application : Macro → Bool

@@ -32,8 +32,8 @@ abbrev pub has_program_name : List ℕ → SystemProgram → Bool
 has_program_name name program = bytes_eq program.psb name
 
 -- each item's name is one
-abbrev pub AreNamed : {X : Type 0} → (X → List ℕ) → List X → Type 0
-AreNamed name_of items = AllByRecursion (λ item. IsName (name_of item)) items
+abbrev pub AreItemsNamed : {X : Type 0} → (X → List ℕ) → List X → Type 0
+AreItemsNamed name_of items = AllByRecursion (λ item. IsName (name_of item)) items
 
 -- the place of a code's program, or how many there are where it has none
 abbrev pub program_place : List SystemProgram → Code → ℕ

@@ -1,5 +1,5 @@
 pub mod Calls
-pub mod Valid
+pub mod ValidSystem
 pub mod Indexes
 pub mod Parts
 pub mod Jobs

@@ -49,14 +49,6 @@ impl Codes {
         &self.items
     }
 
-    /// The place of a code, or None exactly where it isn't one.
-    pub fn place_of(&self, code: &Name) -> Option<usize>
-        ensures value { result ≡ position (spec.is_state_of code.now) self.now }
-        ensures within { IfSome result (λ place. place < length self.now) }
-    {
-        place_of(&self.items, code)
-    }
-
     /// Makes the limit priority count, or the normal one.
     pub fn set_raised(&mut self, place: usize, raised: bool)
         requires { place < length self.old }

@@ -1,8 +1,8 @@
 //! The formats of terminals.
 ghost use Rattle.std.specs.Prelude.{◌≡◌, All, IfSome};
 ghost use Rattle.std.specs.Option.{option_copied};
-ghost use Rattle.model_system.specs.Breaks.{KeepsRule};
-ghost use Rattle.model_system.specs.ModelSystemFormats as spec;
+ghost use Rattle.model_system.specs.FormatRule.{KeepsRule};
+ghost use Rattle.model_system.specs.SystemFormats as spec;
 
 use model_system::{Format, Screen, SystemFormat};
 use tm_types::Name;

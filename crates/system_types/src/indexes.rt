@@ -3,7 +3,7 @@ ghost use Rattle.std.specs.Prelude.{◌≡◌, ◌<◌, ℕ, List, Some, None, I
 ghost use Rattle.std.specs.Option.{option_and_then, option_copied, option_map_or, option_or};
 ghost use Rattle.std.specs.Str.{bytes_eq};
 ghost use Rattle.tm_types.specs.Name.{IsName};
-ghost use Rattle.system_types.specs.Indexes.{AreNamed, IsIndex, has_code_name, has_program_name, has_terminal_name, place_in, program_place};
+ghost use Rattle.system_types.specs.Indexes.{AreItemsNamed, IsIndex, has_code_name, has_program_name, has_terminal_name, place_in, program_place};
 
 use model_system::{Code, SystemProgram};
 use std::alloc::{AllocError, Global};
@@ -16,7 +16,7 @@ pub(crate) fn codes_by_name(
     codes: &[Code],
 ) -> Result<BTreeMap<Name, usize>, AllocError>
     ensures index { IfOk result (λ index. IsIndex has_code_name index codes.now) }
-    ensures named { OnOk result (AreNamed (λ code. code.transaction.code) codes.now) }
+    ensures named { OnOk result (AreItemsNamed (λ code. code.transaction.code) codes.now) }
 {
     let mut index = BTreeMap::new(alloc);
     for (place, code) in codes.iter().enumerate() {
@@ -31,7 +31,7 @@ pub(crate) fn terminals_by_name(
     terminals: &[Name],
 ) -> Result<BTreeMap<Name, usize>, AllocError>
     ensures index { IfOk result (λ index. IsIndex has_terminal_name index terminals.now) }
-    ensures named { OnOk result (AreNamed (λ name. name) terminals.now) }
+    ensures named { OnOk result (AreItemsNamed (λ name. name) terminals.now) }
 {
     let mut index = BTreeMap::new(alloc);
     for (place, terminal) in terminals.iter().enumerate() {

@@ -5,12 +5,12 @@ ghost use Rattle.std.specs.Option.{option_copied, option_map};
 ghost use Rattle.std.specs.Str.{bytes_eq};
 ghost use Rattle.tm_types.specs.Name.{IsName};
 ghost use Rattle.model_system.specs.Codes.{code_at, code_place};
-ghost use Rattle.model_system.specs.Breaks.{KeepsRule};
-ghost use Rattle.model_system.specs.ModelSystemFormats.{format_of};
+ghost use Rattle.model_system.specs.FormatRule.{KeepsRule};
+ghost use Rattle.model_system.specs.SystemFormats.{format_of};
 ghost use Rattle.model_system.specs.Jobs.{job_of};
-ghost use Rattle.system_types.specs.Parts.{parts_of};
+ghost use Rattle.system_types.specs.Parts.{system_of_parts};
 ghost use Rattle.system_types.specs.Jobs.{lent_job};
-ghost use Rattle.system_types.specs.Valid.{IsPadLength, IsSentTo, IsServable, IsSystem};
+ghost use Rattle.system_types.specs.ValidSystem.{IsPadLength, IsSentTo, IsServable, IsSystem};
 
 use crate::Job;
 use crate::formats::{format_name, format_named};
@@ -52,22 +52,22 @@ pub struct System {
 impl Model for System {
     ghost use Rattle.std.specs.Prelude.{◌≡◌, map};
     ghost use Rattle.model_system.specs.System as model;
-    ghost use Rattle.system_types.specs.Indexes.{AreNamed, IsIndex, has_code_name, has_terminal_name, program_place};
-    ghost use Rattle.system_types.specs.Parts.{parts_of};
-    ghost use Rattle.system_types.specs.Valid.{IsSystem};
+    ghost use Rattle.system_types.specs.Indexes.{AreItemsNamed, IsIndex, has_code_name, has_terminal_name, program_place};
+    ghost use Rattle.system_types.specs.Parts.{system_of_parts};
+    ghost use Rattle.system_types.specs.ValidSystem.{IsSystem};
 
     ghost Value = { model.System };
 
-    ghost view = { λ s. parts_of s.parts };
+    ghost view = { λ s. system_of_parts s.parts };
 
-    ghost invariant = { λ s. IsSystem (parts_of s.parts) × IsIndex has_code_name s.codes_by_name s.parts.codes.items × IsIndex has_terminal_name s.terminals_by_name s.parts.terminals.items × (s.program_places.items ≡ map (program_place s.parts.programs.items) s.parts.codes.items) × AreNamed (λ code. code.transaction.code) s.parts.codes.items × AreNamed (λ name. name) s.parts.terminals.items };
+    ghost invariant = { λ s. IsSystem (system_of_parts s.parts) × IsIndex has_code_name s.codes_by_name s.parts.codes.items × IsIndex has_terminal_name s.terminals_by_name s.parts.terminals.items × (s.program_places.items ≡ map (program_place s.parts.programs.items) s.parts.codes.items) × AreItemsNamed (λ code. code.transaction.code) s.parts.codes.items × AreItemsNamed (λ name. name) s.parts.terminals.items };
 }
 
 impl System {
     /// The system of these parts.
     pub fn new(alloc: Global, parts: SystemParts) -> Result<System, AllocError>
-        requires { IsSystem (parts_of parts) }
-        ensures { IfOk result (λ system. system ≡ parts_of parts) }
+        requires { IsSystem (system_of_parts parts) }
+        ensures { IfOk result (λ system. system ≡ system_of_parts parts) }
     {
         let codes_by_name = codes_by_name(alloc, &parts.codes)?;
         let terminals_by_name = terminals_by_name(alloc, &parts.terminals)?;

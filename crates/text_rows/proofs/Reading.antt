@@ -1,9 +1,9 @@
 -- Lines that are read one after another.
 use Rattle.std.proofs.Common.{ℕ, ◌≡◌, ◌+◌, suc, ◌<◌, List, [], ◌∷◌, ◌++◌, length, drop, get_or, Result, Ok, Err, refl, ap, append_assoc, sym, drop-cons, add-one, ◌∙◌}
-use Rattle.text_rows.specs.Refusals.{behind, then_lines}
+use Rattle.text_rows.specs.Refusals.{values_behind, then_lines}
 
 -- a value that was read goes behind those before it
-pub behind_then : {A : Type 0} → (items : List A) (item : A) (rest : Result (List A) (ℕ × ℕ)) → behind items (then_lines (Ok item) rest) ≡ behind (items ++ item ∷ []) rest
+pub behind_then : {A : Type 0} → (items : List A) (item : A) (rest : Result (List A) (ℕ × ℕ)) → values_behind items (then_lines (Ok item) rest) ≡ values_behind (items ++ item ∷ []) rest
 behind_then items item (Ok more) = ap Ok (sym (append_assoc items (item ∷ []) more))
 behind_then items item (Err fault) = refl
 

@@ -1,5 +1,5 @@
 pub mod Pieces
-pub mod Lowest
+pub mod LowestRule
 pub mod Numbers
 pub mod Lines
 pub mod Operands

@@ -10,18 +10,18 @@ elements [] = []
 elements (byte ∷ bytes) = pieces Element (byte ∷ bytes)
 
 -- nothing stands behind the closing bracket
-abbrev pub closed : Option (List ℕ × List ℕ) → Result (List (List ℕ)) ℕ
-closed (Some (inside, [])) = Ok (elements inside)
-closed (Some (inside, byte ∷ bytes)) = Err 8
-closed None = Err 8
+abbrev pub list_closed : Option (List ℕ × List ℕ) → Result (List (List ℕ)) ℕ
+list_closed (Some (inside, [])) = Ok (elements inside)
+list_closed (Some (inside, byte ∷ bytes)) = Err 8
+list_closed None = Err 8
 
-abbrev pub opened : List ℕ → Result (List (List ℕ)) ℕ
-opened [] = Err 8
-opened (byte ∷ bytes) = if byte == 40 then closed (split_at 41 bytes) else Err 8
+abbrev pub list_opened : List ℕ → Result (List (List ℕ)) ℕ
+list_opened [] = Err 8
+list_opened (byte ∷ bytes) = if byte == 40 then list_closed (split_at 41 bytes) else Err 8
 
 -- the elements of a list: rule 8 where the text is none
 unfoldable pub list_of : List ℕ → Result (List (List ℕ)) ℕ
-list_of text = opened text
+list_of text = list_opened text
 
 -- Rule 8 also where the list has another number of elements.
 abbrev pub as_two : Result (List (List ℕ)) ℕ → Result (List ℕ × List ℕ) ℕ

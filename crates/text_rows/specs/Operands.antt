@@ -59,13 +59,13 @@ unfoldable pub or_as : {A : Type 0} → List ℕ → (List ℕ → Result A ℕ)
 or_as key read default operands = read_or (Ok default) read (only (values key operands))
 
 -- an operand with a key stands there, be it once or twice
-abbrev pub is_there : Result (Option (List ℕ)) ℕ → Bool
-is_there (Ok None) = false
-is_there (Ok (Some value)) = true
-is_there (Err rule) = true
+abbrev pub is_operand_there : Result (Option (List ℕ)) ℕ → Bool
+is_operand_there (Ok None) = false
+is_operand_there (Ok (Some value)) = true
+is_operand_there (Err rule) = true
 
 abbrev pub stands : List ℕ → List (List ℕ) → Bool
-stands key operands = is_there (only (values key operands))
+stands key operands = is_operand_there (only (values key operands))
 
 abbrev pub is_among : List (List ℕ) → Option (List ℕ × List ℕ) → Bool
 is_among keys None = false

@@ -5,10 +5,10 @@ use Rattle.text_rows.specs.declared.refused.LineRefused.TheVariants.{BadLine, Me
 
 -- The answer is the value that the text spells, or the line and the rule that it breaks first,
 -- unless memory ran out.
-abbrev pub Answers : {X : Type 0} → Result X LineRefused → Result X (ℕ × ℕ) → Type 0
-Answers (Ok value) read = read ≡ Ok value
-Answers (Err (BadLine line rule)) read = read ≡ Err (line, rule)
-Answers (Err Memory) read = Unit {0}
+abbrev pub AnswersLines : {X : Type 0} → Result X LineRefused → Result X (ℕ × ℕ) → Type 0
+AnswersLines (Ok value) read = read ≡ Ok value
+AnswersLines (Err (BadLine line rule)) read = read ≡ Err (line, rule)
+AnswersLines (Err Memory) read = Unit {0}
 
 -- the rule is broken in this line
 abbrev pub at_line : {A : Type 0} → ℕ → Result A ℕ → Result A (ℕ × ℕ)
@@ -23,6 +23,6 @@ then_lines (Ok value) (Err fault) = Err fault
 then_lines (Err fault) rest = Err fault
 
 -- values, and behind them those that are still to be read
-abbrev pub behind : {A : Type 0} → List A → Result (List A) (ℕ × ℕ) → Result (List A) (ℕ × ℕ)
-behind values (Ok more) = Ok (values ++ more)
-behind values (Err fault) = Err fault
+abbrev pub values_behind : {A : Type 0} → List A → Result (List A) (ℕ × ℕ) → Result (List A) (ℕ × ℕ)
+values_behind values (Ok more) = Ok (values ++ more)
+values_behind values (Err fault) = Err fault

@@ -1,9 +1,9 @@
 //! Of several rules that are broken the lowest is told.
 ghost use Rattle.std.specs.Prelude.{◌≡◌, Ok, IfOk, OnOk, IsOk};
-ghost use Rattle.text_rows.specs.Lowest as lowest;
+ghost use Rattle.text_rows.specs.LowestRule as lowest;
 
 /// Both values, or the lowest rule that one of them breaks.
-#[tactic(auto, unfolding(crate::specs::Lowest::both))]
+#[tactic(auto, unfolding(crate::specs::LowestRule::both))]
 pub fn both<A: Drop, B: Drop>(first: Result<A, u8>, second: Result<B, u8>) -> Result<(A, B), u8>
     ensures value { result ≡ lowest.both first second }
     ensures first { IfOk result (λ values. first ≡ Ok values.0) }
@@ -17,7 +17,7 @@ pub fn both<A: Drop, B: Drop>(first: Result<A, u8>, second: Result<B, u8>) -> Re
 }
 
 /// The value, or the lowest rule that it or something besides breaks.
-#[tactic(auto, unfolding(crate::specs::Lowest::also))]
+#[tactic(auto, unfolding(crate::specs::LowestRule::also))]
 pub fn also<A: Drop, B: Drop>(value: Result<A, u8>, besides: Result<B, u8>) -> Result<A, u8>
     ensures value { result ≡ lowest.also value besides }
     ensures kept { IfOk result (λ kept. value ≡ Ok kept) }

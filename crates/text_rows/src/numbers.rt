@@ -32,10 +32,7 @@ pub fn byte_between(low: u8, high: u8, text: &[u8]) -> Result<u8, u8>
     ensures value { result ≡ spec.number_between low high text.now }
     ensures within { IfOk result (λ number. (low ≤ number) × (number ≤ high)) }
 {
-    match number_between(u32::from(low), u32::from(high), text) {
-        Ok(number) => Ok(number as u8),
-        Err(rule) => Err(rule),
-    }
+    Ok(number_between(u32::from(low), u32::from(high), text)? as u8)
 }
 
 fn is_number(text: &[u8]) -> bool

@@ -21,16 +21,16 @@ use Rattle.model_machine.specs.declared.entry.Taken.{Taken}
 use Rattle.model_machine.specs.declared.entry.Turned.{Turned}
 use Rattle.model_machine.specs.Machine.{LastingState, Moment, start_of}
 use Rattle.model_machine.specs.History.{AscendAbove, IsLegal, is_fault, moment_after}
-use Rattle.deadlock_pick.specs.Broken.{HasNoCycles}
-use Rattle.logged_machine.specs.Logged.{LoggedState}
+use Rattle.deadlock_pick.specs.NoCycles.{HasNoCycles}
+use Rattle.logged_machine.specs.LoggedState.{LoggedState}
 use Rattle.openings.specs.Faults.{fault_in}
-use Rattle.tm_control.specs.OnDisk.{lasting_after}
-use Rattle.tm_control.specs.Inside.{HoldsBy}
+use Rattle.tm_control.specs.ControlOnDisk.{lasting_after_entries}
+use Rattle.tm_control.specs.ControlParts.{HoldsBy}
 use Rattle.tm_control.proofs.Rings.{no_ring}
 
 -- ---- an entry with a fault
 
-none_some : {A : Type 0} (x : A) → None ≡ Some x → ⊥
+pub none_some : {A : Type 0} (x : A) → None ≡ Some x → ⊥
 none_some x e = cc
 
 accept_faulted : (terminal : List ℕ) (number : ℕ) (segments : List (List ℕ)) (answer : Result Taken InputRefused) (fault : ControlFault) → fault_in (Accept terminal number segments answer) ≡ Some fault → is_fault (Accept terminal number segments answer) ≡ true
@@ -79,7 +79,7 @@ faulted (Checked freeze answer) fault e = checked_faulted freeze answer fault e
 
 pub record IsEnded (system : System) (opening : LastingState) (history : List Entry) (kept : ℕ) : Type 0 where
   pub legal : IsLegal system (start_of system opening) history
-  pub count : opening.steps + kept ≡ (lasting_after system opening legal.steps).steps
+  pub count : opening.steps + kept ≡ (lasting_after_entries system opening legal.steps).steps
   pub numbers : AscendAbove 0 history
   pub rings : HasNoCycles (moment_after system (start_of system opening) legal.steps).enqueues
 
@@ -88,7 +88,7 @@ pub ended : {D : Type 0} (state : D → DiskState) (machine : LoggedState D) (op
 ended state machine opening history steps kept true h is = record {
   legal = record { steps = history; last = None; all = refl; legal = h.legal; end = tt };
   count =
-      let same : steps ≡ (lasting_after machine.machine.system opening history).steps = h.count ∙ ap (λ (m : Moment). m.lasting.steps) (sym h.moment) in
+      let same : steps ≡ (lasting_after_entries machine.machine.system opening history).steps = h.count ∙ ap (λ (m : Moment). m.lasting.steps) (sym h.moment) in
       omega (arith, is, h.more, same);
   numbers = h.ascend;
   rings = no_ring machine.machine.system opening history h.legal;

@@ -6,15 +6,15 @@ use Rattle.model_machine.specs.Machine.{LastingState}
 use Rattle.log_writer.specs.Writer.{Writer}
 use Rattle.restart_data.specs.declared.restart.RestartSector.{RestartSector}
 use Rattle.checkpointing.specs.Counts.{CountsUpTo}
-use Rattle.disk_law.specs.Counted.{StandsUpTo}
-use Rattle.disk_law.specs.Journal.{JournalState}
-use Rattle.openings.specs.Opening.{IsBegun, IsColdImage, IsReopened}
+use Rattle.disk_law.specs.UnitCounts.{StandsUpTo}
+use Rattle.disk_law.specs.JournalState.{JournalState}
+use Rattle.openings.specs.OpenedImage.{IsBegunCold, IsColdImage, IsReopened}
 use Rattle.openings.specs.declared.how.How.{How}
 use Rattle.openings.specs.declared.how.How.TheVariants.{Found, Cold}
-use Rattle.openings.specs.Opened.{Begins}
+use Rattle.openings.specs.LifeBeginning.{BeginsLife}
 
-module _ (how : How) (system : System) (text : List ℕ) (disk : DiskState) (opening : LastingState) (journal : JournalState) (next : ℕ) (b : Begins how system text disk opening journal.restart journal.log next) (high : ℕ) where
-  begun : IsBegun system b.parts opening → StandsUpTo (high + 1) journal next
+module _ (how : How) (system : System) (text : List ℕ) (disk : DiskState) (opening : LastingState) (journal : JournalState) (next : ℕ) (b : BeginsLife how system text disk opening journal.restart journal.log next) (high : ℕ) where
+  begun : IsBegunCold system b.parts opening → StandsUpTo (high + 1) journal next
   begun is = record {
     epoch = omega (arith, ap (λ (r : RestartSector). r.epoch) b.restart_is, is.first.epoch);
     sequence = omega (arith, ap (λ (w : Writer). w.sequence + w.place) b.log_is, is.first.sequence);

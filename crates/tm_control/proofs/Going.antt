@@ -1,7 +1,6 @@
 -- A call of a control region, by what it leaves of its machine.
 use Rattle.std.proofs.Common.{◌≡◌, ◌≤◌, ◌+◌, ◌*◌, ℕ, Bool, true, false, List, [], ◌∷◌, ◌++◌, refl, sym, ◌∙◌, ap, subst, arith}
 use Rattle.std.specs.Prelude.{Option, Some, None, Result, Ok, Err, IfErr, if◌then◌else◌}
-use Rattle.std.specs.Option.{option_map_or}
 use Rattle.tm_disk.specs.Disk.{Image, DiskState, IsDisk}
 use Rattle.model_system.specs.System.{System}
 use Rattle.model_machine.specs.declared.entry.CheckpointRefused.{CheckpointRefused}
@@ -11,28 +10,27 @@ use Rattle.model_machine.specs.declared.entry.Entry.TheVariants.{Checked}
 use Rattle.model_machine.specs.declared.entry.ControlFault.{ControlFault}
 use Rattle.model_machine.specs.declared.entry.ControlFault.TheVariants.{Memory, Disk, Spent}
 use Rattle.model_machine.specs.Machine.{LastingState, Moment, start_of}
-use Rattle.model_machine.specs.Lasting.{LastingStep, applied}
-use Rattle.model_machine.specs.Steps.{lasting_step}
 use Rattle.model_machine.specs.History.{after_entry, call_of, moment_after, AscendAbove, IsCall, May, AreSteps}
 use Rattle.model_machine.proofs.Histories.{moment_after-append, AreSteps-append}
 use Rattle.tm_machine.specs.Answers.{IsAnswered}
-use Rattle.tm_machine.specs.OnSlots.{HasSlots}
-use Rattle.model_image.specs.Recovered.{Recovers}
-use Rattle.disk_law.specs.Kept.{RecoversEither}
-use Rattle.checkpointing.specs.Texts.{HasText}
+use Rattle.tm_machine.specs.SlotChanges.{HasSlots}
+use Rattle.model_image.specs.RecoveredState.{Recovers}
+use Rattle.disk_law.specs.KeptImages.{RecoversEither}
+use Rattle.checkpointing.specs.DefinitionText.{HasText}
 use Rattle.checkpointing.proofs.Counted.{up_to_more}
-use Rattle.disk_law.specs.Journal.{JournalState}
-use Rattle.logged_machine.specs.Logged.{LoggedState, LastsNow}
-use Rattle.logged_machine.specs.Goes.{Keeps, Failed, GoesBy, CrashesBy, ActsOn}
+use Rattle.disk_law.specs.JournalState.{JournalState}
+use Rattle.logged_machine.specs.LoggedState.{LoggedState, LastsNow}
+use Rattle.logged_machine.specs.CallOutcome.{KeepsMachine, Failed, MachineGoesBy, CrashesBy, ActsOn}
 use Rattle.openings.specs.Faults.{fault_in}
-use Rattle.tm_control.specs.OnDisk.{ControlOnDisk, IsDown, Lasts, LastsBy, lasting_after}
+use Rattle.tm_control.specs.ControlOnDisk.{ControlOnDisk, IsControlDown, Lasts, LastsBy, lasting_after_entries}
 use Rattle.model_machine.specs.declared.entry.ControlCall.{ControlCall}
 use Rattle.tm_machine.specs.Parts.{PartsState}
-use Rattle.logged_machine.specs.Frugal.{IsFrugal}
-use Rattle.logged_machine.specs.Taken.{StaysUntaken}
-use Rattle.tm_control.specs.Calls.{StaysSo, CountsSince, StaysUndone, StaysUntaken as Untaken, AddsBy, CrashesSo, CrashesAlone, is_noted, noted, parts_now}
-use Rattle.tm_control.specs.Inside.{IsServed, Holds, HoldsBy, last_checked}
+use Rattle.logged_machine.specs.CheckpointDue.{TakesCheckpointWhereDue}
+use Rattle.logged_machine.specs.TakenCheckpoint.{StaysUntaken}
+use Rattle.tm_control.specs.ControlCalls.{StaysSo, ControlCountsSince, StaysUndone, ControlStaysUntaken as Untaken, AddsBy, CrashesSo, ControlCrashesAlone, is_noted, noted, parts_now}
+use Rattle.tm_control.specs.ControlParts.{IsControlServed, HoldsControl, HoldsBy, last_checked}
 use Rattle.tm_control.proofs.Numbers.{ascend_more, last_more, Numbers, Next, next_number, fault_ascends}
+use Rattle.model_machine.proofs.Rising.{steps_rise}
 
 -- a control region by its parts
 abbrev pub seen : {D : Type 0} → LoggedState D → LastingState → List Entry → ℕ → ℕ → ControlOnDisk D
@@ -53,18 +51,18 @@ seen machine opening history room began = record {
 abbrev with_moment : PartsState → Moment → PartsState
 with_moment parts moment = record { system = parts.system; moment = moment; databases = parts.databases }
 
-parts_are : {D : Type 0} (machine : LoggedState D) (opening : LastingState) (history : List Entry) (room began steps : ℕ) → IsServed machine opening history steps → parts_now (seen machine opening history room began) ≡ machine.machine
+parts_are : {D : Type 0} (machine : LoggedState D) (opening : LastingState) (history : List Entry) (room began steps : ℕ) → IsControlServed machine opening history steps → parts_now (seen machine opening history room began) ≡ machine.machine
 parts_are machine opening history room began steps h = ap (with_moment machine.machine) h.moment
 
 -- so what its calls write is what those of the machine do
-pub frugal_too : {D : Type 0} (state : D → DiskState) (machine : LoggedState D) (opening : LastingState) (history : List Entry) (room began steps : ℕ) → IsServed machine opening history steps
-    → (fault : Option ControlFault) (call : ControlCall) (journal : JournalState) (disk : D) → IsFrugal state fault machine.machine machine.units call machine.journal journal machine.disk disk
-    → IsFrugal state fault (parts_now (seen machine opening history room began)) machine.units call machine.journal journal machine.disk disk
+pub frugal_too : {D : Type 0} (state : D → DiskState) (machine : LoggedState D) (opening : LastingState) (history : List Entry) (room began steps : ℕ) → IsControlServed machine opening history steps
+    → (fault : Option ControlFault) (call : ControlCall) (journal : JournalState) (disk : D) → TakesCheckpointWhereDue state fault machine.machine machine.units call machine.journal journal machine.disk disk
+    → TakesCheckpointWhereDue state fault (parts_now (seen machine opening history room began)) machine.units call machine.journal journal machine.disk disk
 frugal_too state machine opening history room began steps h fault call journal disk =
-    subst (λ (p : PartsState). IsFrugal state fault p machine.units call machine.journal journal machine.disk disk) (sym (parts_are machine opening history room began steps h))
+    subst (λ (p : PartsState). TakesCheckpointWhereDue state fault p machine.units call machine.journal journal machine.disk disk) (sym (parts_are machine opening history room began steps h))
 
 -- and what holds of its slots does here
-pub slots_too : {D : Type 0} (machine : LoggedState D) (opening : LastingState) (history : List Entry) (room began steps : ℕ) → IsServed machine opening history steps → HasSlots machine.machine
+pub slots_too : {D : Type 0} (machine : LoggedState D) (opening : LastingState) (history : List Entry) (room began steps : ℕ) → IsControlServed machine opening history steps → HasSlots machine.machine
     → HasSlots (parts_now (seen machine opening history room began))
 slots_too machine opening history room began steps h = subst HasSlots (sym (parts_are machine opening history room began steps h))
 
@@ -83,17 +81,10 @@ lasts_open state machine opening history room began none moment served lasts =
 
 -- ---- lasting steps are counted on
 
-rises : (lasting : LastingState) (step : Option LastingStep) → lasting.steps ≤ (option_map_or (λ s. applied s lasting) step lasting).steps
-rises lasting None = omega arith
-rises lasting (Some step) = omega arith
-
-steps_rise : (system : System) (moment : Moment) (entry : Entry) → moment.lasting.steps ≤ (after_entry system moment entry).lasting.steps
-steps_rise system moment entry = rises moment.lasting (lasting_step system moment (call_of entry))
-
 -- what lasts with an entry more
 pub lasting_with : (system : System) (opening : LastingState) (before : List Entry) (entry : Entry) (moment : Moment)
     → moment_after system (start_of system opening) before ≡ moment
-    → lasting_after system opening (before ++ entry ∷ []) ≡ (after_entry system moment entry).lasting
+    → lasting_after_entries system opening (before ++ entry ∷ []) ≡ (after_entry system moment entry).lasting
 lasting_with system opening before entry moment here =
     ap (λ (m : Moment). m.lasting) (moment_after-append system (start_of system opening) before entry)
     ∙ ap (λ (m : Moment). (after_entry system m entry).lasting) here
@@ -101,9 +92,9 @@ lasting_with system opening before entry moment here =
 -- ---- the machine went on
 
 pub served_next : {D : Type 0} (old new : LoggedState D) (opening : LastingState) (before after : List Entry) (entry : Entry) (steps steps' : ℕ)
-    → IsServed old opening before steps → after ≡ before ++ entry ∷ [] → IsAnswered old.machine new.machine entry → steps' ≡ new.machine.moment.lasting.steps
+    → IsControlServed old opening before steps → after ≡ before ++ entry ∷ [] → IsAnswered old.machine new.machine entry → steps' ≡ new.machine.moment.lasting.steps
     → Next entry (last_checked 0 before) new.journal.restart.checkpoint
-    → IsServed new opening after steps'
+    → IsControlServed new opening after steps'
 served_next old new opening before after entry steps steps' h longer answered count number = record {
   moment =
       ap (λ s. moment_after s (start_of s opening) after) answered.system ∙ ap (moment_after old.machine.system (start_of old.machine.system opening)) longer
@@ -129,9 +120,9 @@ served_next old new opening before after entry steps steps' h longer answered co
 -- what a call of the machine left
 pub record Went {D : Type 0} (state : D → DiskState) (old new : LoggedState D) (opening : LastingState) (before : List Entry) (steps : ℕ) (entry : Entry) : Type 0 where
   pub served : old.served ≡ true
-  pub holds : IsServed old opening before steps
+  pub holds : IsControlServed old opening before steps
   pub call : IsCall old.machine.system (call_of entry)
-  pub keeps : Keeps state old new
+  pub keeps : KeepsMachine state old new
   pub lasts : LastsNow state new
   pub disk : IsDisk (state new.disk)
   pub numbers : new.served ≡ true → Numbers entry old.journal.restart.checkpoint new.journal.restart.checkpoint
@@ -157,7 +148,7 @@ module _ {D : Type 0} (state : D → DiskState) (old new : LoggedState D) (openi
   stay = record { system = went.keeps.system; opening = refl; text = went.keeps.text; began = refl; disk = went.keeps.disk; later = went.keeps.later }
 
   -- while it is served what lasts is on each image
-  lasts_up : new.served ≡ true → IsServed new opening after steps' → Lasts state is
+  lasts_up : new.served ≡ true → IsControlServed new opening after steps' → Lasts state is
   lasts_up served here =
       subst (λ (b : Bool). LastsBy b is.control new.text (state new.disk)) (sym served)
       (record {
@@ -172,14 +163,14 @@ module _ {D : Type 0} (state : D → DiskState) (old new : LoggedState D) (openi
   counted : new.served ≡ true → steps' ≡ new.machine.moment.lasting.steps
   counted served = count ∙ ap (λ (b : Bool). if b then new.machine.moment.lasting.steps else steps) served
 
-  kept_up : new.served ≡ true → IsServed new opening after steps' → Holds state new opening after steps'
+  kept_up : new.served ≡ true → IsControlServed new opening after steps' → HoldsControl state new opening after steps'
   kept_up served here = subst (λ (b : Bool). HoldsBy b state new opening after steps') (sym served) here
 
   -- one state or another, by what lasts before and with the entry
   either : (image : Image) → RecoversEither old.machine.system old.machine.moment.lasting (after_entry old.machine.system old.machine.moment entry).lasting image
-      → RecoversEither old.machine.system (moment_after old.machine.system (start_of old.machine.system opening) before).lasting (lasting_after old.machine.system opening (before ++ entry ∷ [])) image
+      → RecoversEither old.machine.system (moment_after old.machine.system (start_of old.machine.system opening) before).lasting (lasting_after_entries old.machine.system opening (before ++ entry ∷ [])) image
   either image both =
-      subst (λ (m : Moment). RecoversEither old.machine.system m.lasting (lasting_after old.machine.system opening (before ++ entry ∷ [])) image) (sym went.holds.moment)
+      subst (λ (m : Moment). RecoversEither old.machine.system m.lasting (lasting_after_entries old.machine.system opening (before ++ entry ∷ [])) image) (sym went.holds.moment)
       (subst (λ (s : LastingState). RecoversEither old.machine.system old.machine.moment.lasting s image)
       (sym (lasting_with old.machine.system opening before entry old.machine.moment went.holds.moment)) both)
 
@@ -188,7 +179,7 @@ module _ {D : Type 0} (state : D → DiskState) (old new : LoggedState D) (openi
   alone image one = subst (λ (m : Moment). Recovers old.machine.system image (Ok m.lasting)) (sym went.holds.moment) one
 
   -- the disk failed
-  broken : fault_in entry ≡ Some Disk → Failed state old new → CrashesBy state (Some Disk) old new entry → after ≡ before ++ entry ∷ [] → IsDown is.control new.text (state new.disk)
+  broken : fault_in entry ≡ Some Disk → Failed state old new → CrashesBy state (Some Disk) old new entry → after ≡ before ++ entry ∷ [] → IsControlDown is.control new.text (state new.disk)
   broken fault failed crash longer = record {
     before = before;
     entry = entry;
@@ -197,17 +188,17 @@ module _ {D : Type 0} (state : D → DiskState) (old new : LoggedState D) (openi
     call = subst (λ (s : System). IsCall s (call_of entry)) (sym went.keeps.system) went.call;
     fault = fault;
     images = λ image left.
-        subst (λ (h : List Entry). RecoversEither new.machine.system (lasting_after new.machine.system opening before) (lasting_after new.machine.system opening h) image) (sym longer)
-        (subst (λ (s : System). RecoversEither s (lasting_after s opening before) (lasting_after s opening (before ++ entry ∷ [])) image) (sym went.keeps.system)
+        subst (λ (h : List Entry). RecoversEither new.machine.system (lasting_after_entries new.machine.system opening before) (lasting_after_entries new.machine.system opening h) image) (sym longer)
+        (subst (λ (s : System). RecoversEither s (lasting_after_entries s opening before) (lasting_after_entries s opening (before ++ entry ∷ [])) image) (sym went.keeps.system)
         (either image (crash image (went.disk.now_counts (state old.disk).clock image went.keeps.later left))));
     texts = λ image left. subst (λ (t : List ℕ). HasText new.machine.system t image) (sym went.keeps.text) (subst (λ (s : System). HasText s old.text image) (sym went.keeps.system) (failed.have_text image left));
   }
 
-  by : (fault : Option ControlFault) → fault_in entry ≡ fault → GoesBy state fault old new entry → CrashesBy state fault old new entry → after ≡ noted (is_noted fault) before entry
-      → Is state fault was is entry × Holds state new opening after steps'
+  by : (fault : Option ControlFault) → fault_in entry ≡ fault → MachineGoesBy state fault old new entry → CrashesBy state fault old new entry → after ≡ noted (is_noted fault) before entry
+      → Is state fault was is entry × HoldsControl state new opening after steps'
   unfolding broken
   by None f goes crash longer =
-      let here : IsServed new opening after steps' = served_next old new opening before after entry steps steps' went.holds longer goes.answered (counted goes.served) (number goes.served) in (
+      let here : IsControlServed new opening after steps' = served_next old new opening before after entry steps steps' went.holds longer goes.answered (counted goes.served) (number goes.served) in (
         record {
           adds = record {
             adds = record { system = went.keeps.system; opening = refl; history = longer; may = subst (λ m. May old.machine.system m entry) (sym went.holds.moment) goes.answered.may };
@@ -225,7 +216,7 @@ module _ {D : Type 0} (state : D → DiskState) (old new : LoggedState D) (openi
         kept_up goes.served here,
       )
   by (Some Disk) f goes crash longer =
-      let down : IsDown is.control new.text (state new.disk) = broken f goes crash longer in (
+      let down : IsControlDown is.control new.text (state new.disk) = broken f goes crash longer in (
         record {
           adds = record { history = longer; call = went.call; down = goes.served; failed = goes.failed };
           crash = λ image left. either image (crash image left);
@@ -245,7 +236,7 @@ module _ {D : Type 0} (state : D → DiskState) (old new : LoggedState D) (openi
               texts = down.texts;
               count =
                   count ∙ ap (λ (b : Bool). if b then new.machine.moment.lasting.steps else steps) goes.served
-                  ∙ went.holds.count ∙ ap (λ (m : Moment). m.lasting.steps) (sym went.holds.moment) ∙ ap (λ (s : System). (lasting_after s opening before).steps) (sym went.keeps.system);
+                  ∙ went.holds.count ∙ ap (λ (m : Moment). m.lasting.steps) (sym went.holds.moment) ∙ ap (λ (s : System). (lasting_after_entries s opening before).steps) (sym went.keeps.system);
               more =
                   let same : steps' ≡ steps = count ∙ ap (λ (b : Bool). if b then new.machine.moment.lasting.steps else steps) goes.served in
                   omega (arith, same, went.holds.more);
@@ -260,7 +251,7 @@ module _ {D : Type 0} (state : D → DiskState) (old new : LoggedState D) (openi
       let stands : moment_after new.machine.system (start_of new.machine.system opening) after ≡ new.machine.moment =
       ap (λ (s : System). moment_after s (start_of s opening) after) went.keeps.system
       ∙ ap (moment_after old.machine.system (start_of old.machine.system opening)) longer ∙ went.holds.moment ∙ sym moment in
-      let here : IsServed new opening after steps' = record {
+      let here : IsControlServed new opening after steps' = record {
         moment = stands;
         legal =
             subst (λ (s : System). AreSteps s (start_of s opening) after) (sym went.keeps.system)
@@ -289,14 +280,14 @@ module _ {D : Type 0} (state : D → DiskState) (old new : LoggedState D) (openi
       )
   by (Some (Spent counter)) f goes crash longer = absurd goes
 
-  pub called : GoesBy state (fault_in entry) old new entry → CrashesBy state (fault_in entry) old new entry → after ≡ noted (is_noted (fault_in entry)) before entry
-      → Is state (fault_in entry) was is entry × Holds state new opening after steps'
+  pub called : MachineGoesBy state (fault_in entry) old new entry → CrashesBy state (fault_in entry) old new entry → after ≡ noted (is_noted (fault_in entry)) before entry
+      → Is state (fault_in entry) was is entry × HoldsControl state new opening after steps'
   called goes crash longer = by (fault_in entry) refl goes crash longer
 
 -- ---- what always holds
 
 pub lasts_now : {D : Type 0} (state : D → DiskState) (machine : LoggedState D) (opening : LastingState) (history : List Entry) (room began steps : ℕ)
-    → Holds state machine opening history steps → LastsNow state machine → Lasts state (seen machine opening history room began)
+    → HoldsControl state machine opening history steps → LastsNow state machine → Lasts state (seen machine opening history room began)
 lasts_now {D} state machine opening history room began steps holds lasts = by machine.served refl holds
   where
     by : (b : Bool) → machine.served ≡ b → HoldsBy b state machine opening history steps → LastsBy b (seen machine opening history room began).control machine.text (state machine.disk)
@@ -319,10 +310,10 @@ lasts_now {D} state machine opening history room began steps holds lasts = by ma
 -- while it is served, by the machine alone
 pub served_holds : {D : Type 0} (state : D → DiskState) (old new : LoggedState D) (opening : LastingState) (history : List Entry) (steps : ℕ)
     → old.served ≡ true → new.served ≡ true → new.machine.system ≡ old.machine.system → new.machine.moment ≡ old.machine.moment → new.journal ≡ old.journal
-    → Holds state old opening history steps → Holds state new opening history steps
+    → HoldsControl state old opening history steps → HoldsControl state new opening history steps
 served_holds state old new opening history steps was is system moment journal holds =
     subst (λ (b : Bool). HoldsBy b state new opening history steps) (sym is)
-    (let h : IsServed old opening history steps = subst (λ (b : Bool). HoldsBy b state old opening history steps) was holds in
+    (let h : IsControlServed old opening history steps = subst (λ (b : Bool). HoldsBy b state old opening history steps) was holds in
     record {
       moment = ap (λ (s : System). moment_after s (start_of s opening) history) system ∙ h.moment ∙ sym moment;
       legal = subst (λ (s : System). AreSteps s (start_of s opening) history) (sym system) h.legal;
@@ -334,13 +325,13 @@ served_holds state old new opening history steps was is system moment journal ho
 
 -- and so it is served
 pub is_served : {D : Type 0} (state : D → DiskState) (machine : LoggedState D) (opening : LastingState) (history : List Entry) (steps : ℕ)
-    → machine.served ≡ true → Holds state machine opening history steps → IsServed machine opening history steps
+    → machine.served ≡ true → HoldsControl state machine opening history steps → IsControlServed machine opening history steps
 is_served state machine opening history steps served holds = subst (λ (b : Bool). HoldsBy b state machine opening history steps) served holds
 
 -- where nothing happened what a crash may leave is as before
 pub still : {D : Type 0} (state : D → DiskState) (machine : LoggedState D) (opening : LastingState) (history : List Entry) (room room' began steps : ℕ)
-    → machine.served ≡ true → Holds state machine opening history steps → LastsNow state machine → IsDisk (state machine.disk)
-    → CrashesAlone state (seen machine opening history room began) (seen machine opening history room' began)
+    → machine.served ≡ true → HoldsControl state machine opening history steps → LastsNow state machine → IsDisk (state machine.disk)
+    → ControlCrashesAlone state (seen machine opening history room began) (seen machine opening history room' began)
 still state machine opening history room room' began steps served holds lasts disk image left =
     subst (λ (m : Moment). Recovers machine.machine.system image (Ok m.lasting)) (sym (is_served state machine opening history steps served holds).moment)
     ((lasts served).recover image (disk.now_alone image left))
@@ -348,17 +339,17 @@ still state machine opening history room room' began steps served holds lasts di
 -- nor does it count further
 pub still_counts : {D : Type 0} (state : D → DiskState) (machine : LoggedState D) (opening : LastingState) (history : List Entry) (room room' began : ℕ)
     → machine.served ≡ true → LastsNow state machine → IsDisk (state machine.disk)
-    → CountsSince state (2 * machine.machine.system.logs) (seen machine opening history room began) (seen machine opening history room' began)
+    → ControlCountsSince state (2 * machine.machine.system.logs) (seen machine opening history room began) (seen machine opening history room' began)
 still_counts state machine opening history room room' began served lasts disk high stands image left =
     up_to_more machine.machine.system (high + machine.machine.system.logs) (high + 2 * machine.machine.system.logs) image (omega arith) ((lasts served).counts high stands image (disk.now_alone image left))
 
 -- the machine stands where it stood, and was asked
 pub shown_holds : {D : Type 0} (state : D → DiskState) (machine : LoggedState D) (opening : LastingState) (before after : List Entry) (entry : Entry) (steps : ℕ)
-    → machine.served ≡ true → Holds state machine opening before steps → after ≡ before ++ entry ∷ [] → IsAnswered machine.machine machine.machine entry
+    → machine.served ≡ true → HoldsControl state machine opening before steps → after ≡ before ++ entry ∷ [] → IsAnswered machine.machine machine.machine entry
     → Numbers entry machine.journal.restart.checkpoint machine.journal.restart.checkpoint
-    → Holds state machine opening after steps
+    → HoldsControl state machine opening after steps
 shown_holds state machine opening before after entry steps served holds longer answered numbers =
-    let h : IsServed machine opening before steps = is_served state machine opening before steps served holds in
+    let h : IsControlServed machine opening before steps = is_served state machine opening before steps served holds in
     subst (λ (b : Bool). HoldsBy b state machine opening after steps) (sym served) (served_next machine machine opening before after entry steps steps h longer answered h.count
     (next_number entry (last_checked 0 before) machine.journal.restart.checkpoint machine.journal.restart.checkpoint h.reached (omega arith) numbers))
 

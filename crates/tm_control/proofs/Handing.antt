@@ -4,16 +4,16 @@ use Rattle.tm_disk.specs.Disk.{DiskState}
 use Rattle.model_system.specs.System.{System}
 use Rattle.model_machine.specs.declared.entry.Entry.{Entry}
 use Rattle.model_machine.specs.Machine.{LastingState}
-use Rattle.logged_machine.specs.Logged.{LoggedState}
-use Rattle.tm_control.specs.Closed.{Closes}
-use Rattle.tm_control.specs.Inside.{Holds}
+use Rattle.logged_machine.specs.LoggedState.{LoggedState}
+use Rattle.tm_control.specs.ClosedControl.{Closes}
+use Rattle.tm_control.specs.ControlParts.{HoldsControl}
 use Rattle.openings.specs.declared.life.Life.{Life}
 use Rattle.tm_control.proofs.Closing.{IsEnded, ended}
 use Rattle.tm_control.proofs.Going.{seen}
 
 pub closes_now : {D : Type 0} (state : D → DiskState) (machine : LoggedState D) (opening : LastingState) (history : List Entry) (room began steps : ℕ)
     (disk : D) (life : Life) (system : System) (text : List ℕ) (faults : ℕ)
-    → Holds state machine opening history steps → disk ≡ machine.disk → system ≡ machine.machine.system → text ≡ machine.text → faults ≡ began
+    → HoldsControl state machine opening history steps → disk ≡ machine.disk → system ≡ machine.machine.system → text ≡ machine.text → faults ≡ began
     → life.opening ≡ opening → life.history ≡ history → life.kept ≡ steps - opening.steps
     → Closes (seen machine opening history room began) disk life system text faults
 closes_now state machine opening history room began steps disk life system text faults holds disk_is system_is text_is faults_are opening_is history_is kept_is =

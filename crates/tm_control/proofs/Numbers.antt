@@ -1,6 +1,6 @@
 -- The numbers of checkpoints, as entries are added.
 use Rattle.std.proofs.Common.{◌≡◌, ◌<◌, ◌≤◌, ℕ, Bool, List, [], ◌∷◌, ◌++◌, refl, arith}
-use Rattle.std.specs.Prelude.{⊤, Some, None, Result, Ok, Err, IfOk}
+use Rattle.std.specs.Prelude.{⊤, Some, Result, Ok, Err, IfOk}
 use Rattle.model_machine.specs.declared.entry.CheckpointRefused.{CheckpointRefused}
 use Rattle.model_machine.specs.declared.entry.ControlFault.{ControlFault}
 use Rattle.model_machine.specs.declared.entry.Entry.{Entry}
@@ -8,10 +8,11 @@ use Rattle.model_machine.specs.declared.entry.Entry.TheVariants.{Accept, Show, A
 use Rattle.model_machine.specs.History.{AscendAbove}
 use Rattle.tm_disk.specs.Disk.{DiskState}
 use Rattle.model_system.specs.System.{System}
-use Rattle.disk_law.specs.Journal.{JournalState}
+use Rattle.disk_law.specs.JournalState.{JournalState}
 use Rattle.openings.specs.Faults.{fault_in}
-use Rattle.logged_machine.specs.Taken.{IsTaken}
-use Rattle.tm_control.specs.Inside.{last_checked}
+use Rattle.logged_machine.specs.TakenCheckpoint.{IsTaken}
+use Rattle.tm_control.specs.ControlParts.{last_checked}
+use Rattle.tm_control.proofs.Closing.{none_some}
 
 pub ascend_more : (least : ℕ) (entries more : List Entry) → AscendAbove least entries → AscendAbove (last_checked least entries) more → AscendAbove least (entries ++ more)
 ascend_more least [] more before behind = behind
@@ -50,9 +51,6 @@ next_number (Show terminal answer) last before now a b h = record { ascend = tt;
 next_number (Acked terminal number answer) last before now a b h = record { ascend = tt; reached = omega (arith, a, b) }
 next_number (Turn region answer) last before now a b h = record { ascend = tt; reached = omega (arith, a, b) }
 next_number (Commanded command answer) last before now a b h = record { ascend = tt; reached = omega (arith, a, b) }
-
-none_some : {A : Type 0} (x : A) → None ≡ Some x → ⊥
-none_some x e = cc
 
 -- a fault tells no number
 pub fault_ascends : (entry : Entry) (fault : ControlFault) (last : ℕ) → fault_in entry ≡ Some fault → AscendAbove last (entry ∷ [])

@@ -18,19 +18,19 @@ use Rattle.model_machine.specs.declared.entry.ControlCall.TheVariants.{Input, Re
 use Rattle.model_machine.specs.declared.entry.Entry.{Entry}
 use Rattle.model_machine.specs.declared.entry.Turned.{Turned}
 use Rattle.model_machine.specs.declared.entry.Turned.TheVariants.{Scheduled, Called, Next, QC, Done, Abended, Idle, Held, Waits, Backed}
-use Rattle.model_machine.specs.Trial.{Reached, Trial, Advance, reached, trial_need}
+use Rattle.model_machine.specs.Trial.{Reached, Trial, Advance, pcb_reached, trial_need}
 use Rattle.model_machine.specs.Trial.Reached.{Messages, Rows, Nothing}
 use Rattle.model_machine.specs.Trial.WorkEnd.{Ends, Syncs, Abends}
 use Rattle.model_machine.specs.Trial.Advance.{Goes, Stops}
 use Rattle.model_machine.specs.Machine.{LastingState, Moment, Slot, slot_at, start_of}
-use Rattle.model_machine.specs.Lasting.{applied}
+use Rattle.model_machine.specs.LastingSteps.{applied}
 use Rattle.model_machine.specs.Pick.{Candidate}
-use Rattle.model_machine.specs.Work.{slot_trial}
-use Rattle.model_machine.specs.Requests.{BreaksAt, BreaksWhere, blocked_now, changes_now, request_for, requests_at, requests_by, requests_of, requests_on, slot_requests, table_after, table_by}
-use Rattle.model_machine.specs.Steps.{AtWork, blocked_answer, ending_step, enqueues_after, need_now, next_message, pick_now, schedule_answer, slot_answer, slot_work, sync_answer, turn_by, work_answer}
+use Rattle.model_machine.specs.WorkSoFar.{slot_trial}
+use Rattle.model_machine.specs.Requests.{BreaksRingsAt, BreaksWhere, blocked_now, changes_now, request_for, requests_at, requests_by, requests_of, requests_on, slot_requests, table_after, table_by}
+use Rattle.model_machine.specs.MachineCalls.{AtWork, blocked_answer, ending_step, enqueues_after, need_now, next_message, pick_now, schedule_answer, slot_answer, slot_work, sync_answer, turn_by, work_answer}
 use Rattle.model_machine.specs.History.{AreSteps, AreVictims, after_entry, call_of, moment_after, victims_in}
 use Rattle.pi_enqueue.proofs.Asking.{AreOf}
-use Rattle.deadlock_pick.specs.Broken.{HasNoCycles}
+use Rattle.deadlock_pick.specs.NoCycles.{HasNoCycles}
 use Rattle.deadlock_pick.proofs.Breaking.{broken_none, granted_none, released_none}
 
 -- ---- a region's requests are its own
@@ -44,7 +44,7 @@ own_at region (Rows target) d call = own_map region target.number _
 own_at region Nothing d call = tt
 
 own_by : (region : ℕ) (job : Job) (trial : Trial) (need : Need) → AreOf region (requests_by region job trial need)
-own_by region job trial (Call call) = own_at region (reached job.system.databases job.pcbs call.pcb) trial.databases call
+own_by region job trial (Call call) = own_at region (pcb_reached job.system.databases job.pcbs call.pcb) trial.databases call
 own_by region job trial Ended = tt
 own_by region job trial (Abend code) = tt
 
@@ -120,7 +120,7 @@ rings_slot system moment region victims slot breaks none = by (blocked_now syste
         subst HasNoCycles (sym (blocked_table blocked victims region (table_by system moment region (Some slot))))
         (broken_none (changes_now system moment) region (slot_requests system moment.lasting region slot) moment.enqueues victims own none h)
 
-rings_turn : (system : System) (moment : Moment) (region : ℕ) (victims : List Victim) (slot : Option Slot) → BreaksAt system moment region victims slot → slot_at moment region ≡ slot
+rings_turn : (system : System) (moment : Moment) (region : ℕ) (victims : List Victim) (slot : Option Slot) → BreaksRingsAt system moment region victims slot → slot_at moment region ≡ slot
     → HasNoCycles moment.enqueues → HasNoCycles (table_after (turn_by system moment region victims slot) region (table_by system moment region slot))
 rings_turn system moment region victims None breaks here none =
     rings_after (schedule_answer (pick_now system moment region) (need_now moment) system.qbytes) region moment.enqueues (scheduled_other (pick_now system moment region) (need_now moment) system.qbytes) none

@@ -5,8 +5,8 @@ use Rattle.std.proofs.lemmas.List.{length-append}
 use Rattle.model_machine.specs.declared.entry.ControlFault.{ControlFault}
 use Rattle.model_machine.specs.declared.entry.ControlFault.TheVariants.{Memory, Disk, Spent}
 use Rattle.model_machine.specs.declared.entry.Entry.{Entry}
-use Rattle.tm_control.specs.OnDisk.{ControlOnDisk}
-use Rattle.tm_control.specs.Calls.{SavesRoom, is_noted, noted}
+use Rattle.tm_control.specs.ControlOnDisk.{ControlOnDisk}
+use Rattle.tm_control.specs.ControlCalls.{SavesRoom, is_noted, noted}
 
 -- memory was held for so many entries, and now is for as many at least
 module _ {D : Type 0} (old new : ControlOnDisk D) (before after : List Entry) (count count' held held' : ℕ)

@@ -1,4 +1,4 @@
-pub mod OnDisk
-pub mod Calls
-pub mod Closed
-pub mod Inside
+pub mod ControlOnDisk
+pub mod ControlCalls
+pub mod ClosedControl
+pub mod ControlParts

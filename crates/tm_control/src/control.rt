@@ -2,24 +2,24 @@
 ghost use Rattle.std.specs.Prelude.{◌≡◌, ℕ, ◌+◌, ◌-◌, ◌*◌, ◌<◌, ◌≤◌, ◌↔◌, length, true, if◌then◌else◌, IfOk, IfErr, OnOk, OnErr, IsTrue};
 ghost use Rattle.std.specs.Borrow.{sem};
 ghost use Rattle.std.specs.Io.BufRead.{Rests};
-ghost use Rattle.disk_law.specs.Counted.{StandsUpTo};
+ghost use Rattle.disk_law.specs.UnitCounts.{StandsUpTo};
 ghost use Rattle.checkpointing.specs.Counts.{CountsUpTo, RaisesCounts};
 ghost use Rattle.openings.specs.declared.how.How.TheVariants.{Found};
 ghost use Rattle.tm_disk.specs.Disk.{Only, Within, armed};
 ghost use Rattle.model_machine.specs.declared.entry.Entry.TheVariants.{Accept, Show, Acked as AckedEntry, Turn as TurnEntry, Commanded, Checked};
-ghost use Rattle.model_machine.specs.ModelMachineCommands.{IsServed, command_answer};
+ghost use Rattle.model_machine.specs.CommandAnswers.{IsCommandServed, command_answer};
 ghost use Rattle.model_machine.specs.Machine.{output_at, terminal_at, IsRegion};
-ghost use Rattle.model_machine.specs.Steps.{is_quiet, show_answer};
-ghost use Rattle.model_machine.specs.History.{AddsNothing, now_of};
-ghost use Rattle.lasting_state.specs.Showing.{IsShownTo};
+ghost use Rattle.model_machine.specs.MachineCalls.{is_machine_quiet, show_answer};
+ghost use Rattle.model_machine.specs.History.{AddsNothing, control_moment};
+ghost use Rattle.lasting_state.specs.ShownTerminal.{IsShownTo};
 ghost use Rattle.openings.specs.Faults.{fault_in};
-ghost use Rattle.openings.specs.Opened.{HandsBack};
-ghost use Rattle.tm_machine.specs.OnSlots.{HasSlots};
-ghost use Rattle.logged_machine.specs.Logged.{LastsNow};
-ghost use Rattle.logged_machine.specs.Taken.{IsTaken, LeavesSettled, WritesCheckpoint};
-ghost use Rattle.tm_control.specs.OnDisk.{Lasts, spent_now};
-ghost use Rattle.tm_control.specs.Calls.{HasArmed, StaysSo, Shows, AddsBy, CountsSince, CrashesSo, KeepsLog, RaisesBy, SavesRoom, SpentBy, StaysSpent, StaysUndone, StaysUntaken, WritesFrugally, parts_now};
-ghost use Rattle.tm_control.specs.Closed.{Opens, Closes};
+ghost use Rattle.openings.specs.LifeBeginning.{HandsBack};
+ghost use Rattle.tm_machine.specs.SlotChanges.{HasSlots};
+ghost use Rattle.logged_machine.specs.LoggedState.{LastsNow};
+ghost use Rattle.logged_machine.specs.TakenCheckpoint.{IsTaken, LeavesSettled, WritesCheckpoint};
+ghost use Rattle.tm_control.specs.ControlOnDisk.{Lasts, control_spent_now};
+ghost use Rattle.tm_control.specs.ControlCalls.{HasArmed, StaysSo, Shows, AddsBy, ControlCountsSince, CrashesSo, KeepsLog, RaisesBy, SavesRoom, TellsSpent, StaysSpent, StaysUndone, ControlStaysUntaken, WritesFrugally, parts_now};
+ghost use Rattle.tm_control.specs.ClosedControl.{OpensControl, Closes};
 ghost use Rattle.tm_control.specs.contracts.control.Control.{the_row};
 
 use crate::closed::Closed;
@@ -55,11 +55,11 @@ pub struct Control<D: Disk> {
 impl<D: Disk> Model for Control<D> {
     ghost use Rattle.std.specs.Prelude.{◌-◌};
     ghost use Rattle.std.specs.Vec.{vec_len, vec_capacity};
-    ghost use Rattle.tm_control.specs.OnDisk.{ControlOnDisk};
+    ghost use Rattle.tm_control.specs.ControlOnDisk.{ControlOnDisk};
 
     ghost Value = { ControlOnDisk D };
 
-    ghost use Rattle.tm_control.specs.Inside.{Holds};
+    ghost use Rattle.tm_control.specs.ControlParts.{HoldsControl};
 
     ghost view = { λ c. record {
       control = record { system = c.machine.machine.system; opening = c.opening; history = c.history.items; room = vec_capacity c.history - vec_len c.history };
@@ -73,7 +73,7 @@ impl<D: Disk> Model for Control<D> {
       disk = c.machine.disk;
     } };
 
-    ghost invariant = { λ c. Holds D.state c.machine c.opening c.history.items c.steps };
+    ghost invariant = { λ c. HoldsControl D.state c.machine c.opening c.history.items c.steps };
 }
 
 impl<D: Disk> Control<D> {
@@ -87,7 +87,7 @@ impl<D: Disk> Control<D> {
     ) -> Result<Control<D>, OpenRefused<D>>
         requires text { length text ≤ 262144 }
         requires only { Only (D.state disk).shown (D.state disk) }
-        ensures opened { IfOk result (Opens D.state how system text disk) }
+        ensures opened { IfOk result (OpensControl D.state how system text disk) }
         ensures lasts { IfOk result (Lasts D.state) }
         // Where no counter is above a bound, none of what a crash leaves is more than one above it, and no first one of the life.
         ensures counts { IfOk result (λ opened. Within (RaisesCounts 1 system) (D.state disk) (D.state opened.disk)) }
@@ -145,7 +145,7 @@ impl<D: Disk> Control<D> {
     /// Whether nothing is left to do: all regions are empty, and none has a message to take, or the room for it.
     pub fn quiet(&self) -> bool
         requires up { self.now.up ≡ true }
-        ensures { result ≡ is_quiet self.now.control.system (now_of self.now.control) }
+        ensures { result ≡ is_machine_quiet self.now.control.system (control_moment self.now.control) }
     {
         self.machine.is_quiet()
     }
@@ -153,7 +153,7 @@ impl<D: Disk> Control<D> {
     /// How many lasting steps there were, those before the opening among them.
     pub fn steps(&self) -> u64
         requires up { self.now.up ≡ true }
-        ensures { result ≡ (now_of self.now.control).lasting.steps }
+        ensures { result ≡ (control_moment self.now.control).lasting.steps }
     {
         self.machine.steps()
     }
@@ -204,13 +204,13 @@ impl<D: Disk> Control<D> {
         ensures adds { AddsBy D.state (fault_in (Accept terminal.now number segments result)) self.old self.new (Accept terminal.now number segments result) }
         ensures crash { CrashesSo D.state (fault_in (Accept terminal.now number segments result)) self.old self.new (Accept terminal.now number segments result) }
         ensures lasts { Lasts D.state self.new }
-        ensures spent { SpentBy (spent_now self.old) (fault_in (Accept terminal.now number segments result)) }
+        ensures spent { TellsSpent (control_spent_now self.old) (fault_in (Accept terminal.now number segments result)) }
         ensures nothing { StaysSpent (fault_in (Accept terminal.now number segments result)) self.old self.new }
         ensures undone { StaysUndone (fault_in (Accept terminal.now number segments result)) self.old self.new }
         ensures room { SavesRoom (fault_in (Accept terminal.now number segments result)) self.old self.new }
         ensures frugal { WritesFrugally D.state (fault_in (Accept terminal.now number segments result)) self.old self.new (Accept terminal.now number segments result) }
         ensures raises { RaisesBy (2 * self.old.control.system.logs) self.old self.new }
-        ensures counts { CountsSince D.state (2 * self.old.control.system.logs) self.old self.new }
+        ensures counts { ControlCountsSince D.state (2 * self.old.control.system.logs) self.old self.new }
         ensures stays { StaysSo D.state self.old self.new }
     {
         if let Some(counter) = self.machine.spent() {
@@ -236,7 +236,7 @@ impl<D: Disk> Control<D> {
     /// What the terminal is to be shown; this adds no entry.
     pub fn showing(&self, terminal: &Name) -> Shown<'_>
         requires up { self.now.up ≡ true }
-        ensures { IsShownTo (terminal_at (now_of self.now.control).lasting.terminals terminal.now) (output_at (now_of self.now.control).lasting.outputs terminal.now) result }
+        ensures { IsShownTo (terminal_at (control_moment self.now.control).lasting.terminals terminal.now) (output_at (control_moment self.now.control).lasting.outputs terminal.now) result }
     {
         self.machine.showing(terminal)
     }
@@ -244,7 +244,7 @@ impl<D: Disk> Control<D> {
     /// What a command is answered now; this adds no entry.
     pub fn answer_to(&self, command: &Command) -> Result<Result<Answer, CommandRefused>, Memory>
         requires up { self.now.up ≡ true }
-        ensures { IfOk result (λ answer. answer ≡ command_answer self.now.control.system (now_of self.now.control) command.now) }
+        ensures { IfOk result (λ answer. answer ≡ command_answer self.now.control.system (control_moment self.now.control) command.now) }
     {
         self.machine.answer_to(command)
     }
@@ -254,7 +254,7 @@ impl<D: Disk> Control<D> {
     pub fn receive(&mut self, terminal: &Name) -> Shown<'_>
         requires up { self.old.up ≡ true }
         requires room { 0 < self.old.control.room }
-        ensures shown { IsShownTo (terminal_at (now_of self.old.control).lasting.terminals terminal.now) (output_at (now_of self.old.control).lasting.outputs terminal.now) result }
+        ensures shown { IsShownTo (terminal_at (control_moment self.old.control).lasting.terminals terminal.now) (output_at (control_moment self.old.control).lasting.outputs terminal.now) result }
         ensures* shows { sem 𝓛 (Rests (the_row D.row D.Disk) self.entry (λ new. Shows D.state self.old new (Show terminal.now (show_answer (now_of self.old.control) terminal.now)))) }
     {
         let answer = self.machine.show_answer(terminal);
@@ -268,13 +268,13 @@ impl<D: Disk> Control<D> {
         ensures adds { AddsBy D.state (fault_in (AckedEntry terminal.now number result)) self.old self.new (AckedEntry terminal.now number result) }
         ensures crash { CrashesSo D.state (fault_in (AckedEntry terminal.now number result)) self.old self.new (AckedEntry terminal.now number result) }
         ensures lasts { Lasts D.state self.new }
-        ensures spent { SpentBy (spent_now self.old) (fault_in (AckedEntry terminal.now number result)) }
+        ensures spent { TellsSpent (control_spent_now self.old) (fault_in (AckedEntry terminal.now number result)) }
         ensures nothing { StaysSpent (fault_in (AckedEntry terminal.now number result)) self.old self.new }
         ensures undone { StaysUndone (fault_in (AckedEntry terminal.now number result)) self.old self.new }
         ensures room { SavesRoom (fault_in (AckedEntry terminal.now number result)) self.old self.new }
         ensures frugal { WritesFrugally D.state (fault_in (AckedEntry terminal.now number result)) self.old self.new (AckedEntry terminal.now number result) }
         ensures raises { RaisesBy (2 * self.old.control.system.logs) self.old self.new }
-        ensures counts { CountsSince D.state (2 * self.old.control.system.logs) self.old self.new }
+        ensures counts { ControlCountsSince D.state (2 * self.old.control.system.logs) self.old self.new }
         ensures stays { StaysSo D.state self.old self.new }
     {
         if let Some(counter) = self.machine.spent() {
@@ -300,13 +300,13 @@ impl<D: Disk> Control<D> {
         ensures adds { AddsBy D.state (fault_in (TurnEntry region result)) self.old self.new (TurnEntry region result) }
         ensures crash { CrashesSo D.state (fault_in (TurnEntry region result)) self.old self.new (TurnEntry region result) }
         ensures lasts { Lasts D.state self.new }
-        ensures spent { SpentBy (spent_now self.old) (fault_in (TurnEntry region result)) }
+        ensures spent { TellsSpent (control_spent_now self.old) (fault_in (TurnEntry region result)) }
         ensures nothing { StaysSpent (fault_in (TurnEntry region result)) self.old self.new }
         ensures undone { StaysUndone (fault_in (TurnEntry region result)) self.old self.new }
         ensures room { SavesRoom (fault_in (TurnEntry region result)) self.old self.new }
         ensures frugal { WritesFrugally D.state (fault_in (TurnEntry region result)) self.old self.new (TurnEntry region result) }
         ensures raises { RaisesBy (2 * self.old.control.system.logs) self.old self.new }
-        ensures counts { CountsSince D.state (2 * self.old.control.system.logs) self.old self.new }
+        ensures counts { ControlCountsSince D.state (2 * self.old.control.system.logs) self.old self.new }
         ensures stays { StaysSo D.state self.old self.new }
     {
         if let Some(counter) = self.machine.spent() {
@@ -324,17 +324,17 @@ impl<D: Disk> Control<D> {
     /// Does an operator's command. A checkpoint and the opening of a system aren't among these.
     pub fn command(&mut self, command: &Command) -> Result<Answer, CommandRefused>
         requires up { self.old.up ≡ true }
-        requires command { IsServed command.now }
+        requires command { IsCommandServed command.now }
         ensures adds { AddsBy D.state (fault_in (Commanded command.now result)) self.old self.new (Commanded command.now result) }
         ensures crash { CrashesSo D.state (fault_in (Commanded command.now result)) self.old self.new (Commanded command.now result) }
         ensures lasts { Lasts D.state self.new }
-        ensures spent { SpentBy (spent_now self.old) (fault_in (Commanded command.now result)) }
+        ensures spent { TellsSpent (control_spent_now self.old) (fault_in (Commanded command.now result)) }
         ensures nothing { StaysSpent (fault_in (Commanded command.now result)) self.old self.new }
         ensures undone { StaysUndone (fault_in (Commanded command.now result)) self.old self.new }
         ensures room { SavesRoom (fault_in (Commanded command.now result)) self.old self.new }
         ensures frugal { WritesFrugally D.state (fault_in (Commanded command.now result)) self.old self.new (Commanded command.now result) }
         ensures raises { RaisesBy (2 * self.old.control.system.logs) self.old self.new }
-        ensures counts { CountsSince D.state (2 * self.old.control.system.logs) self.old self.new }
+        ensures counts { ControlCountsSince D.state (2 * self.old.control.system.logs) self.old self.new }
         ensures stays { StaysSo D.state self.old self.new }
     {
         if let Some(counter) = self.machine.spent() {
@@ -360,17 +360,17 @@ impl<D: Disk> Control<D> {
         ensures adds { AddsBy D.state (fault_in (Checked freeze result)) self.old self.new (Checked freeze result) }
         ensures crash { CrashesSo D.state (fault_in (Checked freeze result)) self.old self.new (Checked freeze result) }
         ensures lasts { Lasts D.state self.new }
-        ensures spent { SpentBy (spent_now self.old) (fault_in (Checked freeze result)) }
+        ensures spent { TellsSpent (control_spent_now self.old) (fault_in (Checked freeze result)) }
         ensures nothing { StaysSpent (fault_in (Checked freeze result)) self.old self.new }
         ensures undone { StaysUndone (fault_in (Checked freeze result)) self.old self.new }
         ensures room { SavesRoom (fault_in (Checked freeze result)) self.old self.new }
         ensures raises { RaisesBy self.old.control.system.logs self.old self.new }
-        ensures counts { CountsSince D.state (2 * self.old.control.system.logs) self.old self.new }
+        ensures counts { ControlCountsSince D.state (2 * self.old.control.system.logs) self.old self.new }
         ensures stays { StaysSo D.state self.old self.new }
         ensures taken { IfOk result (λ number. IsTaken self.new.control.system number self.old.journal self.new.journal (D.state self.new.disk)) }
         ensures settled { OnOk result (LeavesSettled self.old.databases self.new.databases self.old.units self.new.units self.old.next_unit self.new.next_unit) }
         ensures writes { WritesCheckpoint self.old.control.system self.old.databases.changed self.old.journal (D.state self.old.disk) (D.state self.new.disk) }
-        ensures refused { IfErr result (λ refusal. StaysUntaken refusal self.old self.new (Checked freeze result)) }
+        ensures refused { IfErr result (λ refusal. ControlStaysUntaken refusal self.old self.new (Checked freeze result)) }
     {
         if let Some(counter) = self.machine.spent() {
             return Err(CheckpointRefused::Fault(ControlFault::Spent(counter)));

@@ -3,7 +3,7 @@ ghost use Rattle.std.specs.Prelude.{◌≡◌, ◌<◌, None, Some};
 ghost use Rattle.std.specs.Vec.{vec_len, vec_capacity};
 ghost use Rattle.model_machine.specs.declared.entry.Entry.TheVariants.{Accept, Acked as AckedEntry, Turn as TurnEntry, Commanded, Checked};
 ghost use Rattle.openings.specs.Faults.{fault_in};
-ghost use Rattle.tm_control.specs.Calls.{is_noted, noted};
+ghost use Rattle.tm_control.specs.ControlCalls.{is_noted, noted};
 
 use model_machine::{
     AckRefused, Acked, Answer, CheckpointRefused, Command, CommandRefused, ControlFault, Entry,

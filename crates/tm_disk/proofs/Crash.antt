@@ -5,7 +5,7 @@ use Rattle.std.proofs.lemmas.Bool.{cases_lt, cases_eq}
 use Rattle.std.proofs.lemmas.List.{ext_get_or, get_or_past, set-set, set-get_or, length-set}
 use Rattle.std.proofs.lemmas.List.Elements.{Contains-get_or, Contains-append_left, Contains-push_cases, Contains-push}
 use Rattle.tm_disk.specs.Disk.{Image, sector_at, with_sector, MayWrite}
-use Rattle.tm_disk.specs.Moments.{Moment, writes_to, IsLeft, picked, after_write}
+use Rattle.tm_disk.specs.Moments.{DiskMoment, writes_to, IsImageLeft, picked, after_write}
 use Rattle.tm_disk.specs.MomentLaws.{length-picked, Contains-first, Contains-cons_cases, writes_to-same, writes_to-other, sector_at-same, sector_at-other}
 use Rattle.tm_disk.specs.Written.{Written}
 
@@ -26,34 +26,34 @@ writes_to-push-other at (first ∷ writes) write e =
     (cases_eq first.at at)
 
 -- what a sector may hold at a moment
-abbrev pub choices : Moment → ℕ → List (List ℕ)
+abbrev pub choices : DiskMoment → ℕ → List (List ℕ)
 choices moment at = sector_at moment.synced at ∷ writes_to at moment.since
 
-choices-write : (moment : Moment) (write : Written) (at : ℕ) (content : List ℕ) → Contains (choices moment at) content → Contains (choices (after_write write moment) at) content
+choices-write : (moment : DiskMoment) (write : Written) (at : ℕ) (content : List ℕ) → Contains (choices moment at) content → Contains (choices (after_write write moment) at) content
 choices-write moment write at content has =
     ⊎_elim
     (λ (e : write.at ≡ at). subst (λ (l : List (List ℕ)). Contains (sector_at moment.synced at ∷ l) content) (sym (writes_to-push-same at moment.since write e)) (Contains-append_left (choices moment at) (write.content ∷ []) content has))
     (λ (ne : write.at ≡ at → ⊥). subst (λ (l : List (List ℕ)). Contains (sector_at moment.synced at ∷ l) content) (sym (writes_to-push-other at moment.since write ne)) has)
     (cases_eq write.at at)
 
-choices-written : (moment : Moment) (write : Written) → Contains (choices (after_write write moment) write.at) write.content
+choices-written : (moment : DiskMoment) (write : Written) → Contains (choices (after_write write moment) write.at) write.content
 choices-written moment write =
     subst (λ (l : List (List ℕ)). Contains (sector_at moment.synced write.at ∷ l) write.content) (sym (writes_to-push-same write.at moment.since write refl)) (Contains-push (choices moment write.at) write.content)
 
-choices-write_cases : (moment : Moment) (write : Written) (content : List ℕ) → Contains (choices (after_write write moment) write.at) content → Contains (choices moment write.at) content ⊎ (write.content ≡ content)
+choices-write_cases : (moment : DiskMoment) (write : Written) (content : List ℕ) → Contains (choices (after_write write moment) write.at) content → Contains (choices moment write.at) content ⊎ (write.content ≡ content)
 choices-write_cases moment write content has =
     Contains-push_cases (choices moment write.at) write.content content
     (subst (λ (l : List (List ℕ)). Contains (sector_at moment.synced write.at ∷ l) content) (writes_to-push-same write.at moment.since write refl) has)
 
-choices-other : (moment : Moment) (write : Written) (at : ℕ) (content : List ℕ) → (write.at ≡ at → ⊥) → Contains (choices (after_write write moment) at) content → Contains (choices moment at) content
+choices-other : (moment : DiskMoment) (write : Written) (at : ℕ) (content : List ℕ) → (write.at ≡ at → ⊥) → Contains (choices (after_write write moment) at) content → Contains (choices moment at) content
 choices-other moment write at content ne has = subst (λ (l : List (List ℕ)). Contains (sector_at moment.synced at ∷ l) content) (writes_to-push-other at moment.since write ne) has
 
 -- after a write each image is left as it was
-pub write_without : (moment : Moment) (write : Written) (image : Image) → IsLeft moment image → IsLeft (after_write write moment) image
+pub write_without : (moment : DiskMoment) (write : Written) (image : Image) → IsImageLeft moment image → IsImageLeft (after_write write moment) image
 write_without moment write image left = record { size = left.size; each = λ at. choices-write moment write at (sector_at image at) (left.each at) }
 
 -- .. or with the sector
-pub write_with : (moment : Moment) (write : Written) (image : Image) → write.at < length moment.synced → IsLeft moment image → IsLeft (after_write write moment) (with_sector image write.at write.content)
+pub write_with : (moment : DiskMoment) (write : Written) (image : Image) → write.at < length moment.synced → IsImageLeft moment image → IsImageLeft (after_write write moment) (with_sector image write.at write.content)
 write_with moment write image lt left = record {
   size = length-set image write.at write.content ∙ left.size;
   each = λ at.
@@ -67,12 +67,12 @@ write_with moment write image lt left = record {
 }
 
 -- and nothing else is left
-pub record WasBefore (moment : Moment) (write : Written) (image : Image) : Type 0 where
+pub record WasBefore (moment : DiskMoment) (write : Written) (image : Image) : Type 0 where
   pub before : Image
-  pub left : IsLeft moment before
+  pub left : IsImageLeft moment before
   pub by : MayWrite write.at write.content before image
 
-pub write_comes : (moment : Moment) (write : Written) (image : Image) → IsLeft (after_write write moment) image → WasBefore moment write image
+pub write_comes : (moment : DiskMoment) (write : Written) (image : Image) → IsImageLeft (after_write write moment) image → WasBefore moment write image
 write_comes moment write image left =
     ⊎_elim
     (λ old. record {
@@ -111,7 +111,7 @@ write_comes moment write image left =
     (choices-write_cases moment write (sector_at image write.at) (left.each write.at))
 
 -- with no write since, what was synced is left
-pub synced_alone : (moment : Moment) (image : Image) → moment.since ≡ [] → IsLeft moment image → image ≡ moment.synced
+pub synced_alone : (moment : DiskMoment) (image : Image) → moment.since ≡ [] → IsImageLeft moment image → image ≡ moment.synced
 synced_alone moment image none left =
     ext_get_or [] image moment.synced left.size
     (λ at lt.
@@ -128,7 +128,7 @@ picked_each pick from (suc at) j since (sector ∷ sectors) e =
     picked_each (pick / (length (writes_to from since) + 1)) (from + 1) at j since sectors (omega (arith, e))
 
 -- a pick leaves what a crash may leave
-pub picked_is_left : (moment : Moment) (pick : ℕ) → IsLeft moment (picked pick 0 moment.since moment.synced)
+pub picked_is_left : (moment : DiskMoment) (pick : ℕ) → IsImageLeft moment (picked pick 0 moment.since moment.synced)
 picked_is_left moment pick = record {
   size = length-picked pick 0 moment.since moment.synced;
   each = λ at. picked_each pick 0 at at moment.since moment.synced (omega arith);

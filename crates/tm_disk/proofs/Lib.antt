@@ -7,3 +7,4 @@ pub mod States
 pub mod Numbers
 pub mod Padding
 pub mod Recording
+pub mod Zeros

@@ -6,9 +6,9 @@ use Rattle.std.proofs.lemmas.List.{drop-append-le, drop_all, drop_more, get_or-s
 use Rattle.std.proofs.lemmas.List.Elements.{All-set, All-replicate}
 use Rattle.tm_disk.specs.Disk.{Image, sector_at, with_sector}
 use Rattle.tm_disk.specs.Sector.{blank}
-use Rattle.tm_disk.specs.Moments.{Moment, zero_disk, writes_to, picked, settled_by, after_write, moments_past, IsSound}
+use Rattle.tm_disk.specs.Moments.{DiskMoment, zero_disk, writes_to, picked, settled_by, after_write, moments_past, IsMomentSound}
 use Rattle.tm_disk.specs.MomentLaws.{writes_to-same, writes_to-other}
-use Rattle.tm_disk.specs.Numbered.{content_of, made_by, image_by, AreNumbers, chosen_by}
+use Rattle.tm_disk.specs.NumberedSectors.{written_content, made_by, image_by, AreNumbers, chosen_by}
 use Rattle.tm_disk.specs.Written.{Written}
 use Rattle.tm_disk.specs.declared.record.Before.{Before}
 use Rattle.tm_disk.specs.declared.record.Before.TheVariants.{Nothing, Synced, Cut}
@@ -17,7 +17,7 @@ use Rattle.tm_disk.proofs.Keeping.{moment_of, sound-write, write-now, Settling, 
 
 -- ---- one write more
 
-made-push : (writes : List Written) (write : Written) (n : ℕ) (d : List ℕ) → n < length writes → get_or (map content_of (writes ++ write ∷ [])) n d ≡ get_or (map content_of writes) n d
+made-push : (writes : List Written) (write : Written) (n : ℕ) (d : List ℕ) → n < length writes → get_or (map written_content (writes ++ write ∷ [])) n d ≡ get_or (map written_content writes) n d
 made-push [] write n d lt = absurd (omega (arith, lt))
 made-push (first ∷ writes) write zero d lt = refl
 made-push (first ∷ writes) write (suc n) d lt = made-push writes write n d (omega (arith, lt))
@@ -26,7 +26,7 @@ pub made_by-push : (writes : List Written) (write : Written) (number : ℕ) → 
 made_by-push writes write zero le = refl
 made_by-push writes write (suc n) le = made-push writes write n blank (omega (arith, le))
 
-made-last : (writes : List Written) (write : Written) (d : List ℕ) → get_or (map content_of (writes ++ write ∷ [])) (length writes) d ≡ write.content
+made-last : (writes : List Written) (write : Written) (d : List ℕ) → get_or (map written_content (writes ++ write ∷ [])) (length writes) d ≡ write.content
 made-last [] write d = refl
 made-last (first ∷ writes) write d = made-last writes write d
 
@@ -36,7 +36,7 @@ made_by-last writes write number is =
     ap (made_by (writes ++ write ∷ [])) next ∙ made-last writes write blank
 
 -- the write at a place has the number behind it
-made-at : (writes : List Written) (place : ℕ) (w : Written) (d : List ℕ) → place < length writes → get_or (map content_of writes) place d ≡ (get_or writes place w).content
+made-at : (writes : List Written) (place : ℕ) (w : Written) (d : List ℕ) → place < length writes → get_or (map written_content writes) place d ≡ (get_or writes place w).content
 made-at [] place w d lt = absurd (omega (arith, lt))
 made-at (first ∷ writes) zero w d lt = refl
 made-at (first ∷ writes) (suc n) w d lt = made-at writes n w d (omega (arith, lt))
@@ -235,8 +235,8 @@ chosen_end writes settled place old left_then numbers left past c k inside =
 -- ---- what is sound
 
 pub numbered-write : (shown synced : List ℕ) (writes : List Written) (settled : ℕ) (pending : Before) (at number : ℕ) (content : List ℕ) → AreNumbers shown synced writes settled
-    → IsSound (image_by writes shown) (image_by writes synced) writes settled pending → at < length (image_by writes synced) → length writes < 262144 → number ≡ length writes + 1
-    → let grown = writes ++ record { at = at; content = content; before = pending } ∷ [] in IsSound (image_by grown (set shown at number)) (image_by grown synced) grown settled Nothing
+    → IsMomentSound (image_by writes shown) (image_by writes synced) writes settled pending → at < length (image_by writes synced) → length writes < 262144 → number ≡ length writes + 1
+    → let grown = writes ++ record { at = at; content = content; before = pending } ∷ [] in IsMomentSound (image_by grown (set shown at number)) (image_by grown synced) grown settled Nothing
 numbered-write shown synced writes settled pending at number content are sound lt room is =
     let write : Written = record { at = at; content = content; before = pending } in
     let grown : List Written = writes ++ write ∷ [] in
@@ -244,8 +244,8 @@ numbered-write shown synced writes settled pending at number content are sound l
     image_by-set grown shown at number
     ∙ ap (λ s. with_sector (image_by grown shown) at s) (made_by-last writes write number is)
     ∙ ap (λ i. with_sector i at content) (image_by-push writes write shown are.shown_in) in
-    subst (λ i. IsSound i (image_by grown synced) grown settled Nothing) (sym is_shown)
-    (subst (λ i. IsSound (with_sector (image_by writes shown) at content) i grown settled Nothing) (sym (image_by-push writes write synced are.synced_in))
+    subst (λ i. IsMomentSound i (image_by grown synced) grown settled Nothing) (sym is_shown)
+    (subst (λ i. IsMomentSound (with_sector (image_by writes shown) at content) i grown settled Nothing) (sym (image_by-push writes write synced are.synced_in))
     (sound-write (image_by writes shown) (image_by writes synced) writes settled pending at content sound lt room))
 
 pub numbered-now : (synced : List ℕ) (writes : List Written) (settled : ℕ) (write : Written) → All (λ n. n ≤ length writes) synced → settled ≤ length writes
@@ -254,7 +254,7 @@ numbered-now synced writes settled write all le =
     ap (λ i. moment_of i (writes ++ write ∷ []) settled) (image_by-push writes write synced all) ∙ write-now (image_by writes synced) writes settled write le
 
 -- the moments past, by how many sectors have numbers
-pub past_numbers : (writes record_ : List Written) (new old : List ℕ) (pending before : Before) (now : Moment)
+pub past_numbers : (writes record_ : List Written) (new old : List ℕ) (pending before : Before) (now : DiskMoment)
     → moments_past (zero_disk (length (image_by writes new))) record_ pending ≡ moments_past (zero_disk (length (image_by writes old))) writes before ++ now ∷ []
     → moments_past (zero_disk (length new)) record_ pending ≡ moments_past (zero_disk (length old)) writes before ++ now ∷ []
 past_numbers writes record_ new old pending before now past =
@@ -265,11 +265,11 @@ past_numbers writes record_ new old pending before now past =
 pub record NumberedSettling (shown synced : List ℕ) (writes : List Written) (settled : ℕ) (shown' synced' : List ℕ) (settled' : ℕ) (before : Before) : Type 0 where
   pub size : length synced' ≡ length synced
   pub numbers : AreNumbers shown' synced' writes settled'
-  pub sound : IsSound (image_by writes shown') (image_by writes synced') writes settled' before
+  pub sound : IsMomentSound (image_by writes shown') (image_by writes synced') writes settled' before
   pub now : moment_of (image_by writes synced') writes settled' ≡ settled_by before (moment_of (image_by writes synced) writes settled)
   pub past : moments_past (zero_disk (length synced')) writes before ≡ moments_past (zero_disk (length synced)) writes Nothing ++ moment_of (image_by writes synced) writes settled ∷ []
 
-pub numbered-sync : (shown synced next : List ℕ) (writes : List Written) (settled n : ℕ) → AreNumbers shown synced writes settled → IsSound (image_by writes shown) (image_by writes synced) writes settled Nothing
+pub numbered-sync : (shown synced next : List ℕ) (writes : List Written) (settled n : ℕ) → AreNumbers shown synced writes settled → IsMomentSound (image_by writes shown) (image_by writes synced) writes settled Nothing
     → next ≡ shown → n ≡ length writes → NumberedSettling shown synced writes settled shown next n Synced
 numbered-sync shown synced next writes settled n are sound is end =
     let settling : Settling (image_by writes shown) (image_by writes synced) writes settled (image_by writes shown) (image_by writes next) n Synced =
@@ -282,7 +282,7 @@ numbered-sync shown synced next writes settled n are sound is end =
       past = past_numbers writes writes next synced Synced Nothing (moment_of (image_by writes synced) writes settled) settling.past;
     }
 
-pub numbered-cut : (shown synced shown' next : List ℕ) (writes : List Written) (settled n pick : ℕ) → AreNumbers shown synced writes settled → IsSound (image_by writes shown) (image_by writes synced) writes settled Nothing
+pub numbered-cut : (shown synced shown' next : List ℕ) (writes : List Written) (settled n pick : ℕ) → AreNumbers shown synced writes settled → IsMomentSound (image_by writes shown) (image_by writes synced) writes settled Nothing
     → image_by writes next ≡ picked pick 0 (drop settled writes) (image_by writes synced) → All (λ number. number ≤ length writes) next → length next ≡ length synced → shown' ≡ next → n ≡ length writes
     → NumberedSettling shown synced writes settled shown' next n (Cut pick)
 numbered-cut shown synced shown' next writes settled n pick are sound is within size is_shown end =
@@ -297,7 +297,7 @@ numbered-cut shown synced shown' next writes settled n pick are sound is within 
     }
 
 -- before the first write all sectors are blank
-pub numbered-start : (n : ℕ) → n < 2 ^ 32 → IsSound (image_by [] (replicate n 0)) (image_by [] (replicate n 0)) [] 0 Nothing
+pub numbered-start : (n : ℕ) → n < 2 ^ 32 → IsMomentSound (image_by [] (replicate n 0)) (image_by [] (replicate n 0)) [] 0 Nothing
 numbered-start n fits =
     let is : image_by [] (replicate n 0) ≡ replicate n blank = image_by-zeros [] n in
     let size : length (image_by [] (replicate n 0)) ≡ n = length_image_by [] (replicate n 0) ∙ length-replicate n 0 in

@@ -5,8 +5,8 @@ use Rattle.std.proofs.lemmas.Bool.Decides.{nat_tests}
 use Rattle.tm_disk.specs.Disk.{Image, Elapses, Keeps, MayHaveWritten, HasWritten, IsCut, one_less}
 use Rattle.tm_disk.proofs.Words.{keeps_same, lessens_one, lessens_same}
 use Rattle.tm_disk.specs.Count.{raised}
-use Rattle.tm_disk.specs.Contents.{now_of, past_of, GoesOn, HasSettled, Settles}
-use Rattle.tm_disk.specs.Moments.{Moment, shown_of, IsLeft, WasLeft, settled_by, after_write, writes_to}
+use Rattle.tm_disk.specs.Contents.{contents_now, past_of, ContentsGoOn, HasSettled, Settles}
+use Rattle.tm_disk.specs.Moments.{DiskMoment, shown_of, IsImageLeft, WasLeft, settled_by, after_write, writes_to}
 use Rattle.tm_disk.specs.MomentLaws.{length-shown_of, length-picked, shown_is_left}
 use Rattle.tm_disk.specs.MemState.{mem_state}
 use Rattle.tm_disk.specs.declared.contents.Contents.{Contents}
@@ -23,11 +23,11 @@ raised_more n = grind (arith, nat_tests)
 pub raised_within : (n : ℕ) → raised n ≤ n + 1
 raised_within n = grind (arith, nat_tests)
 
-mem_elapses : (now next : Moment) (past grown : List Moment) (f f' w w' : ℕ) (s s' : Option ℕ) → grown ≡ past ++ now ∷ [] → Elapses (mem_state now past f w s) (mem_state next grown f' w' s')
+mem_elapses : (now next : DiskMoment) (past grown : List DiskMoment) (f f' w w' : ℕ) (s s' : Option ℕ) → grown ≡ past ++ now ∷ [] → Elapses (mem_state now past f w s) (mem_state next grown f' w' s')
 mem_elapses now next past grown f f' w w' s s' is = record {
-  later = omega (arith, ap (length {A = Moment}) is, length-append past (now ∷ []));
+  later = omega (arith, ap (length {A = DiskMoment}) is, length-append past (now ∷ []));
   nothing_else = λ time image early left.
-      ⊎_elim (λ (l : IsLeft next image). inr l)
+      ⊎_elim (λ (l : IsImageLeft next image). inr l)
       (λ (before : WasLeft (drop time grown) image). inl (⊎_elim (λ old. inr old) (λ here. inl here) (since_cases past grown now time image is early before)))
       left;
   keeps = λ time image early left. inr (since_kept past grown now time image is early (⊎_elim (λ here. inr here) (λ old. inl old) left));
@@ -35,49 +35,49 @@ mem_elapses now next past grown f f' w w' s s' is = record {
 
 -- a sync
 
-keeps_synced : (now : Moment) (past grown : List Moment) (f w : ℕ) (s : Option ℕ) → grown ≡ past ++ now ∷ [] → Keeps (mem_state now past f w s) (mem_state (settled_by Synced now) grown f w s)
+keeps_synced : (now : DiskMoment) (past grown : List DiskMoment) (f w : ℕ) (s : Option ℕ) → grown ≡ past ++ now ∷ [] → Keeps (mem_state now past f w s) (mem_state (settled_by Synced now) grown f w s)
 keeps_synced now past grown f w s is = record {
   stays = record { size = length-shown_of now.synced now.since; tells = refl; can_arm = refl; faults = omega arith; writes = omega arith; stop = lessens_same s };
   elapses = mem_elapses now (settled_by Synced now) past grown f f w w s s is;
-  no_more = λ image left. subst (IsLeft now) (sym (synced_alone (settled_by Synced now) image refl left)) (shown_is_left now);
+  no_more = λ image left. subst (IsImageLeft now) (sym (synced_alone (settled_by Synced now) image refl left)) (shown_is_left now);
   shown = refl;
   writes = refl;
 }
 
-keeps_here : (now next : Moment) (past grown : List Moment) (f w : ℕ) (s : Option ℕ) → next ≡ now → grown ≡ past → Keeps (mem_state now past f w s) (mem_state next grown f w s)
+keeps_here : (now next : DiskMoment) (past grown : List DiskMoment) (f w : ℕ) (s : Option ℕ) → next ≡ now → grown ≡ past → Keeps (mem_state now past f w s) (mem_state next grown f w s)
 keeps_here now next past grown f w s is same =
-    subst (λ (m : Moment). Keeps (mem_state now past f w s) (mem_state m grown f w s)) (sym is)
-    (subst (λ (l : List Moment). Keeps (mem_state now past f w s) (mem_state now l f w s)) (sym same) (keeps_same (mem_state now past f w s)))
+    subst (λ (m : DiskMoment). Keeps (mem_state now past f w s) (mem_state m grown f w s)) (sym is)
+    (subst (λ (l : List DiskMoment). Keeps (mem_state now past f w s) (mem_state now l f w s)) (sym same) (keeps_same (mem_state now past f w s)))
 
-pub sync_keeps : (old new : Contents) (f w : ℕ) (s : Option ℕ) → Settles Synced old new → Keeps (mem_state (now_of old) (past_of old) f w s) (mem_state (now_of new) (past_of new) f w s)
+pub sync_keeps : (old new : Contents) (f w : ℕ) (s : Option ℕ) → Settles Synced old new → Keeps (mem_state (contents_now old) (past_of old) f w s) (mem_state (contents_now new) (past_of new) f w s)
 sync_keeps old new f w s settles =
     ⊎_elim
-    (λ (goes : GoesOn old new (settled_by Synced (now_of old))).
-    subst (λ (m : Moment). Keeps (mem_state (now_of old) (past_of old) f w s) (mem_state m (past_of new) f w s)) (sym goes.now)
-    (keeps_synced (now_of old) (past_of old) (past_of new) f w s goes.past))
-    (λ (settled : HasSettled old new). keeps_here (now_of old) (now_of new) (past_of old) (past_of new) f w s settled.same.now settled.same.past)
+    (λ (goes : ContentsGoOn old new (settled_by Synced (contents_now old))).
+    subst (λ (m : DiskMoment). Keeps (mem_state (contents_now old) (past_of old) f w s) (mem_state m (past_of new) f w s)) (sym goes.now)
+    (keeps_synced (contents_now old) (past_of old) (past_of new) f w s goes.past))
+    (λ (settled : HasSettled old new). keeps_here (contents_now old) (contents_now new) (past_of old) (past_of new) f w s settled.same.now settled.same.past)
     settles
 
 -- where nothing was written since, one image is left
-pub alone : (now : Moment) → now.since ≡ [] → (image : Image) → IsLeft now image → image ≡ shown_of now.synced now.since
+pub alone : (now : DiskMoment) → now.since ≡ [] → (image : Image) → IsImageLeft now image → image ≡ shown_of now.synced now.since
 alone now none image left = synced_alone now image none left ∙ ap (λ (l : List Written). shown_of now.synced l) (sym none)
 
-pub sync_alone : (old new : Contents) → Settles Synced old new → (image : Image) → IsLeft (now_of new) image → image ≡ shown_of (now_of new).synced (now_of new).since
+pub sync_alone : (old new : Contents) → Settles Synced old new → (image : Image) → IsImageLeft (contents_now new) image → image ≡ shown_of (contents_now new).synced (contents_now new).since
 sync_alone old new settles =
-    alone (now_of new)
-    (⊎_elim (λ (goes : GoesOn old new (settled_by Synced (now_of old))). ap (λ (m : Moment). m.since) goes.now)
-    (λ (settled : HasSettled old new). ap (λ (m : Moment). m.since) settled.same.now ∙ settled.none)
+    alone (contents_now new)
+    (⊎_elim (λ (goes : ContentsGoOn old new (settled_by Synced (contents_now old))). ap (λ (m : DiskMoment). m.since) goes.now)
+    (λ (settled : HasSettled old new). ap (λ (m : DiskMoment). m.since) settled.same.now ∙ settled.none)
     settles)
 
 -- a cut
 
-cut_settled : (now : Moment) (past grown : List Moment) (f w pick : ℕ) (s : Option ℕ) → grown ≡ past ++ now ∷ [] → IsCut pick (mem_state now past f w s) (mem_state (settled_by (Cut pick) now) grown f w None)
+cut_settled : (now : DiskMoment) (past grown : List DiskMoment) (f w pick : ℕ) (s : Option ℕ) → grown ≡ past ++ now ∷ [] → IsCut pick (mem_state now past f w s) (mem_state (settled_by (Cut pick) now) grown f w None)
 cut_settled now past grown f w pick s is =
     let next = settled_by (Cut pick) now in
     record {
       same = record { size = length-picked pick 0 now.since now.synced; tells = refl; can_arm = refl; faults = omega arith; writes = omega arith };
       elapses = mem_elapses now next past grown f f w w s None is;
-      no_more = λ image left. subst (IsLeft now) (sym (synced_alone next image refl left)) (picked_is_left now pick);
+      no_more = λ image left. subst (IsImageLeft now) (sym (synced_alone next image refl left)) (picked_is_left now pick);
       left = λ tells. picked_is_left now pick;
       picked = λ tells. refl;
       synced = λ image left. synced_alone next image refl left;
@@ -86,40 +86,40 @@ cut_settled now past grown f w pick s is =
       disarmed = refl;
     }
 
-cut_none : (pick : ℕ) (now : Moment) → now.since ≡ [] → now ≡ settled_by (Cut pick) now
+cut_none : (pick : ℕ) (now : DiskMoment) → now.since ≡ [] → now ≡ settled_by (Cut pick) now
 cut_none pick now none =
-    let bare : Image → Moment = λ i. record { synced = i; since = [] } in
+    let bare : Image → DiskMoment = λ i. record { synced = i; since = [] } in
     ap (λ (l : List Written). record { synced = now.synced; since = l }) none
     ∙ ap bare (sym (picked_none pick 0 now.since now.synced (λ k le. ap (λ (l : List Written). writes_to k l) none)))
 
-cut_here : (now : Moment) (past : List Moment) (f w pick : ℕ) (s : Option ℕ) → now.since ≡ [] → IsCut pick (mem_state now past f w s) (mem_state now past f w None)
+cut_here : (now : DiskMoment) (past : List DiskMoment) (f w pick : ℕ) (s : Option ℕ) → now.since ≡ [] → IsCut pick (mem_state now past f w s) (mem_state now past f w None)
 cut_here now past f w pick s none = record {
   same = record { size = refl; tells = refl; can_arm = refl; faults = omega arith; writes = omega arith };
   elapses = record { later = omega arith; nothing_else = λ time image early left. inl left; keeps = λ time image early left. left };
   no_more = λ image left. left;
   left = λ tells. shown_is_left now;
-  picked = λ tells. ap (λ (m : Moment). shown_of m.synced m.since) (cut_none pick now none);
+  picked = λ tells. ap (λ (m : DiskMoment). shown_of m.synced m.since) (cut_none pick now none);
   synced = alone now none;
   writes = refl;
   faults = refl;
   disarmed = refl;
 }
 
-pub cut_cuts : (old new : Contents) (f w pick : ℕ) (s : Option ℕ) → Settles (Cut pick) old new → IsCut pick (mem_state (now_of old) (past_of old) f w s) (mem_state (now_of new) (past_of new) f w None)
+pub cut_cuts : (old new : Contents) (f w pick : ℕ) (s : Option ℕ) → Settles (Cut pick) old new → IsCut pick (mem_state (contents_now old) (past_of old) f w s) (mem_state (contents_now new) (past_of new) f w None)
 cut_cuts old new f w pick s settles =
     ⊎_elim
-    (λ (goes : GoesOn old new (settled_by (Cut pick) (now_of old))).
-    subst (λ (m : Moment). IsCut pick (mem_state (now_of old) (past_of old) f w s) (mem_state m (past_of new) f w None)) (sym goes.now)
-    (cut_settled (now_of old) (past_of old) (past_of new) f w pick s goes.past))
+    (λ (goes : ContentsGoOn old new (settled_by (Cut pick) (contents_now old))).
+    subst (λ (m : DiskMoment). IsCut pick (mem_state (contents_now old) (past_of old) f w s) (mem_state m (past_of new) f w None)) (sym goes.now)
+    (cut_settled (contents_now old) (past_of old) (past_of new) f w pick s goes.past))
     (λ (settled : HasSettled old new).
-    subst (λ (m : Moment). IsCut pick (mem_state (now_of old) (past_of old) f w s) (mem_state m (past_of new) f w None)) (sym settled.same.now)
-    (subst (λ (l : List Moment). IsCut pick (mem_state (now_of old) (past_of old) f w s) (mem_state (now_of old) l f w None)) (sym settled.same.past)
-    (cut_here (now_of old) (past_of old) f w pick s settled.none)))
+    subst (λ (m : DiskMoment). IsCut pick (mem_state (contents_now old) (past_of old) f w s) (mem_state m (past_of new) f w None)) (sym settled.same.now)
+    (subst (λ (l : List DiskMoment). IsCut pick (mem_state (contents_now old) (past_of old) f w s) (mem_state (contents_now old) l f w None)) (sym settled.same.past)
+    (cut_here (contents_now old) (past_of old) f w pick s settled.none)))
     settles
 
 -- a write
 
-tries_write : (now : Moment) (past grown : List Moment) (write : Written) (f f' w : ℕ) (s : Option ℕ) → f ≤ f' → grown ≡ past ++ now ∷ [] → MayHaveWritten write.at write.content (mem_state now past f w s) (mem_state (after_write write now) grown f' (raised w) (one_less s))
+tries_write : (now : DiskMoment) (past grown : List DiskMoment) (write : Written) (f f' w : ℕ) (s : Option ℕ) → f ≤ f' → grown ≡ past ++ now ∷ [] → MayHaveWritten write.at write.content (mem_state now past f w s) (mem_state (after_write write now) grown f' (raised w) (one_less s))
 tries_write now past grown write f f' w s le is = record {
   stays = record { size = refl; tells = refl; can_arm = refl; faults = le; writes = raised_more w; stop = lessens_one s };
   elapses = mem_elapses now (after_write write now) past grown f f' w (raised w) s (one_less s) is;
@@ -129,40 +129,40 @@ tries_write now past grown write f f' w s le is = record {
   until_stop = refl;
 }
 
-does_write : (now : Moment) (past grown : List Moment) (write : Written) (f f' w : ℕ) (s s' : Option ℕ) → write.at < length now.synced → HasWritten write.at write.content (mem_state now past f w s) (mem_state (after_write write now) grown f' (raised w) s')
+does_write : (now : DiskMoment) (past grown : List DiskMoment) (write : Written) (f f' w : ℕ) (s s' : Option ℕ) → write.at < length now.synced → HasWritten write.at write.content (mem_state now past f w s) (mem_state (after_write write now) grown f' (raised w) s')
 does_write now past grown write f f' w s s' lt = record {
   shown = λ tells. shown_of-push now.synced now.since write;
   without = λ image left. write_without now write image left;
   written = λ image left. write_with now write image lt left;
 }
 
-pub write_tries : (old new : Contents) (write : Written) (f f' w : ℕ) (s : Option ℕ) → f ≤ f' → GoesOn old new (after_write write (now_of old)) → MayHaveWritten write.at write.content (mem_state (now_of old) (past_of old) f w s) (mem_state (now_of new) (past_of new) f' (raised w) (one_less s))
+pub write_tries : (old new : Contents) (write : Written) (f f' w : ℕ) (s : Option ℕ) → f ≤ f' → ContentsGoOn old new (after_write write (contents_now old)) → MayHaveWritten write.at write.content (mem_state (contents_now old) (past_of old) f w s) (mem_state (contents_now new) (past_of new) f' (raised w) (one_less s))
 write_tries old new write f f' w s le goes =
-    subst (λ (m : Moment). MayHaveWritten write.at write.content (mem_state (now_of old) (past_of old) f w s) (mem_state m (past_of new) f' (raised w) (one_less s))) (sym goes.now)
-    (tries_write (now_of old) (past_of old) (past_of new) write f f' w s le goes.past)
+    subst (λ (m : DiskMoment). MayHaveWritten write.at write.content (mem_state (contents_now old) (past_of old) f w s) (mem_state m (past_of new) f' (raised w) (one_less s))) (sym goes.now)
+    (tries_write (contents_now old) (past_of old) (past_of new) write f f' w s le goes.past)
 
-pub write_does : (old new : Contents) (write : Written) (f f' w : ℕ) (s s' : Option ℕ) → write.at < length (now_of old).synced → GoesOn old new (after_write write (now_of old)) → HasWritten write.at write.content (mem_state (now_of old) (past_of old) f w s) (mem_state (now_of new) (past_of new) f' (raised w) s')
+pub write_does : (old new : Contents) (write : Written) (f f' w : ℕ) (s s' : Option ℕ) → write.at < length (contents_now old).synced → ContentsGoOn old new (after_write write (contents_now old)) → HasWritten write.at write.content (mem_state (contents_now old) (past_of old) f w s) (mem_state (contents_now new) (past_of new) f' (raised w) s')
 write_does old new write f f' w s s' lt goes =
-    subst (λ (m : Moment). HasWritten write.at write.content (mem_state (now_of old) (past_of old) f w s) (mem_state m (past_of new) f' (raised w) s')) (sym goes.now)
-    (does_write (now_of old) (past_of old) (past_of new) write f f' w s s' lt)
+    subst (λ (m : DiskMoment). HasWritten write.at write.content (mem_state (contents_now old) (past_of old) f w s) (mem_state m (past_of new) f' (raised w) s')) (sym goes.now)
+    (does_write (contents_now old) (past_of old) (past_of new) write f f' w s s' lt)
 
 -- a sync and a cut as they are said of the moments
 
-synced_none : (now : Moment) → now.since ≡ [] → now ≡ settled_by Synced now
+synced_none : (now : DiskMoment) → now.since ≡ [] → now ≡ settled_by Synced now
 synced_none now none =
-    let bare : Image → Moment = λ i. record { synced = i; since = [] } in
+    let bare : Image → DiskMoment = λ i. record { synced = i; since = [] } in
     ap (λ (l : List Written). record { synced = now.synced; since = l }) none ∙ ap (λ (l : List Written). bare (shown_of now.synced l)) (sym none)
 
-pub sync_moment : (old new : Contents) → Settles Synced old new → now_of new ≡ settled_by Synced (now_of old)
+pub sync_moment : (old new : Contents) → Settles Synced old new → contents_now new ≡ settled_by Synced (contents_now old)
 sync_moment old new settles =
-    ⊎_elim (λ (goes : GoesOn old new (settled_by Synced (now_of old))). goes.now)
-    (λ (settled : HasSettled old new). settled.same.now ∙ synced_none (now_of old) settled.none)
+    ⊎_elim (λ (goes : ContentsGoOn old new (settled_by Synced (contents_now old))). goes.now)
+    (λ (settled : HasSettled old new). settled.same.now ∙ synced_none (contents_now old) settled.none)
     settles
 
-pub cut_moment : (old new : Contents) (pick : ℕ) → Settles (Cut pick) old new → now_of new ≡ settled_by (Cut pick) (now_of old)
+pub cut_moment : (old new : Contents) (pick : ℕ) → Settles (Cut pick) old new → contents_now new ≡ settled_by (Cut pick) (contents_now old)
 cut_moment old new pick settles =
-    ⊎_elim (λ (goes : GoesOn old new (settled_by (Cut pick) (now_of old))). goes.now)
-    (λ (settled : HasSettled old new). settled.same.now ∙ cut_none pick (now_of old) settled.none)
+    ⊎_elim (λ (goes : ContentsGoOn old new (settled_by (Cut pick) (contents_now old))). goes.now)
+    (λ (settled : HasSettled old new). settled.same.now ∙ cut_none pick (contents_now old) settled.none)
     settles
 
 -- what holds at Ok holds where there is no error

@@ -9,6 +9,12 @@ Image = List (List ℕ)
 abbrev pub sector_at : Image → ℕ → List ℕ
 sector_at image at = slice_index_or image at []
 
+-- The sectors from a place on may be others, so many of them, and all the rest stay.
+pub record ChangesOnly (at count : ℕ) (before after : Image) : Type 0 where
+  pub size : length after ≡ length before
+  pub below : (k : ℕ) → k < at → sector_at after k ≡ sector_at before k
+  pub above : (k : ℕ) → at + count ≤ k → sector_at after k ≡ sector_at before k
+
 -- the image with another sector at a place
 abbrev pub with_sector : Image → ℕ → List ℕ → Image
 with_sector image at sector = slice_set image at sector
@@ -120,17 +126,17 @@ abbrev pub NoMore : DiskState → DiskState → Type 0
 NoMore old new = (image : Image) → new.may_leave image → old.may_leave image
 
 -- the disk has stopped
-abbrev pub is_stopped : Option ℕ → Bool
-is_stopped None = false
-is_stopped (Some zero) = true
-is_stopped (Some (suc n)) = false
+abbrev pub is_disk_stopped : Option ℕ → Bool
+is_disk_stopped None = false
+is_disk_stopped (Some zero) = true
+is_disk_stopped (Some (suc n)) = false
 
 -- the disk has stopped, or stops at the next write
-abbrev pub is_due : Option ℕ → Bool
-is_due None = false
-is_due (Some zero) = true
-is_due (Some (suc zero)) = true
-is_due (Some (suc (suc n))) = false
+abbrev pub is_stop_due : Option ℕ → Bool
+is_stop_due None = false
+is_stop_due (Some zero) = true
+is_stop_due (Some (suc zero)) = true
+is_stop_due (Some (suc (suc n))) = false
 
 -- the writes left after one more
 abbrev pub one_less : Option ℕ → Option ℕ

@@ -31,8 +31,8 @@ silent_law size faults writes fits = record {
   now_alone = λ image left. left;
 }
 
-abbrev pub state_of : FileDisk → DiskState
-state_of disk = silent_state disk.size disk.faults disk.writes
+abbrev pub file_disk_state : FileDisk → DiskState
+file_disk_state disk = silent_state disk.size disk.faults disk.writes
 
-pub disk_law : (disk : FileDisk) → IsDisk (state_of disk)
+pub disk_law : (disk : FileDisk) → IsDisk (file_disk_state disk)
 disk_law disk = silent_law disk.size disk.faults disk.writes disk.size_fits

@@ -6,7 +6,7 @@ pub mod MemDisk
 pub mod MemState
 pub mod MomentLaws
 pub mod Moments
-pub mod Numbered
+pub mod NumberedSectors
 pub mod Plan
 pub mod Record
 pub mod Sector

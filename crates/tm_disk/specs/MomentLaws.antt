@@ -5,7 +5,7 @@ use Rattle.std.proofs.Math.ListN.{length-set}
 use Rattle.std.proofs.lemmas.Bool.{eq-eqb, ne_eqb, cases_lt, cases_eq}
 use Rattle.std.proofs.lemmas.List.{get_or_past}
 use Rattle.tm_disk.specs.Disk.{Image, sector_at, with_sector}
-use Rattle.tm_disk.specs.Moments.{Moment, shown_of, writes_to, IsLeft, picked, settled_by, waiting, after_write, after, moments, moments_past, WasLeft}
+use Rattle.tm_disk.specs.Moments.{DiskMoment, shown_of, writes_to, IsImageLeft, picked, settled_by, moments_waiting, after_write, after, moments, moments_past, WasLeft}
 use Rattle.tm_disk.specs.Written.{Written}
 use Rattle.tm_disk.specs.declared.record.Before.{Before}
 use Rattle.tm_disk.specs.declared.record.Before.TheVariants.{Nothing, Synced, Cut}
@@ -19,49 +19,49 @@ length-picked pick at since [] = refl
 length-picked pick at since (sector ∷ sectors) =
     ap suc (length-picked (pick / (length (writes_to at since) + 1)) (at + 1) since sectors)
 
-pub length-settled_by : (before : Before) (moment : Moment) → length (settled_by before moment).synced ≡ length moment.synced
+pub length-settled_by : (before : Before) (moment : DiskMoment) → length (settled_by before moment).synced ≡ length moment.synced
 length-settled_by Nothing moment = refl
 length-settled_by Synced moment = length-shown_of moment.synced moment.since
 length-settled_by (Cut pick) moment = length-picked pick 0 moment.since moment.synced
 
-pub length-after : (moment : Moment) (writes : List Written) → length (after moment writes).synced ≡ length moment.synced
+pub length-after : (moment : DiskMoment) (writes : List Written) → length (after moment writes).synced ≡ length moment.synced
 length-after moment [] = refl
 length-after moment (write ∷ writes) = length-after (after_write write (settled_by write.before moment)) writes ∙ length-settled_by write.before moment
 
 -- a crash at an earlier moment left as many sectors
-WasLeft-append : (xs ys : List Moment) (image : Image) → WasLeft (xs ++ ys) image → WasLeft xs image ⊎ WasLeft ys image
+WasLeft-append : (xs ys : List DiskMoment) (image : Image) → WasLeft (xs ++ ys) image → WasLeft xs image ⊎ WasLeft ys image
 WasLeft-append [] ys image left = inr left
 WasLeft-append (x ∷ xs) ys image (inl here) = inl (inl here)
 WasLeft-append (x ∷ xs) ys image (inr there) = ⊎_elim (λ l. inl (inr l)) (λ r. inr r) (WasLeft-append xs ys image there)
 
-size-waiting : (before : Before) (moment : Moment) (image : Image) → WasLeft (waiting before moment) image → length image ≡ length moment.synced
+size-waiting : (before : Before) (moment : DiskMoment) (image : Image) → WasLeft (moments_waiting before moment) image → length image ≡ length moment.synced
 size-waiting Nothing moment image left = absurd left
 size-waiting Synced moment image (inl left) = left.size
 size-waiting Synced moment image (inr left) = absurd left
 size-waiting (Cut pick) moment image (inl left) = left.size
 size-waiting (Cut pick) moment image (inr left) = absurd left
 
-size-moments : (moment : Moment) (writes : List Written) (image : Image) → WasLeft (moments moment writes) image → length image ≡ length moment.synced
+size-moments : (moment : DiskMoment) (writes : List Written) (image : Image) → WasLeft (moments moment writes) image → length image ≡ length moment.synced
 size-moments moment [] image left = absurd left
 size-moments moment (write ∷ writes) image left =
     let next = settled_by write.before moment in
     ⊎_elim (size-waiting write.before moment image)
-    (⊎_elim (λ (l : IsLeft next image). l.size ∙ length-settled_by write.before moment)
+    (⊎_elim (λ (l : IsImageLeft next image). l.size ∙ length-settled_by write.before moment)
     (λ later. size-moments (after_write write next) writes image later ∙ length-settled_by write.before moment))
-    (WasLeft-append (waiting write.before moment) (next ∷ moments (after_write write next) writes) image left)
+    (WasLeft-append (moments_waiting write.before moment) (next ∷ moments (after_write write next) writes) image left)
 
-pub size-moments_past : (start : Moment) (record_ : List Written) (pending : Before) (image : Image) → WasLeft (moments_past start record_ pending) image → length image ≡ length start.synced
+pub size-moments_past : (start : DiskMoment) (record_ : List Written) (pending : Before) (image : Image) → WasLeft (moments_past start record_ pending) image → length image ≡ length start.synced
 size-moments_past start record_ pending image left =
     ⊎_elim (size-moments start record_ image)
     (λ w. size-waiting pending (after start record_) image w ∙ length-after start record_)
-    (WasLeft-append (moments start record_) (waiting pending (after start record_)) image left)
+    (WasLeft-append (moments start record_) (moments_waiting pending (after start record_)) image left)
 
-pub WasLeft-drop : (n : ℕ) (xs : List Moment) (image : Image) → WasLeft (drop n xs) image → WasLeft xs image
+pub WasLeft-drop : (n : ℕ) (xs : List DiskMoment) (image : Image) → WasLeft (drop n xs) image → WasLeft xs image
 WasLeft-drop zero xs image left = left
 WasLeft-drop (suc n) [] image left = left
 WasLeft-drop (suc n) (x ∷ xs) image left = inr (WasLeft-drop n xs image left)
 
-pub none_left : (xs : List Moment) (image : Image) → WasLeft (drop (length xs) xs) image → ⊥
+pub none_left : (xs : List DiskMoment) (image : Image) → WasLeft (drop (length xs) xs) image → ⊥
 none_left [] image left = left
 none_left (x ∷ xs) image left = none_left xs image left
 
@@ -126,5 +126,5 @@ shown_each image (write ∷ writes) at =
     (cases_eq write.at at)
 
 -- the shown disk is one that a crash may leave
-pub shown_is_left : (moment : Moment) → IsLeft moment (shown_of moment.synced moment.since)
+pub shown_is_left : (moment : DiskMoment) → IsImageLeft moment (shown_of moment.synced moment.since)
 shown_is_left moment = record { size = length-shown_of moment.synced moment.since; each = shown_each moment.synced moment.since }

@@ -7,12 +7,12 @@ use Rattle.tm_disk.specs.declared.record.Before.{Before}
 use Rattle.tm_disk.specs.declared.record.Before.TheVariants.{Nothing, Synced, Cut}
 
 -- what was synced last, and the writes since
-pub record Moment : Type 0 where
+pub record DiskMoment : Type 0 where
   pub synced : Image
   pub since : List Written
 
 -- a disk of zero bytes
-abbrev pub zero_disk : ℕ → Moment
+abbrev pub zero_disk : ℕ → DiskMoment
 zero_disk size = record { synced = replicate size blank; since = [] }
 
 -- the image with all of the writes made
@@ -26,7 +26,7 @@ writes_to at [] = []
 writes_to at (write ∷ writes) = if write.at == at then write.content ∷ writes_to at writes else writes_to at writes
 
 -- A crash leaves each sector as it was synced last or as a write since then made it.
-pub record IsLeft (moment : Moment) (image : Image) : Type 0 where
+pub record IsImageLeft (moment : DiskMoment) (image : Image) : Type 0 where
   pub size : length image ≡ length moment.synced
   pub each : (at : ℕ) → Contains (sector_at moment.synced at ∷ writes_to at moment.since) (sector_at image at)
 
@@ -39,43 +39,43 @@ picked pick at since (sector ∷ sectors) =
     slice_index_or (sector ∷ writes) (pick % (length writes + 1)) sector ∷ picked (pick / (length writes + 1)) (at + 1) since sectors
 
 -- the moment after what came before a write
-abbrev pub settled_by : Before → Moment → Moment
+abbrev pub settled_by : Before → DiskMoment → DiskMoment
 settled_by Nothing moment = moment
 settled_by Synced moment = record { synced = shown_of moment.synced moment.since; since = [] }
 settled_by (Cut pick) moment = record { synced = picked pick 0 moment.since moment.synced; since = [] }
 
 -- the moment from which something came before a write, if anything did
-abbrev pub waiting : Before → Moment → List Moment
-waiting Nothing moment = []
-waiting Synced moment = moment ∷ []
-waiting (Cut pick) moment = moment ∷ []
+abbrev pub moments_waiting : Before → DiskMoment → List DiskMoment
+moments_waiting Nothing moment = []
+moments_waiting Synced moment = moment ∷ []
+moments_waiting (Cut pick) moment = moment ∷ []
 
 -- the moment after one more write
-abbrev pub after_write : Written → Moment → Moment
+abbrev pub after_write : Written → DiskMoment → DiskMoment
 after_write write moment = record { synced = moment.synced; since = moment.since ++ write ∷ [] }
 
 -- the moment after all the writes of a record
-abbrev pub after : Moment → List Written → Moment
+abbrev pub after : DiskMoment → List Written → DiskMoment
 after moment [] = moment
 after moment (write ∷ writes) = after (after_write write (settled_by write.before moment)) writes
 
 -- the moments before the last write of a record
-abbrev pub moments : Moment → List Written → List Moment
+abbrev pub moments : DiskMoment → List Written → List DiskMoment
 moments moment [] = []
 moments moment (write ∷ writes) =
-    let next = settled_by write.before moment in waiting write.before moment ++ next ∷ moments (after_write write next) writes
+    let next = settled_by write.before moment in moments_waiting write.before moment ++ next ∷ moments (after_write write next) writes
 
 -- the moment now, and those before it, after a record and what came since its last write
-abbrev pub moment_now : Moment → List Written → Before → Moment
+abbrev pub moment_now : DiskMoment → List Written → Before → DiskMoment
 moment_now start record_ pending = settled_by pending (after start record_)
 
-abbrev pub moments_past : Moment → List Written → Before → List Moment
-moments_past start record_ pending = moments start record_ ++ waiting pending (after start record_)
+abbrev pub moments_past : DiskMoment → List Written → Before → List DiskMoment
+moments_past start record_ pending = moments start record_ ++ moments_waiting pending (after start record_)
 
 -- a crash at one of these moments left the image
-abbrev pub WasLeft : List Moment → Image → Type 0
+abbrev pub WasLeft : List DiskMoment → Image → Type 0
 WasLeft [] image = ⊥
-WasLeft (moment ∷ moments) image = IsLeft moment image ⊎ WasLeft moments image
+WasLeft (moment ∷ moments) image = IsImageLeft moment image ⊎ WasLeft moments image
 
 -- what a pick chooses of each sector, of which there were so many writes
 abbrev pub digits : ℕ → List ℕ → List ℕ
@@ -84,7 +84,7 @@ digits pick (count ∷ counts) = pick % (count + 1) ∷ digits (pick / (count + 
 
 -- What a disk in memory keeps: what it shows, what was synced, all the writes, how many of them are synced or cut
 -- off, and what came since the last of them.
-pub record IsSound (shown synced : Image) (writes : List Written) (settled : ℕ) (pending : Before) : Type 0 where
+pub record IsMomentSound (shown synced : Image) (writes : List Written) (settled : ℕ) (pending : Before) : Type 0 where
   pub size_fits : length synced < 2 ^ 32
   pub few : length writes ≤ 262144
   pub settled_in : settled ≤ length writes

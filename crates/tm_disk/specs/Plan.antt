@@ -9,8 +9,8 @@ abbrev pub IsListed : Plan → Type 0
 IsListed plan = Contains plan.fail_at.items (raised plan.calls)
 
 -- after a read or a sync began
-abbrev pub called : Plan → Plan
-called plan = record plan { calls = raised plan.calls }
+abbrev pub plan_called : Plan → Plan
+plan_called plan = record plan { calls = raised plan.calls }
 
 -- after a write began, which counts towards the stop
 abbrev pub told_to_write : Plan → Plan

@@ -1,8 +1,8 @@
 //! Each write that was made to a disk in memory, and its sectors by the numbers of these writes. So the bytes of a sector are kept
 //! once, whatever is shown and synced. A sync and a cut only note that they came, so that neither takes memory.
 ghost use Rattle.std.specs.Prelude.{◌≡◌, ◌+◌, ◌<◌, ◌≤◌, length};
-ghost use Rattle.tm_disk.specs.Moments.{IsSound};
-ghost use Rattle.tm_disk.specs.Numbered.{AreNumbers, image_by, made_by};
+ghost use Rattle.tm_disk.specs.Moments.{IsMomentSound};
+ghost use Rattle.tm_disk.specs.NumberedSectors.{AreNumbers, image_by, made_by};
 
 use crate::Sector;
 use crate::images::{choose, take_over};
@@ -27,7 +27,7 @@ pub struct Contents {
     pub counts: Vec<u32>,
     ghost counts_size: { length counts.items ≡ length synced.items },
     ghost numbers: { AreNumbers shown.items synced.items writes.items settled },
-    ghost sound: { IsSound (image_by writes.items shown.items) (image_by writes.items synced.items) writes.items settled pending },
+    ghost sound: { IsMomentSound (image_by writes.items shown.items) (image_by writes.items synced.items) writes.items settled pending },
 }
 
 // What the write of a number made.
@@ -46,11 +46,11 @@ impl Contents {
     ghost use Rattle.tm_disk.specs.Record.{HasNoRoom};
     ghost use Rattle.tm_disk.specs.Disk.{sector_at};
     ghost use Rattle.tm_disk.specs.Moments.{zero_disk, shown_of, after_write, settled_by};
-    ghost use Rattle.tm_disk.specs.Contents.{now_of, past_of, GoesOn, StaysAt, Settles};
+    ghost use Rattle.tm_disk.specs.Contents.{contents_now, past_of, ContentsGoOn, StaysAt, Settles};
     ghost use Rattle.tm_disk.specs.declared.record.Before.TheVariants.{Synced, Cut};
 
     pub fn new(alloc: Global, sectors: u32) -> Result<Contents, AllocError>
-        ensures now { IfOk result (λ c. now_of c ≡ zero_disk sectors) }
+        ensures now { IfOk result (λ c. contents_now c ≡ zero_disk sectors) }
         ensures past { IfOk result (λ c. past_of c ≡ []) }
         ensures empty { IfOk result (λ c. length c.writes.items ≡ 0) }
     {
@@ -66,14 +66,14 @@ impl Contents {
     }
 
     pub fn size(&self) -> u32
-        ensures { result ≡ length (now_of self.now).synced }
+        ensures { result ≡ length (contents_now self.now).synced }
     {
         self.synced.len() as u32
     }
 
     pub fn get(&self, at: u32) -> Sector
-        requires { at < length (now_of self.now).synced }
-        ensures { result ≡ sector_at (shown_of (now_of self.now).synced (now_of self.now).since) at }
+        requires { at < length (contents_now self.now).synced }
+        ensures { result ≡ sector_at (shown_of (contents_now self.now).synced (contents_now self.now).since) at }
     {
         made(&self.writes, self.shown[at as usize])
     }
@@ -85,9 +85,9 @@ impl Contents {
     }
 
     pub fn write(&mut self, at: u32, content: &Sector) -> Result<(), AllocError>
-        requires in_range { at < length (now_of self.old).synced }
+        requires in_range { at < length (contents_now self.old).synced }
         requires room { length self.old.writes.items < 262144 }
-        ensures ok { OnOk result (GoesOn self.old self.new (after_write (record { at = at; content = content.now; before = self.old.pending }) (now_of self.old))) }
+        ensures ok { OnOk result (ContentsGoOn self.old self.new (after_write (record { at = at; content = content.now; before = self.old.pending }) (contents_now self.old))) }
         ensures count { OnOk result (length self.new.writes.items ≡ length self.old.writes.items + 1) }
         ensures err { OnErr result (StaysAt self.old self.new) }
         ensures same_count { OnErr result (length self.new.writes.items ≡ length self.old.writes.items) }

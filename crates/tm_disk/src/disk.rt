@@ -1,6 +1,6 @@
 //! A disk of sectors: what its calls promise.
 ghost use Rattle.std.specs.Prelude.{◌≡◌, ◌<◌, ◌↔◌, IsTrue, IsFalse, OnOk, OnErr, IsErr};
-ghost use Rattle.tm_disk.specs.Disk.{DiskState, IsDisk, Keeps, IsToldToStop, MayHaveWritten, HasWritten, IsCut, Only, FailedSince, sector_at, is_stopped, is_due, armed};
+ghost use Rattle.tm_disk.specs.Disk.{DiskState, IsDisk, Keeps, IsToldToStop, MayHaveWritten, HasWritten, IsCut, Only, FailedSince, sector_at, is_disk_stopped, is_stop_due, armed};
 ghost use Rattle.tm_disk.specs.declared.disk.DiskFault.TheVariants.{Disk as disk_fault};
 
 use crate::Sector;
@@ -46,7 +46,7 @@ pub trait Disk {
         ensures value { OnOk result (IsTrue (state self.old).tells → into.new ≡ sector_at (state self.old).shown at) }
         ensures keeps { Keeps (state self.old) (state self.new) }
         ensures until_stop { (state self.new).until_stop ≡ (state self.old).until_stop }
-        ensures stopped { IsTrue (is_stopped (state self.old).until_stop) → IsErr result }
+        ensures stopped { IsTrue (is_disk_stopped (state self.old).until_stop) → IsErr result }
         ensures no_fault { OnOk result ((state self.new).faults ≡ (state self.old).faults) }
         ensures failed { OnErr result (FailedSince (state self.old) (state self.new)) };
 
@@ -55,7 +55,7 @@ pub trait Disk {
         requires { at < (state self.old).size }
         ensures tried { MayHaveWritten at from.now (state self.old) (state self.new) }
         ensures done { OnOk result (HasWritten at from.now (state self.old) (state self.new)) }
-        ensures stopped { IsTrue (is_due (state self.old).until_stop) → IsErr result }
+        ensures stopped { IsTrue (is_stop_due (state self.old).until_stop) → IsErr result }
         ensures no_fault { OnOk result ((state self.new).faults ≡ (state self.old).faults) }
         ensures failed { OnErr result (FailedSince (state self.old) (state self.new)) };
 
@@ -64,7 +64,7 @@ pub trait Disk {
         ensures synced { OnOk result (Only (state self.new).shown (state self.new)) }
         ensures keeps { Keeps (state self.old) (state self.new) }
         ensures until_stop { (state self.new).until_stop ≡ (state self.old).until_stop }
-        ensures stopped { IsTrue (is_stopped (state self.old).until_stop) → IsErr result }
+        ensures stopped { IsTrue (is_disk_stopped (state self.old).until_stop) → IsErr result }
         ensures no_fault { OnOk result ((state self.new).faults ≡ (state self.old).faults) }
         ensures failed { OnErr result (FailedSince (state self.old) (state self.new)) };
 

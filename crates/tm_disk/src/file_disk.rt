@@ -49,13 +49,13 @@ fn read_sector(file: &File, at: u32) -> io::Result<Sector> {
 
 impl FileDisk {
     ghost use Rattle.std.specs.Prelude.{◌≡◌};
-    ghost use Rattle.tm_disk.specs.FileDisk.{state_of};
+    ghost use Rattle.tm_disk.specs.FileDisk.{file_disk_state};
 
     /// Opens a file, or makes one of zeros with so many sectors. The disk has as many sectors as the file has
     /// whole ones, and none where the file can't be opened.
     pub fn open<R: Files<File = File>>(rt: &R, path: &str, sectors: u32) -> FileDisk
-        ensures faults { (state_of result).faults ≡ 0 }
-        ensures writes { (state_of result).writes ≡ 0 }
+        ensures faults { (file_disk_state result).faults ≡ 0 }
+        ensures writes { (file_disk_state result).writes ≡ 0 }
     {
         let (file, length) = match open_or_make(rt, path, sectors) {
             Ok((file, length)) => (Some(file), length),
@@ -71,9 +71,9 @@ impl FileDisk {
 }
 
 impl Disk for FileDisk {
-    ghost use Rattle.tm_disk.specs.FileDisk.{state_of, disk_law};
+    ghost use Rattle.tm_disk.specs.FileDisk.{file_disk_state, disk_law};
 
-    ghost state = { state_of };
+    ghost state = { file_disk_state };
 
     ghost is_disk = { disk_law };
 

@@ -1,7 +1,7 @@
 //! What syncs and cuts do to the sectors of a disk in memory. Each is kept as the number of the write that made it.
 ghost use Rattle.std.specs.Prelude.{◌≡◌, ◌↔◌, ℕ, ◌-◌, ◌<◌, ◌≤◌, [], ◌∷◌, length, drop, All, IsTrue, slice_index, slice_index_or, slice_set};
 ghost use Rattle.tm_disk.specs.Moments.{writes_to, picked, digits};
-ghost use Rattle.tm_disk.specs.Numbered.{made_by, image_by, chosen_by};
+ghost use Rattle.tm_disk.specs.NumberedSectors.{made_by, image_by, chosen_by};
 
 use crate::record::Record;
 

@@ -1,6 +1,6 @@
 //! A disk in memory, which fails and is cut off as it is told.
 ghost use Rattle.std.specs.Prelude.{◌≡◌, ◌⊎◌, ◌+◌, ◌<◌, ◌↔◌, IsTrue, IsFalse, IfOk, OnOk, OnErr, IsErr, is_err, if◌then◌else◌, None};
-ghost use Rattle.tm_disk.specs.Disk.{Keeps, IsToldToStop, MayHaveWritten, HasWritten, IsCut, Only, FailedSince, sector_at, is_stopped, is_due, armed};
+ghost use Rattle.tm_disk.specs.Disk.{Keeps, IsToldToStop, MayHaveWritten, HasWritten, IsCut, Only, FailedSince, sector_at, is_disk_stopped, is_stop_due, armed};
 
 use crate::contents::Contents;
 use crate::plan::Plan;
@@ -18,18 +18,18 @@ impl MemDisk {
     ghost use Rattle.std.specs.Prelude.{replicate};
     ghost use Rattle.tm_disk.specs.Sector.{blank};
     ghost use Rattle.tm_disk.specs.Moments.{zero_disk};
-    ghost use Rattle.tm_disk.specs.MemDisk.{state_of, moment_of, fails_at, calls_of, starved_of, recorded};
+    ghost use Rattle.tm_disk.specs.MemDisk.{mem_disk_state, disk_moment_of, fails_at, calls_of, starved_of, recorded};
 
     /// A disk of zero bytes. The calls of `read`, `write` and `sync` are counted together, from 1, and those that
     /// are listed fail.
     pub fn new(alloc: Global, sectors: u32, fail_at: Vec<u64>) -> Result<MemDisk, AllocError>
-        ensures zeros { IfOk result (λ disk. (state_of disk).shown ≡ replicate sectors blank) }
-        ensures synced { IfOk result (λ disk. Only (state_of disk).shown (state_of disk)) }
-        ensures moment { IfOk result (λ disk. moment_of disk ≡ zero_disk sectors) }
+        ensures zeros { IfOk result (λ disk. (mem_disk_state disk).shown ≡ replicate sectors blank) }
+        ensures synced { IfOk result (λ disk. Only (mem_disk_state disk).shown (mem_disk_state disk)) }
+        ensures moment { IfOk result (λ disk. disk_moment_of disk ≡ zero_disk sectors) }
         ensures listed { IfOk result (λ disk. fails_at disk ≡ fail_at.items) }
         ensures calls { IfOk result (λ disk. calls_of disk ≡ 0) }
-        ensures counts { IfOk result (λ disk. ((state_of disk).faults ≡ 0) × ((state_of disk).writes ≡ 0) × (starved_of disk ≡ 0) × (recorded disk ≡ 0)) }
-        ensures not_armed { IfOk result (λ disk. (state_of disk).until_stop ≡ None) }
+        ensures counts { IfOk result (λ disk. ((mem_disk_state disk).faults ≡ 0) × ((mem_disk_state disk).writes ≡ 0) × (starved_of disk ≡ 0) × (recorded disk ≡ 0)) }
+        ensures not_armed { IfOk result (λ disk. (mem_disk_state disk).until_stop ≡ None) }
     {
         Ok(MemDisk {
             contents: Contents::new(alloc, sectors)?,
@@ -55,10 +55,10 @@ impl MemDisk {
 impl Disk for MemDisk {
     ghost use Rattle.tm_disk.specs.Count.{raised};
     ghost use Rattle.tm_disk.specs.Moments.{settled_by};
-    ghost use Rattle.tm_disk.specs.MemDisk.{state_of, moment_of, calls_of, starved_of, fails_at, recorded, MustFail, MustFailToWrite, CountsCall, AddsWrite, AddsNothing, Starves, SameRecord, OnlyArms, disk_law};
+    ghost use Rattle.tm_disk.specs.MemDisk.{mem_disk_state, disk_moment_of, calls_of, starved_of, fails_at, recorded, MustFail, MustFailToWrite, CountsCall, AddsWrite, AddsNoWrite, Starves, SameRecord, OnlyArms, disk_law};
     ghost use Rattle.tm_disk.specs.declared.record.Before.TheVariants.{Synced, Cut};
 
-    ghost state = { state_of };
+    ghost state = { mem_disk_state };
 
     ghost is_disk = { disk_law };
 
@@ -71,18 +71,18 @@ impl Disk for MemDisk {
     }
 
     fn read(&mut self, at: u32, into: &mut Sector) -> Result<(), Failed>
-        requires { at < (state_of self.old).size }
-        ensures value { OnOk result (IsTrue (state_of self.old).tells → into.new ≡ sector_at (state_of self.old).shown at) }
-        ensures keeps { Keeps (state_of self.old) (state_of self.new) }
-        ensures until_stop { (state_of self.new).until_stop ≡ (state_of self.old).until_stop }
-        ensures stopped { IsTrue (is_stopped (state_of self.old).until_stop) → IsErr result }
-        ensures no_fault { OnOk result ((state_of self.new).faults ≡ (state_of self.old).faults) }
-        ensures failed { OnErr result (FailedSince (state_of self.old) (state_of self.new)) }
+        requires { at < (mem_disk_state self.old).size }
+        ensures value { OnOk result (IsTrue (mem_disk_state self.old).tells → into.new ≡ sector_at (mem_disk_state self.old).shown at) }
+        ensures keeps { Keeps (mem_disk_state self.old) (mem_disk_state self.new) }
+        ensures until_stop { (mem_disk_state self.new).until_stop ≡ (mem_disk_state self.old).until_stop }
+        ensures stopped { IsTrue (is_disk_stopped (mem_disk_state self.old).until_stop) → IsErr result }
+        ensures no_fault { OnOk result ((mem_disk_state self.new).faults ≡ (mem_disk_state self.old).faults) }
+        ensures failed { OnErr result (FailedSince (mem_disk_state self.old) (mem_disk_state self.new)) }
 
         // It fails where it is to fail, and nowhere else.
         ensures fails { IsErr result ↔ MustFail self.old }
         ensures counts { CountsCall self.old self.new (is_err result) }
-        ensures moment { moment_of self.new ≡ moment_of self.old }
+        ensures moment { disk_moment_of self.new ≡ disk_moment_of self.old }
         ensures same { SameRecord self.old self.new }
     {
         if self.plan.call() {
@@ -94,24 +94,24 @@ impl Disk for MemDisk {
     }
 
     fn write(&mut self, at: u32, from: &Sector) -> Result<(), Failed>
-        requires { at < (state_of self.old).size }
-        ensures tried { MayHaveWritten at from.now (state_of self.old) (state_of self.new) }
-        ensures done { OnOk result (HasWritten at from.now (state_of self.old) (state_of self.new)) }
-        ensures stopped { IsTrue (is_due (state_of self.old).until_stop) → IsErr result }
-        ensures no_fault { OnOk result ((state_of self.new).faults ≡ (state_of self.old).faults) }
-        ensures failed { OnErr result (FailedSince (state_of self.old) (state_of self.new)) }
+        requires { at < (mem_disk_state self.old).size }
+        ensures tried { MayHaveWritten at from.now (mem_disk_state self.old) (mem_disk_state self.new) }
+        ensures done { OnOk result (HasWritten at from.now (mem_disk_state self.old) (mem_disk_state self.new)) }
+        ensures stopped { IsTrue (is_stop_due (mem_disk_state self.old).until_stop) → IsErr result }
+        ensures no_fault { OnOk result ((mem_disk_state self.new).faults ≡ (mem_disk_state self.old).faults) }
+        ensures failed { OnErr result (FailedSince (mem_disk_state self.old) (mem_disk_state self.new)) }
 
         // It fails where it is to fail and where its record is full, and else for want of memory alone.
         ensures fails { MustFailToWrite self.old → IsErr result }
         ensures starves { IsErr result → MustFailToWrite self.old ⊎ Starves self.old self.new }
         ensures counts { CountsCall self.old self.new (is_err result) }
-        ensures counted { (state_of self.new).writes ≡ raised (state_of self.old).writes }
+        ensures counted { (mem_disk_state self.new).writes ≡ raised (mem_disk_state self.old).writes }
 
         // A disk that has stopped, or whose record is full, adds nothing. Any other adds the write, also where it
         // fails, unless that met want of memory.
-        ensures stopped_adds_nothing { IsTrue (is_stopped (state_of self.old).until_stop) → AddsNothing self.old self.new }
-        ensures full_adds_nothing { recorded self.old ≡ 262144 → AddsNothing self.old self.new }
-        ensures adds { IsFalse (is_stopped (state_of self.old).until_stop) → recorded self.old < 262144 → AddsWrite at from.now self.old self.new ⊎ (IsErr result × Starves self.old self.new) }
+        ensures stopped_adds_nothing { IsTrue (is_disk_stopped (mem_disk_state self.old).until_stop) → AddsNoWrite self.old self.new }
+        ensures full_adds_nothing { recorded self.old ≡ 262144 → AddsNoWrite self.old self.new }
+        ensures adds { IsFalse (is_disk_stopped (mem_disk_state self.old).until_stop) → recorded self.old < 262144 → AddsWrite at from.now self.old self.new ⊎ (IsErr result × Starves self.old self.new) }
     {
         let stopped = self.plan.has_stopped();
         let fails = self.plan.tell();
@@ -131,18 +131,18 @@ impl Disk for MemDisk {
     }
 
     fn sync(&mut self) -> Result<(), Failed>
-        ensures synced { OnOk result (Only (state_of self.new).shown (state_of self.new)) }
-        ensures keeps { Keeps (state_of self.old) (state_of self.new) }
-        ensures until_stop { (state_of self.new).until_stop ≡ (state_of self.old).until_stop }
-        ensures stopped { IsTrue (is_stopped (state_of self.old).until_stop) → IsErr result }
-        ensures no_fault { OnOk result ((state_of self.new).faults ≡ (state_of self.old).faults) }
-        ensures failed { OnErr result (FailedSince (state_of self.old) (state_of self.new)) }
+        ensures synced { OnOk result (Only (mem_disk_state self.new).shown (mem_disk_state self.new)) }
+        ensures keeps { Keeps (mem_disk_state self.old) (mem_disk_state self.new) }
+        ensures until_stop { (mem_disk_state self.new).until_stop ≡ (mem_disk_state self.old).until_stop }
+        ensures stopped { IsTrue (is_disk_stopped (mem_disk_state self.old).until_stop) → IsErr result }
+        ensures no_fault { OnOk result ((mem_disk_state self.new).faults ≡ (mem_disk_state self.old).faults) }
+        ensures failed { OnErr result (FailedSince (mem_disk_state self.old) (mem_disk_state self.new)) }
 
         // It fails where it is to fail, and nowhere else.
         ensures fails { IsErr result ↔ MustFail self.old }
         ensures counts { CountsCall self.old self.new (is_err result) }
-        ensures settled { OnOk result (moment_of self.new ≡ settled_by Synced (moment_of self.old)) }
-        ensures unchanged { OnErr result (moment_of self.new ≡ moment_of self.old) }
+        ensures settled { OnOk result (disk_moment_of self.new ≡ settled_by Synced (disk_moment_of self.old)) }
+        ensures unchanged { OnErr result (disk_moment_of self.new ≡ disk_moment_of self.old) }
         ensures same { SameRecord self.old self.new }
     {
         if self.plan.call() {
@@ -155,10 +155,10 @@ impl Disk for MemDisk {
 
     fn arm(&mut self, n: u64) -> bool
         requires { 0 < n }
-        ensures can { IsTrue result ↔ IsTrue (state_of self.old).can_arm }
-        ensures told { IsToldToStop (state_of self.old) (state_of self.new) }
-        ensures no_fault { (state_of self.new).faults ≡ (state_of self.old).faults }
-        ensures armed { IsTrue result → (state_of self.new).until_stop ≡ armed n (state_of self.old).until_stop }
+        ensures can { IsTrue result ↔ IsTrue (mem_disk_state self.old).can_arm }
+        ensures told { IsToldToStop (mem_disk_state self.old) (mem_disk_state self.new) }
+        ensures no_fault { (mem_disk_state self.new).faults ≡ (mem_disk_state self.old).faults }
+        ensures armed { IsTrue result → (mem_disk_state self.new).until_stop ≡ armed n (mem_disk_state self.old).until_stop }
         ensures nothing { IsFalse result → self.new ≡ self.old }
 
         // It changes no count, no list and nothing that a crash may leave.
@@ -169,13 +169,13 @@ impl Disk for MemDisk {
     }
 
     fn cut(&mut self, pick: u64)
-        ensures cut { IsCut pick (state_of self.old) (state_of self.new) }
+        ensures cut { IsCut pick (mem_disk_state self.old) (mem_disk_state self.new) }
 
         // The sectors that were written take the digits of the pick in ascending order.
-        ensures picked { moment_of self.new ≡ settled_by (Cut pick) (moment_of self.old) }
+        ensures picked { disk_moment_of self.new ≡ settled_by (Cut pick) (disk_moment_of self.old) }
         ensures same { SameRecord self.old self.new }
         ensures calls { (calls_of self.new ≡ calls_of self.old) × (fails_at self.new ≡ fails_at self.old) }
-        ensures faults { (state_of self.new).faults ≡ (state_of self.old).faults }
+        ensures faults { (mem_disk_state self.new).faults ≡ (mem_disk_state self.old).faults }
     {
         self.contents.cut(pick);
         self.plan.disarm();

@@ -1,6 +1,6 @@
 //! What a disk in memory counts, and the calls at which it is to fail.
 ghost use Rattle.std.specs.Prelude.{◌≡◌, ◌⊎◌, ◌↔◌, IsTrue, None};
-ghost use Rattle.tm_disk.specs.Disk.{is_stopped, is_due, one_less, armed};
+ghost use Rattle.tm_disk.specs.Disk.{is_disk_stopped, is_stop_due, one_less, armed};
 ghost use Rattle.tm_disk.specs.Count.{raised};
 
 #[derive(Drop)]
@@ -25,7 +25,7 @@ pub fn raise(count: u64) -> u64
 
 // The disk has stopped.
 fn has_stopped(until_stop: Option<u64>) -> bool
-    ensures { result ≡ is_stopped until_stop }
+    ensures { result ≡ is_disk_stopped until_stop }
 {
     match until_stop {
         Some(0) => true,
@@ -35,7 +35,7 @@ fn has_stopped(until_stop: Option<u64>) -> bool
 
 // The disk has stopped, or stops at the next write.
 fn stops_now(until_stop: Option<u64>) -> bool
-    ensures { result ≡ is_due until_stop }
+    ensures { result ≡ is_stop_due until_stop }
 {
     match until_stop {
         Some(0) => true,
@@ -66,12 +66,12 @@ fn arm_for(until_stop: Option<u64>, n: u64) -> Option<u64>
 }
 
 impl Plan {
-    ghost use Rattle.tm_disk.specs.Plan.{IsListed, called, told_to_write, faulted, starved};
+    ghost use Rattle.tm_disk.specs.Plan.{IsListed, plan_called, told_to_write, faulted, starved};
 
     // A read or a sync begins: whether it fails.
     pub fn call(&mut self) -> bool
-        ensures fails { IsTrue result ↔ (IsListed self.old ⊎ IsTrue (is_stopped self.old.until_stop)) }
-        ensures counted { self.new ≡ called self.old }
+        ensures fails { IsTrue result ↔ (IsListed self.old ⊎ IsTrue (is_disk_stopped self.old.until_stop)) }
+        ensures counted { self.new ≡ plan_called self.old }
     {
         self.calls = raise(self.calls);
         self.fail_at.contains(&self.calls) || has_stopped(self.until_stop)
@@ -79,7 +79,7 @@ impl Plan {
 
     // A write begins: whether it fails.
     pub fn tell(&mut self) -> bool
-        ensures fails { IsTrue result ↔ (IsListed self.old ⊎ IsTrue (is_due self.old.until_stop)) }
+        ensures fails { IsTrue result ↔ (IsListed self.old ⊎ IsTrue (is_stop_due self.old.until_stop)) }
         ensures counted { self.new ≡ told_to_write self.old }
     {
         let due = stops_now(self.until_stop);
@@ -90,7 +90,7 @@ impl Plan {
     }
 
     pub fn has_stopped(&self) -> bool
-        ensures { result ≡ is_stopped self.now.until_stop }
+        ensures { result ≡ is_disk_stopped self.now.until_stop }
     {
         has_stopped(self.until_stop)
     }

@@ -4,7 +4,7 @@ use Rattle.std.specs.Prelude.{Option, Some, None, IfSome}
 use Rattle.std.specs.Io.KnownBytes.{prepend_known, IsAtEnd}
 use Rattle.std.proofs.lemmas.List.{append-nil, drop_all}
 use Rattle.std.proofs.lemmas.Bool.{cases_lt}
-use Rattle.tm_edge.specs.Lines.{line_size, line_text, behind_line, cut_lines, ServesLine, IsTooLong, Serves, ServesTold}
+use Rattle.tm_edge.specs.Lines.{line_size, line_text, behind_line, cut_lines, ServesLine, IsLineTooLong, ServesNextLine, ServesTold}
 use Rattle.tm_edge.proofs.CutLines.{cut_first}
 use Rattle.tm_edge.proofs.FirstLine.{size-append, text-append, behind-append, size_within, size_whole}
 
@@ -37,19 +37,19 @@ serves_more held text after rest within serves =
     let behind : after ++ rest ≡ behind_line (held ++ rest) = ap (λ xs. xs ++ rest) serves.rest ∙ sym (behind-append held rest within) in
     record { some = some; short = (let short = serves.short in omega arith); line = line; rest = behind; lines = cut_served (held ++ rest) text (after ++ rest) some line behind }
 
-serves_within : (held after rest : List ℕ) (line : Option (List ℕ)) → line_size held < length held → Serves held line after → Serves (held ++ rest) line (after ++ rest)
+serves_within : (held after rest : List ℕ) (line : Option (List ℕ)) → line_size held < length held → ServesNextLine held line after → ServesNextLine (held ++ rest) line (after ++ rest)
 serves_within held after rest None within serves = absurd (let none = ap (λ (xs : List ℕ). length xs) serves.0 in omega arith)
 serves_within held after rest (Some text) within serves = serves_more held text after rest within serves
 
-serves_all : (held after rest : List ℕ) (line : Option (List ℕ)) → rest ≡ [] → Serves held line after → Serves (held ++ rest) line (after ++ rest)
+serves_all : (held after rest : List ℕ) (line : Option (List ℕ)) → rest ≡ [] → ServesNextLine held line after → ServesNextLine (held ++ rest) line (after ++ rest)
 serves_all held after rest line none serves =
     let whole : held ≡ held ++ rest = sym (append-nil held) ∙ ap (λ xs. held ++ xs) (sym none) in
     let behind : after ≡ after ++ rest = sym (append-nil after) ∙ ap (λ xs. after ++ xs) (sym none) in
-    let P : List ℕ → Type 0 = λ xs. Serves xs line after in
-    let Q : List ℕ → Type 0 = λ xs. Serves (held ++ rest) line xs in
+    let P : List ℕ → Type 0 = λ xs. ServesNextLine xs line after in
+    let Q : List ℕ → Type 0 = λ xs. ServesNextLine (held ++ rest) line xs in
     subst Q behind (subst P whole serves)
 
-pub serves_told : (held after : List ℕ) (line left : Option (List ℕ)) → (line_size held ≡ length held → IsAtEnd left) → Serves held line after →
+pub serves_told : (held after : List ℕ) (line left : Option (List ℕ)) → (line_size held ≡ length held → IsAtEnd left) → ServesNextLine held line after →
     ServesTold (prepend_known held left) line (prepend_known after left)
 serves_told held after line None ending serves = refl
 serves_told held after line (Some rest) ending serves = elim (cases_lt (line_size held) (length held)) [
@@ -63,6 +63,6 @@ too_long_more held rest long = elim (cases_lt (line_size held) (length held)) [
   | inr whole ↦ (let most = size_within held in let less : length held ≤ line_size (held ++ rest) = size_whole held rest (omega arith) in omega arith)
 ]
 
-pub too_long_told : (held : List ℕ) (left : Option (List ℕ)) → IsTooLong held → IfSome (prepend_known held left) IsTooLong
+pub too_long_told : (held : List ℕ) (left : Option (List ℕ)) → IsLineTooLong held → IfSome (prepend_known held left) IsLineTooLong
 too_long_told held None long = tt
 too_long_told held (Some rest) long = too_long_more held rest long

@@ -17,5 +17,5 @@ pub record Store : Type 0 where
   pub fail_at : List ℕ
 
 -- The next call is listed as one that fails. Calls are counted up to the last value of 64 bits, which no list passes.
-abbrev pub Fails : ℕ → List ℕ → Type 0
-Fails calls fail_at = (calls + 1 < 2 ^ 64) × Contains fail_at (calls + 1)
+abbrev pub EdgeFails : ℕ → List ℕ → Type 0
+EdgeFails calls fail_at = (calls + 1 < 2 ^ 64) × Contains fail_at (calls + 1)

@@ -2,4 +2,4 @@ pub mod Fault
 pub mod Feed
 pub mod Lines
 pub mod Buffer
-pub mod Kept
+pub mod KeptText

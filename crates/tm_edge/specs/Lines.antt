@@ -25,8 +25,8 @@ abbrev pub behind_line : List ℕ → List ℕ
 behind_line bytes = drop (line_size bytes + 1) bytes
 
 -- a line of 4,097 bytes or more before its LF is too long, a CR being counted
-abbrev pub IsTooLong : List ℕ → Type 0
-IsTooLong bytes = 4096 < line_size bytes
+abbrev pub IsLineTooLong : List ℕ → Type 0
+IsLineTooLong bytes = 4096 < line_size bytes
 
 -- ---- all lines
 
@@ -65,23 +65,23 @@ pub record ServesLine (before text after : List ℕ) : Type 0 where
   pub lines : cut_lines before ≡ record { text = text; size = line_size before } ∷ cut_lines after
 
 -- what a call serves: a line, or none where no bytes are left
-abbrev pub Serves : List ℕ → Option (List ℕ) → List ℕ → Type 0
-Serves before None after = (before ≡ []) × (after ≡ [])
-Serves before (Some text) after = ServesLine before text after
+abbrev pub ServesNextLine : List ℕ → Option (List ℕ) → List ℕ → Type 0
+ServesNextLine before None after = (before ≡ []) × (after ≡ [])
+ServesNextLine before (Some text) after = ServesLine before text after
 
 -- the same of bytes that may be told; what isn't told stays untold
 abbrev pub ServesTold : Option (List ℕ) → Option (List ℕ) → Option (List ℕ) → Type 0
 ServesTold None line after = after ≡ None
 ServesTold (Some before) line None = ⊥
-ServesTold (Some before) line (Some after) = Serves before line after
+ServesTold (Some before) line (Some after) = ServesNextLine before line after
 
 -- ---- a run of calls
 
 -- a line that isn't too long
-abbrev pub is_short : CutLine → Bool
-is_short line = nat_le line.size 4096
+abbrev pub is_short_line : CutLine → Bool
+is_short_line line = nat_le line.size 4096
 
 -- these lines were served from the bytes, none of them too long, and the lines of the other bytes come behind them
 pub record HasServed (bytes : List ℕ) (lines : List CutLine) (rest : List ℕ) : Type 0 where
-  pub short : list_all is_short lines ≡ true
+  pub short : list_all is_short_line lines ≡ true
   pub cut : cut_lines bytes ≡ lines ++ cut_lines rest

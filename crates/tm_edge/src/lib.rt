@@ -20,8 +20,8 @@ mod sink;
 mod source;
 mod std_edge;
 mod steps;
-mod text_edge_sink;
-mod text_edge_source;
+mod text_sink;
+mod text_source;
 
 pub use lines::{LINE_LIMIT, Line, LineFault, Lines};
 pub use mem_sink::MemSink;
@@ -29,5 +29,5 @@ pub use mem_source::MemSource;
 pub use sink::Sink;
 pub use source::{Failed, Source};
 pub use std_edge::{StdSink, StdSource};
-pub use text_edge_sink::TextSink;
-pub use text_edge_source::TextSource;
+pub use text_sink::TextSink;
+pub use text_source::TextSource;

@@ -4,7 +4,7 @@ ghost use Rattle.std.specs.Io.KnownBytes.{prepend_known, IsAtEnd};
 ghost use Rattle.std.specs.Str.Lines.{strip_carriage_return};
 ghost use Rattle.tm_edge.specs.Fault.{HasRisen};
 ghost use Rattle.tm_edge.specs.Buffer.{held_bytes};
-ghost use Rattle.tm_edge.specs.Lines.{line_size, line_text, unread, IsTooLong, Serves, ServesTold};
+ghost use Rattle.tm_edge.specs.Lines.{line_size, line_text, unread, IsLineTooLong, ServesNextLine, ServesTold};
 
 use crate::Source;
 use crate::buffer::Buffer;
@@ -100,8 +100,8 @@ impl Lines {
         ensures none_lost { OnErr result (unread self.new (S.left source.new) ≡ unread self.old (S.left source.old)) }
 
         // A line that is too long is told from the bytes that are held.
-        ensures too_long { IsErrOf result LineFault.TooLong → IfSome (unread self.old (S.left source.old)) IsTooLong }
-        ensures too_long_held { IsErrOf result LineFault.TooLong → IsTooLong self.new }
+        ensures too_long { IsErrOf result LineFault.TooLong → IfSome (unread self.old (S.left source.old)) IsLineTooLong }
+        ensures too_long_held { IsErrOf result LineFault.TooLong → IsLineTooLong self.new }
 
         // The source failed in the call exactly where that is told.
         ensures read { IsErrOf result LineFault.Read → HasRisen (S.faults source.old) (S.faults source.new) }
@@ -175,7 +175,7 @@ fn whole_line(held: &[u8], seen: usize) -> Result<Option<usize>, TooLong>
     requires clear { seen ≤ line_size held.now }
     ensures size { IfOk result (λ end. MatchOption end (line_size held.now ≡ length held.now) (λ n. (n ≡ line_size held.now) × (n < length held.now))) }
     ensures short { OnOk result (line_size held.now ≤ 4096) }
-    ensures too_long { OnErr result (IsTooLong held.now) }
+    ensures too_long { OnErr result (IsLineTooLong held.now) }
 {
     let end = line_end(held, seen);
     if end.unwrap_or(held.len()) > LINE_LIMIT {
@@ -217,7 +217,7 @@ fn read_line<S: Source>(buffer: &mut Buffer, source: &mut S) -> Result<usize, St
     ensures size { IfOk result (λ n. n ≡ line_size (held_bytes buffer.new)) }
     ensures short { IfOk result (λ n. n ≤ 4096) }
     ensures whole { IfOk result (λ n. n ≡ length (held_bytes buffer.new) → IsAtEnd (S.left source.new)) }
-    ensures too_long { IsErrOf result Stop.TooLong → IsTooLong (held_bytes buffer.new) }
+    ensures too_long { IsErrOf result Stop.TooLong → IsLineTooLong (held_bytes buffer.new) }
     ensures read { IsErrOf result Stop.Read → HasRisen (S.faults source.old) (S.faults source.new) }
     ensures count { S.faults source.old ≤ S.faults source.new }
     ensures no_fault { OnOk result (S.faults source.new ≡ S.faults source.old) }
@@ -244,7 +244,7 @@ fn serve(buffer: &mut Buffer, size: usize, text: Vec<u8>) -> Option<Line>
     requires short { size ≤ 4096 }
     requires room { size ≤ vec_capacity text }
     requires empty { text.items ≡ [] }
-    ensures { Serves (held_bytes buffer.old) result (held_bytes buffer.new) }
+    ensures { ServesNextLine (held_bytes buffer.old) result (held_bytes buffer.new) }
 {
     if buffer.held().is_empty() {
         return None;

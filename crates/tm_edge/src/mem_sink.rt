@@ -2,7 +2,7 @@
 ghost use Rattle.std.specs.Prelude.{◌≡◌, ◌+◌, ◌-◌, ◌^◌, ◌<◌, ◌≤◌, ◌⊎◌, ◌↔◌, ◌++◌, min, Some, [], length, take, OnOk, OnErr, IsErr, IsTrue, if◌then◌else◌};
 ghost use Rattle.std.specs.Io.KnownBytes.{append_known};
 ghost use Rattle.tm_edge.specs.Fault.{HasRisen, AppendsFront};
-ghost use Rattle.tm_edge.specs.Feed.{Fails};
+ghost use Rattle.tm_edge.specs.Feed.{EdgeFails};
 
 use crate::{Failed, Sink};
 use std::alloc::{AllocError, Global};
@@ -70,7 +70,7 @@ impl MemSink {
 
     // Counts a call, and says whether it is listed as one that fails.
     fn is_listed(&mut self) -> bool
-        ensures listed { IsTrue result ↔ Fails self.old.calls self.old.fail_at }
+        ensures listed { IsTrue result ↔ EdgeFails self.old.calls self.old.fail_at }
         ensures counts { self.new ≡ record self.old { calls = min (self.old.calls + 1) (2 ^ 64 - 1) } }
     {
         if self.calls == u64::MAX {
@@ -113,7 +113,7 @@ impl Sink for MemSink {
         ensures failed { OnErr result (HasRisen self.old.faults self.new.faults) }
 
         // It fails at the listed calls and past its room, and then writes nothing.
-        ensures fails { IsErr result ↔ (Fails self.old.calls self.old.fail_at ⊎ (self.old.room < length bytes.now)) }
+        ensures fails { IsErr result ↔ (EdgeFails self.old.calls self.old.fail_at ⊎ (self.old.room < length bytes.now)) }
         ensures none { OnErr result (self.new.written ≡ self.old.written) }
         ensures room { OnOk result (self.new.room + length bytes.now ≡ self.old.room) }
         ensures room_kept { OnErr result (self.new.room ≡ self.old.room) }

@@ -2,30 +2,30 @@
 ghost use Rattle.std.specs.Prelude.{◌≡◌, ◌+◌, ◌-◌, ◌^◌, ◌<◌, ◌≤◌, ◌↔◌, min, Some, length, take, drop, IfOk, OnOk, OnErr, IsErr, IsTrue, if◌then◌else◌};
 ghost use Rattle.std.specs.Io.KnownBytes.{prepend_known, IsAtEnd};
 ghost use Rattle.tm_edge.specs.Fault.{HasRisen};
-ghost use Rattle.tm_edge.specs.Feed.{Fails};
+ghost use Rattle.tm_edge.specs.Feed.{EdgeFails};
 
-use crate::{Failed, Source};
+use crate::{Failed, Source, TextSource};
 use std::marker::Model;
+use tm_types::Bytes;
 
 /// A source over bytes in memory, which it tells.
 #[derive(Debug, Drop)]
 pub struct MemSource {
-    bytes: Vec<u8>,
-    at: usize,
+    text: TextSource,
     calls: u64,
     faults: u64,
     fail_at: Vec<u64>,
 }
 
 impl Model for MemSource {
-    ghost use Rattle.std.specs.Prelude.{◌^◌, ◌≤◌, ◌<◌, vec_len, drop};
+    ghost use Rattle.std.specs.Prelude.{◌^◌, ◌≤◌, ◌<◌};
     ghost use Rattle.tm_edge.specs.Feed.{Feed};
 
     ghost Value = { Feed };
 
-    ghost view = { λ s. record { left = drop s.at s.bytes.items; calls = s.calls; faults = s.faults; fail_at = s.fail_at.items } };
+    ghost view = { λ s. record { left = s.text; calls = s.calls; faults = s.faults; fail_at = s.fail_at.items } };
 
-    ghost invariant = { λ s. (s.at ≤ vec_len s.bytes) × (s.faults ≤ s.calls) × (s.calls < 2 ^ 64) };
+    ghost invariant = { λ s. (s.faults ≤ s.calls) × (s.calls < 2 ^ 64) };
 }
 
 impl MemSource {
@@ -38,8 +38,7 @@ impl MemSource {
         ensures faults { result.faults ≡ 0 }
     {
         MemSource {
-            bytes,
-            at: 0,
+            text: TextSource::new(Bytes::from_vec(bytes)),
             calls: 0,
             faults: 0,
             fail_at,
@@ -48,7 +47,7 @@ impl MemSource {
 
     // Counts a call, and says whether it is to fail.
     fn fails(&mut self) -> bool
-        ensures fails { IsTrue result ↔ Fails self.old.calls self.old.fail_at }
+        ensures fails { IsTrue result ↔ EdgeFails self.old.calls self.old.fail_at }
         ensures left { self.new.left ≡ self.old.left }
         ensures fail_at { self.new.fail_at ≡ self.old.fail_at }
         ensures calls { self.new.calls ≡ min (self.old.calls + 1) (2 ^ 64 - 1) }
@@ -81,7 +80,7 @@ impl Source for MemSource {
         ensures failed { OnErr result (HasRisen self.old.faults self.new.faults) }
 
         // It fails at the listed calls and at no others, and gives as much as the buffer takes.
-        ensures listed { IsErr result ↔ Fails self.old.calls self.old.fail_at }
+        ensures listed { IsErr result ↔ EdgeFails self.old.calls self.old.fail_at }
         ensures filled { IfOk result (λ n. n ≡ min (length into.new) (length self.old.left)) }
         ensures list { self.new.fail_at ≡ self.old.fail_at }
         ensures calls { self.new.calls ≡ min (self.old.calls + 1) (2 ^ 64 - 1) }
@@ -89,9 +88,6 @@ impl Source for MemSource {
         if self.fails() {
             return Err(Failed);
         }
-        let n = into.len().min(self.bytes.len() - self.at);
-        into[..n].copy_from_slice(&self.bytes[self.at..self.at + n]);
-        self.at += n;
-        Ok(n)
+        self.text.take(into)
     }
 }

@@ -7,7 +7,7 @@ use Rattle.std.specs.List.{position, prefix_len}
 use Rattle.std.proofs.lemmas.Bool.{lt-ltb, le-ltb}
 use Rattle.model_messages.specs.Queue.{free_count, messages_of}
 use Rattle.conversation.specs.declared.conversations.Busy.{Busy as BusyMessage}
-use Rattle.conversation.specs.Refusals.{input_answer as conversation_answer}
+use Rattle.conversation.specs.Refusals.{conversation_answer as conversation_answer}
 use Rattle.model_messages.specs.declared.conversation.Conversation.{Conversation}
 use Rattle.model_system.specs.Codes.{code_at, code_place}
 use Rattle.model_system.specs.declared.code.Code.{Code}
@@ -29,24 +29,24 @@ use Rattle.model_machine.specs.declared.entry.AckRefused.TheVariants.{Unknown, A
 use Rattle.model_machine.specs.declared.entry.Entry.TheVariants.{Accept, Acked as AckedEntry}
 use Rattle.model_machine.specs.declared.lasting.TerminalState.{TerminalState}
 use Rattle.model_machine.specs.Machine.{Moment, terminal_at, terminal_place, output_at, moment_with}
-use Rattle.model_machine.specs.Lasting.{KeptInput, applied, code_word, kept_alone, kept_by, kept_by_code, kept_first, kept_input, without_word}
-use Rattle.model_machine.specs.Lasting.LastingStep.{Acknowledges}
+use Rattle.model_machine.specs.LastingSteps.{KeptInput, applied, code_word, kept_alone, kept_by, kept_by_code, kept_first, kept_input, without_word}
+use Rattle.model_machine.specs.LastingSteps.LastingStep.{Acknowledges}
 use Rattle.model_machine.specs.declared.entry.ControlCall.TheVariants.{Acknowledge}
-use Rattle.model_machine.specs.Steps.{Refusal, busy_by, first_of, by_number, by_count, most_segments, accepts, acknowledges, ack_by, input_answer, lasting_step, no_room, stopped_by, stopped_code}
+use Rattle.model_machine.specs.MachineCalls.{Refusal, busy_by, first_refusal, by_number, by_count, most_segments, accepted_step, acknowledged_step, ack_by, input_answer, lasting_step, no_room, stopped_by, stopped_code}
 use Rattle.log_records.specs.declared.untold.Untold.{Untold}
-use Rattle.lasting_state.specs.Telling.{TellsAcknowledged, WouldAcknowledge}
-use Rattle.tm_machine.specs.Told.{IsLonger, Tells}
+use Rattle.lasting_state.specs.ToldSteps.{TellsAcknowledged, WouldAcknowledge}
+use Rattle.tm_machine.specs.ToldByCall.{IsCallLonger, TellsLastingStep}
 use Rattle.tm_machine.proofs.Telling.{unlasting_tells, tells_step, longer_step}
 use Rattle.lasting_state.specs.Tables.{TablesState, lasting_of, IsAcknowledged}
 use Rattle.region_work.specs.declared.region.Busy.{Busy}
 use Rattle.tm_machine.specs.Answers.{IsAnswered}
-use Rattle.tm_machine.specs.Inputs.{IsNewInput, IsRefusal, code_for, is_input_fault, kept_so, way_by}
+use Rattle.tm_machine.specs.Inputs.{IsNewInput, IsInputRefusal, code_for, is_input_fault, kept_so, way_by}
 use Rattle.tm_machine.specs.declared.input.NewInput.{NewInput}
 use Rattle.tm_types.specs.Name.{IsName}
-use Rattle.model_messages.specs.Input.{busy_id}
+use Rattle.model_messages.specs.ConversationInput.{busy_id}
 use Rattle.model_messages.specs.Terminals.{conversation_at}
 use Rattle.tm_machine.specs.declared.input.Way.TheVariants.{Alone, Begins}
-use Rattle.tm_machine.specs.Parts.{PartsState, slots_of, settings_of, flags_of, AreParts}
+use Rattle.tm_machine.specs.Parts.{PartsState, work_slots, settings_of, flags_of, AreParts}
 use Rattle.tm_machine.proofs.Conversing.{no_both}
 use Rattle.tm_machine.proofs.Leaving.{moment_is, moment_stays}
 use Rattle.tm_machine.proofs.Named.{code_named, code_there, unplaced_code}
@@ -138,7 +138,7 @@ idle_now (Some c) (Some n) code e = cc
 -- ---- the answer of an input, by what was looked up
 abbrev pub answer_by : Option TerminalState → ℕ → Refusal → Option Code → Refusal → ℕ → Refusal → ℕ → Result Taken InputRefused
 answer_by terminal number busy code halted count room next =
-    unwrap_or (first_of (
+    unwrap_or (first_refusal (
     (if is_some terminal then None else Some (Err NoTerminal))
     ∷ (if option_map_or (λ t. t.stopped) terminal false then Some (Err StoppedTerminal) else None)
     ∷ option_and_then (λ t. by_number t.last number) terminal
@@ -180,7 +180,7 @@ not_fault last number fault e = by (nat_le number last) (nat_lt (last + 1) numbe
     by false true f = cc
     by false false f = cc
 
-is_refusal : (right answer : Result Taken InputRefused) → answer ≡ right → ((id : ℕ) → answer ≡ Ok (New id) → ⊥) → ((fault : ControlFault) → answer ≡ Err (Fault fault) → ⊥) → IsRefusal right answer
+is_refusal : (right answer : Result Taken InputRefused) → answer ≡ right → ((id : ℕ) → answer ≡ Ok (New id) → ⊥) → ((fault : ControlFault) → answer ≡ Err (Fault fault) → ⊥) → IsInputRefusal right answer
 is_refusal right (Ok (New id)) e other sound = absurd (other id refl)
 is_refusal right (Ok Already) e other sound = e
 is_refusal right (Err NoTerminal) e other sound = e
@@ -194,7 +194,7 @@ is_refusal right (Err (QueueFull need limit)) e other sound = e
 is_refusal right (Err (Fault fault)) e other sound = absurd (sound fault refl)
 
 -- a refusal is no fault
-pub refused_unfaulted : (right answer : Result Taken InputRefused) → IsRefusal right answer → is_input_fault answer ≡ false
+pub refused_unfaulted : (right answer : Result Taken InputRefused) → IsInputRefusal right answer → is_input_fault answer ≡ false
 refused_unfaulted right (Ok taken) h = refl
 refused_unfaulted right (Err NoTerminal) h = refl
 refused_unfaulted right (Err StoppedTerminal) h = refl
@@ -207,7 +207,7 @@ refused_unfaulted right (Err (QueueFull need limit)) h = refl
 refused_unfaulted right (Err (Fault fault)) h = absurd h
 
 pub numbered : (t : Option TerminalState) (last number : ℕ) (busy : Refusal) (code : Option Code) (halted : Refusal) (count : ℕ) (room : Refusal) (next : ℕ) (answer : Result Taken InputRefused)
-    → IsSomeAnd t (IsRunning last) → Some answer ≡ by_number last number → IsRefusal (answer_by t number busy code halted count room next) answer
+    → IsSomeAnd t (IsRunning last) → Some answer ≡ by_number last number → IsInputRefusal (answer_by t number busy code halted count room next) answer
 numbered (Some s) last number busy code halted count room next answer same e =
     let here : by_number s.last number ≡ Some answer = ap (λ n. by_number n number) (sym same.0) ∙ sym e in
     is_refusal (answer_by (Some s) number busy code halted count room next) answer (sym (step same.1 here))
@@ -221,11 +221,11 @@ numbered None last number busy code halted count room next answer same e = absur
 past_number : (t : Option TerminalState) (last number : ℕ) (busy : Refusal) (code : Option Code) (halted : Refusal) (count : ℕ) (room : Refusal) (next : ℕ)
     → IsSomeAnd t (IsRunning last) → None ≡ by_number last number
     → answer_by t number busy code halted count room next
-    ≡ unwrap_or (first_of (busy ∷ (if is_some code then None else Some (Err NoCode)) ∷ halted ∷ option_and_then (λ c. by_count (most_segments c.transaction.segment_kind) count) code ∷ room ∷ [])) (Ok (New next))
+    ≡ unwrap_or (first_refusal (busy ∷ (if is_some code then None else Some (Err NoCode)) ∷ halted ∷ option_and_then (λ c. by_count (most_segments c.transaction.segment_kind) count) code ∷ room ∷ [])) (Ok (New next))
 past_number (Some s) last number busy code halted count room next same e = step same.1 (ap (λ n. by_number n number) (sym same.0) ∙ sym e)
   where
     step : s.stopped ≡ false → by_number s.last number ≡ None → answer_by (Some s) number busy code halted count room next
-        ≡ unwrap_or (first_of (busy ∷ (if is_some code then None else Some (Err NoCode)) ∷ halted ∷ option_and_then (λ c. by_count (most_segments c.transaction.segment_kind) count) code ∷ room ∷ [])) (Ok (New next))
+        ≡ unwrap_or (first_refusal (busy ∷ (if is_some code then None else Some (Err NoCode)) ∷ halted ∷ option_and_then (λ c. by_count (most_segments c.transaction.segment_kind) count) code ∷ room ∷ [])) (Ok (New next))
     step u h = rw u (rw h refl)
 past_number None last number busy code halted count room next same e = absurd same
 
@@ -233,77 +233,77 @@ pub conversing_still : (t : Option TerminalState) (last number : ℕ) (busy : Re
     → IsSomeAnd t (IsRunning last) → None ≡ by_number last number → busy ≡ Some (Err (Conversing id)) → Err (Conversing id) ≡ answer_by t number busy code halted count room next
 conversing_still t last number busy code halted count room next id same e now =
     sym (past_number t last number busy code halted count room next same e
-    ∙ ap (λ b. unwrap_or (first_of (b ∷ (if is_some code then None else Some (Err NoCode)) ∷ halted ∷ option_and_then (λ c. by_count (most_segments c.transaction.segment_kind) count) code ∷ room ∷ [])) (Ok (New next))) now)
+    ∙ ap (λ b. unwrap_or (first_refusal (b ∷ (if is_some code then None else Some (Err NoCode)) ∷ halted ∷ option_and_then (λ c. by_count (most_segments c.transaction.segment_kind) count) code ∷ room ∷ [])) (Ok (New next))) now)
 
 -- and whose terminal's conversation isn't busy
 past_busy : (t : Option TerminalState) (last number : ℕ) (busy : Refusal) (code : Option Code) (halted : Refusal) (count : ℕ) (room : Refusal) (next : ℕ)
     → IsSomeAnd t (IsRunning last) → None ≡ by_number last number → busy ≡ None
     → answer_by t number busy code halted count room next
-    ≡ unwrap_or (first_of ((if is_some code then None else Some (Err NoCode)) ∷ halted ∷ option_and_then (λ c. by_count (most_segments c.transaction.segment_kind) count) code ∷ room ∷ [])) (Ok (New next))
+    ≡ unwrap_or (first_refusal ((if is_some code then None else Some (Err NoCode)) ∷ halted ∷ option_and_then (λ c. by_count (most_segments c.transaction.segment_kind) count) code ∷ room ∷ [])) (Ok (New next))
 past_busy t last number busy code halted count room next same e idle =
     past_number t last number busy code halted count room next same e
-    ∙ ap (λ b. unwrap_or (first_of (b ∷ (if is_some code then None else Some (Err NoCode)) ∷ halted ∷ option_and_then (λ c. by_count (most_segments c.transaction.segment_kind) count) code ∷ room ∷ [])) (Ok (New next))) idle
+    ∙ ap (λ b. unwrap_or (first_refusal (b ∷ (if is_some code then None else Some (Err NoCode)) ∷ halted ∷ option_and_then (λ c. by_count (most_segments c.transaction.segment_kind) count) code ∷ room ∷ [])) (Ok (New next))) idle
 
 pub no_code : (t : Option TerminalState) (last number : ℕ) (busy : Refusal) (code : Option Code) (halted : Refusal) (count : ℕ) (room : Refusal) (next : ℕ)
     → IsSomeAnd t (IsRunning last) → None ≡ by_number last number → busy ≡ None → code ≡ None → Err NoCode ≡ answer_by t number busy code halted count room next
 no_code t last number busy code halted count room next same e idle none =
     sym (past_busy t last number busy code halted count room next same e idle
-    ∙ ap (λ c. unwrap_or (first_of ((if is_some c then None else Some (Err NoCode)) ∷ halted ∷ option_and_then (λ k. by_count (most_segments k.transaction.segment_kind) count) c ∷ room ∷ [])) (Ok (New next))) none)
+    ∙ ap (λ c. unwrap_or (first_refusal ((if is_some c then None else Some (Err NoCode)) ∷ halted ∷ option_and_then (λ k. by_count (most_segments k.transaction.segment_kind) count) c ∷ room ∷ [])) (Ok (New next))) none)
 
 coded_by : (t : Option TerminalState) (last number : ℕ) (busy : Refusal) (code : Option Code) (found : Code) (halted : Refusal) (count : ℕ) (room : Refusal) (next : ℕ)
     → IsSomeAnd t (IsRunning last) → None ≡ by_number last number → busy ≡ None → code ≡ Some found
-    → answer_by t number busy code halted count room next ≡ unwrap_or (first_of (halted ∷ by_count (most_segments found.transaction.segment_kind) count ∷ room ∷ [])) (Ok (New next))
+    → answer_by t number busy code halted count room next ≡ unwrap_or (first_refusal (halted ∷ by_count (most_segments found.transaction.segment_kind) count ∷ room ∷ [])) (Ok (New next))
 coded_by t last number busy code found halted count room next same e idle there =
     past_busy t last number busy code halted count room next same e idle
-    ∙ ap (λ c. unwrap_or (first_of ((if is_some c then None else Some (Err NoCode)) ∷ halted ∷ option_and_then (λ k. by_count (most_segments k.transaction.segment_kind) count) c ∷ room ∷ [])) (Ok (New next))) there
+    ∙ ap (λ c. unwrap_or (first_refusal ((if is_some c then None else Some (Err NoCode)) ∷ halted ∷ option_and_then (λ k. by_count (most_segments k.transaction.segment_kind) count) c ∷ room ∷ [])) (Ok (New next))) there
 
 pub stopped_code_is : (t : Option TerminalState) (last number : ℕ) (busy : Refusal) (code : Option Code) (found : Code) (halted : Refusal) (count : ℕ) (room : Refusal) (next : ℕ) (name : List ℕ)
     → IsSomeAnd t (IsRunning last) → None ≡ by_number last number → busy ≡ None → code ≡ Some found → halted ≡ Some (Err (StoppedCode name))
     → Err (StoppedCode name) ≡ answer_by t number busy code halted count room next
 stopped_code_is t last number busy code found halted count room next name same e idle there stops =
     sym (coded_by t last number busy code found halted count room next same e idle there
-    ∙ ap (λ h. unwrap_or (first_of (h ∷ by_count (most_segments found.transaction.segment_kind) count ∷ room ∷ [])) (Ok (New next))) stops)
+    ∙ ap (λ h. unwrap_or (first_refusal (h ∷ by_count (most_segments found.transaction.segment_kind) count ∷ room ∷ [])) (Ok (New next))) stops)
 
 counted_by : (t : Option TerminalState) (last number : ℕ) (busy : Refusal) (code : Option Code) (found : Code) (halted : Refusal) (count : ℕ) (room : Refusal) (next : ℕ)
     → IsSomeAnd t (IsRunning last) → None ≡ by_number last number → busy ≡ None → code ≡ Some found → halted ≡ None
-    → answer_by t number busy code halted count room next ≡ unwrap_or (first_of (by_count (most_segments found.transaction.segment_kind) count ∷ room ∷ [])) (Ok (New next))
+    → answer_by t number busy code halted count room next ≡ unwrap_or (first_refusal (by_count (most_segments found.transaction.segment_kind) count ∷ room ∷ [])) (Ok (New next))
 counted_by t last number busy code found halted count room next same e idle there runs =
     coded_by t last number busy code found halted count room next same e idle there
-    ∙ ap (λ h. unwrap_or (first_of (h ∷ by_count (most_segments found.transaction.segment_kind) count ∷ room ∷ [])) (Ok (New next))) runs
+    ∙ ap (λ h. unwrap_or (first_refusal (h ∷ by_count (most_segments found.transaction.segment_kind) count ∷ room ∷ [])) (Ok (New next))) runs
 
 pub many : (t : Option TerminalState) (last number : ℕ) (busy : Refusal) (code : Option Code) (found : Code) (halted : Refusal) (count : ℕ) (room : Refusal) (next most size : ℕ)
     → IsSomeAnd t (IsRunning last) → None ≡ by_number last number → busy ≡ None → code ≡ Some found → halted ≡ None → most ≡ most_segments found.transaction.segment_kind → size ≡ count → most < size
     → Err (SegmentsOver size most) ≡ answer_by t number busy code halted count room next
 many t last number busy code found halted count room next most size same e idle there runs m s over =
     sym (counted_by t last number busy code found halted count room next same e idle there runs
-    ∙ ap (λ n. unwrap_or (first_of (by_count n count ∷ room ∷ [])) (Ok (New next))) (sym m)
-    ∙ ap (λ n. unwrap_or (first_of (by_count most n ∷ room ∷ [])) (Ok (New next))) (sym s)
-    ∙ ap (λ b. unwrap_or (first_of ((if b then Some (Err (SegmentsOver size most)) else None) ∷ room ∷ [])) (Ok (New next))) (lt-ltb most size over)) ∙ refl
+    ∙ ap (λ n. unwrap_or (first_refusal (by_count n count ∷ room ∷ [])) (Ok (New next))) (sym m)
+    ∙ ap (λ n. unwrap_or (first_refusal (by_count most n ∷ room ∷ [])) (Ok (New next))) (sym s)
+    ∙ ap (λ b. unwrap_or (first_refusal ((if b then Some (Err (SegmentsOver size most)) else None) ∷ room ∷ [])) (Ok (New next))) (lt-ltb most size over)) ∙ refl
 
 pub room_left : (t : Option TerminalState) (last number : ℕ) (busy : Refusal) (code : Option Code) (found : Code) (halted : Refusal) (count : ℕ) (room : Refusal) (next most size : ℕ)
     → IsSomeAnd t (IsRunning last) → None ≡ by_number last number → busy ≡ None → code ≡ Some found → halted ≡ None → most ≡ most_segments found.transaction.segment_kind → size ≡ count → size ≤ most
     → answer_by t number busy code halted count room next ≡ unwrap_or room (Ok (New next))
 room_left t last number busy code found halted count room next most size same e idle there runs m s fits =
     counted_by t last number busy code found halted count room next same e idle there runs
-    ∙ ap (λ n. unwrap_or (first_of (by_count n count ∷ room ∷ [])) (Ok (New next))) (sym m)
-    ∙ ap (λ n. unwrap_or (first_of (by_count most n ∷ room ∷ [])) (Ok (New next))) (sym s)
-    ∙ ap (λ b. unwrap_or (first_of ((if b then Some (Err (SegmentsOver size most)) else None) ∷ room ∷ [])) (Ok (New next))) (le-ltb most size fits)
+    ∙ ap (λ n. unwrap_or (first_refusal (by_count n count ∷ room ∷ [])) (Ok (New next))) (sym m)
+    ∙ ap (λ n. unwrap_or (first_refusal (by_count most n ∷ room ∷ [])) (Ok (New next))) (sym s)
+    ∙ ap (λ b. unwrap_or (first_refusal ((if b then Some (Err (SegmentsOver size most)) else None) ∷ room ∷ [])) (Ok (New next))) (le-ltb most size fits)
     ∙ none_last room
   where
-    none_last : (r : Refusal) → unwrap_or (first_of (r ∷ [])) (Ok (New next)) ≡ unwrap_or r (Ok (New next))
+    none_last : (r : Refusal) → unwrap_or (first_refusal (r ∷ [])) (Ok (New next)) ≡ unwrap_or r (Ok (New next))
     none_last (Some answer) = refl
     none_last None = refl
 
 -- ---- whole calls
 module _ (system : System) (tables : TablesState) (states : List CodeState) (regions : List (Option Busy)) (parts : AreParts system tables states regions) where
   abbrev moment_now : Moment
-  moment_now = record { lasting = lasting_of (settings_of states) tables; slots = slots_of regions; enqueues = tables.databases.table; raised = flags_of states }
+  moment_now = record { lasting = lasting_of (settings_of states) tables; slots = work_slots regions; enqueues = tables.databases.table; raised = flags_of states }
 
   abbrev state_now : PartsState
   state_now = record { system = system; moment = moment_now; databases = tables.databases }
 
   answered : (terminal : List ℕ) (number : ℕ) (segments : List (List ℕ)) (answer : Result Taken InputRefused) → 0 < length segments
-      → answer ≡ input_answer system moment_now terminal number segments → accepts terminal number (kept_input system moment_now.lasting terminal segments) answer ≡ None
+      → answer ≡ input_answer system moment_now terminal number segments → accepted_step terminal number (kept_input system moment_now.lasting terminal segments) answer ≡ None
       → IsAnswered state_now state_now (Accept terminal number segments answer)
   answered terminal number segments answer some says none = record {
     may = record { call = some; victims = refl; answer = ap (Accept terminal number segments) says };
@@ -313,7 +313,7 @@ module _ (system : System) (tables : TablesState) (states : List CodeState) (reg
 
   -- an input that is refused
   pub refused_input : (terminal : List ℕ) (number : ℕ) (segments : List (List ℕ)) (answer : Result Taken InputRefused) → 0 < length segments
-      → IsRefusal (input_answer system moment_now terminal number segments) answer → IsAnswered state_now state_now (Accept terminal number segments answer)
+      → IsInputRefusal (input_answer system moment_now terminal number segments) answer → IsAnswered state_now state_now (Accept terminal number segments answer)
   refused_input terminal number segments (Ok (New id)) some h = absurd h
   refused_input terminal number segments (Ok Already) some h = answered terminal number segments (Ok Already) some h refl
   refused_input terminal number segments (Err NoTerminal) some h = answered terminal number segments (Err NoTerminal) some h refl
@@ -328,15 +328,15 @@ module _ (system : System) (tables : TablesState) (states : List CodeState) (reg
 
   -- an acknowledgement
   abbrev state_with : TablesState → PartsState
-  state_with t = record { system = system; moment = record { lasting = lasting_of (settings_of states) t; slots = slots_of regions; enqueues = t.databases.table; raised = flags_of states }; databases = t.databases }
+  state_with t = record { system = system; moment = record { lasting = lasting_of (settings_of states) t; slots = work_slots regions; enqueues = t.databases.table; raised = flags_of states }; databases = t.databases }
 
   unchanged : (tables' : TablesState) (terminal : List ℕ) (number : ℕ) (answer : Result Acked AckRefused) → ack_by (output_at tables.outputs terminal) number ≡ answer
-      → acknowledges terminal answer ≡ None → tables' ≡ tables → IsAnswered state_now (state_with tables') (AckedEntry terminal number answer)
+      → acknowledged_step terminal answer ≡ None → tables' ≡ tables → IsAnswered state_now (state_with tables') (AckedEntry terminal number answer)
   unchanged tables' terminal number answer says none same = record {
     may = record { call = tt; victims = refl; answer = ap (AckedEntry terminal number) (sym says) };
     after = ap (λ t. (state_with t).moment) same ∙ moment_stays system tables states regions parts
-        ∙ ap (λ o. moment_with system (option_map_or (λ s. applied s moment_now.lasting) o moment_now.lasting) (slots_of regions) tables.databases.table (flags_of states))
-        (sym none ∙ ap (acknowledges terminal) (sym says));
+        ∙ ap (λ o. moment_with system (option_map_or (λ s. applied s moment_now.lasting) o moment_now.lasting) (work_slots regions) tables.databases.table (flags_of states))
+        (sym none ∙ ap (acknowledged_step terminal) (sym says));
     system = refl;
   }
 
@@ -345,10 +345,10 @@ module _ (system : System) (tables : TablesState) (states : List CodeState) (reg
   acknowledged_is tables' terminal number room told now (Ok Removed) t h = record {
     may = record { call = tt; victims = refl; answer = ap (AckedEntry terminal number) (sym h.0) };
     after =
-        moment_is system (applied (Acknowledges terminal) moment_now.lasting) (slots_of regions) tables' states states regions tables.databases.table
+        moment_is system (applied (Acknowledges terminal) moment_now.lasting) (work_slots regions) tables' states states regions tables.databases.table
         (followed_none system (λ name. free_count name tables.queues.queued) (λ name. free_count name tables'.queues.queued) states parts.settled (λ name. ap (λ t. free_count name t.queues.queued) h.1))
         (rw h.1 parts.told) (ap (lasting_of (settings_of states)) h.1) refl (ap (λ t. t.databases.table) h.1)
-        ∙ ap (λ a. moment_with system (option_map_or (λ s. applied s moment_now.lasting) (acknowledges terminal a) moment_now.lasting) (slots_of regions) tables.databases.table (flags_of states)) (sym h.0);
+        ∙ ap (λ a. moment_with system (option_map_or (λ s. applied s moment_now.lasting) (acknowledged_step terminal a) moment_now.lasting) (work_slots regions) tables.databases.table (flags_of states)) (sym h.0);
     system = refl;
   }
   acknowledged_is tables' terminal number room told now (Ok AckAlready) t h = unchanged tables' terminal number (Ok AckAlready) h.0 refl h.1
@@ -358,17 +358,17 @@ module _ (system : System) (tables : TablesState) (states : List CodeState) (reg
 
   -- what it tells
   acked_step : (terminal : List ℕ) (number : ℕ) (answer : Result Acked AckRefused) → ack_by (output_at tables.outputs terminal) number ≡ answer
-      → lasting_step system moment_now (Acknowledge terminal number) ≡ acknowledges terminal answer
-  acked_step terminal number answer says = ap (acknowledges terminal) says
+      → lasting_step system moment_now (Acknowledge terminal number) ≡ acknowledged_step terminal answer
+  acked_step terminal number answer says = ap (acknowledged_step terminal) says
 
-  silent : (terminal : List ℕ) (number room : ℕ) (told now : List ℕ) (answer : Result Acked AckRefused) → ack_by (output_at tables.outputs terminal) number ≡ answer → acknowledges terminal answer ≡ None
-      → now ≡ told → Tells system moment_now 0 room (Acknowledge terminal number) told now
+  silent : (terminal : List ℕ) (number room : ℕ) (told now : List ℕ) (answer : Result Acked AckRefused) → ack_by (output_at tables.outputs terminal) number ≡ answer → acknowledged_step terminal answer ≡ None
+      → now ≡ told → TellsLastingStep system moment_now 0 room (Acknowledge terminal number) told now
   silent terminal number room told now answer says none same =
-      subst (Tells system moment_now 0 room (Acknowledge terminal number) told) (sym same)
+      subst (TellsLastingStep system moment_now 0 room (Acknowledge terminal number) told) (sym same)
       (unlasting_tells system moment_now 0 room (Acknowledge terminal number) told (acked_step terminal number answer says ∙ none))
 
   pub acknowledged_tells : (tables' : TablesState) (terminal : List ℕ) (number room : ℕ) (told now : List ℕ) (answer : Result Acked AckRefused) → IsAcknowledged tables tables' terminal number answer
-      → TellsAcknowledged tables terminal room told now answer → Tells system moment_now 0 room (Acknowledge terminal number) told now
+      → TellsAcknowledged tables terminal room told now answer → TellsLastingStep system moment_now 0 room (Acknowledge terminal number) told now
   acknowledged_tells tables' terminal number room told now (Ok Removed) h t =
       tells_step system moment_now 0 room (Acknowledge terminal number) (Acknowledges terminal) tables (settings_of states) refl (acked_step terminal number (Ok Removed) h.0) told now t
   acknowledged_tells tables' terminal number room told now (Ok AckAlready) h t = silent terminal number room told now (Ok AckAlready) h.0 refl t
@@ -376,7 +376,7 @@ module _ (system : System) (tables : TablesState) (states : List CodeState) (reg
   acknowledged_tells tables' terminal number room told now (Err (Ahead first)) h t = silent terminal number room told now (Err (Ahead first)) h.0 refl t
   acknowledged_tells tables' terminal number room told now (Err (AckFault fault)) h t = absurd t
 
-  pub acknowledged_longer : (terminal : List ℕ) (number room : ℕ) → WouldAcknowledge tables terminal number room → IsLonger system moment_now 0 room (Acknowledge terminal number)
+  pub acknowledged_longer : (terminal : List ℕ) (number room : ℕ) → WouldAcknowledge tables terminal number room → IsCallLonger system moment_now 0 room (Acknowledge terminal number)
   acknowledged_longer terminal number room w =
       longer_step system moment_now 0 room (Acknowledge terminal number) (Acknowledges terminal) tables (settings_of states) refl (acked_step terminal number (Ok Removed) w.removes) w.longer
 
@@ -430,7 +430,7 @@ most_few Single = omega arith
 module _ (system : System) (tables : TablesState) (states : List CodeState) (regions : List (Option Busy)) (parts : AreParts system tables states regions)
     (terminal : List ℕ) (number : ℕ) (segments : List (List ℕ)) where
   abbrev moment_here : Moment
-  moment_here = record { lasting = lasting_of (settings_of states) tables; slots = slots_of regions; enqueues = tables.databases.table; raised = flags_of states }
+  moment_here = record { lasting = lasting_of (settings_of states) tables; slots = work_slots regions; enqueues = tables.databases.table; raised = flags_of states }
 
   abbrev conversation_here : Option Conversation
   conversation_here = conversation_at terminal tables.conversations
@@ -479,7 +479,7 @@ module _ (system : System) (tables : TablesState) (states : List CodeState) (reg
     there : IsSomeAnd terminal_here (IsRunning last)
     there = subst (λ o. IsSomeAnd o (IsRunning last)) (sym (at_here place at)) (both_known (slice_get tables.terminals place) known is)
 
-    pub numbered_input : (answer : Result Taken InputRefused) → Some answer ≡ by_number last number → IsRefusal (input_answer system moment_here terminal number segments) answer
+    pub numbered_input : (answer : Result Taken InputRefused) → Some answer ≡ by_number last number → IsInputRefusal (input_answer system moment_here terminal number segments) answer
     numbered_input answer says =
         numbered terminal_here last number (busy_by conversation_here busy_here) (code_at system.codes kept_here.code) halted_here (length kept_here.segments) room_here tables.next_id answer there says
 

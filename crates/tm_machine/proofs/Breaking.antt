@@ -11,7 +11,7 @@ use Rattle.model_messages.specs.Waiting.{is_waiting}
 use Rattle.model_data.specs.declared.request.Request.{Request}
 use Rattle.model_data.specs.declared.victim.Victim.{Victim}
 use Rattle.model_data.specs.Table.{EnqueueTable}
-use Rattle.model_data.specs.Ask.{released}
+use Rattle.model_data.specs.EnqueueRequests.{released}
 use Rattle.model_data.specs.Cycle.{Breaks, after_victims}
 use Rattle.model_system.specs.declared.code.Code.{Code}
 use Rattle.model_system.specs.declared.code.Transaction.{Transaction}
@@ -21,15 +21,16 @@ use Rattle.model_machine.specs.declared.entry.Entry.TheVariants.{Turn as TurnEnt
 use Rattle.model_machine.specs.declared.entry.Turned.{Turned}
 use Rattle.model_machine.specs.declared.entry.Turned.TheVariants.{Scheduled, Called, Next, QC, Done, Abended, Idle, Held, Waits, Backed}
 use Rattle.model_machine.specs.Machine.{LastingState, Moment, Slot, IsRegion, has_message, is_held, slot_at, raised_by, raised_now, waiting_now, moment_with, busy_slots}
-use Rattle.model_machine.specs.Requests.{BreaksAt, asked_table, blocked_now, changes_now, table_after, table_by, without_victims}
-use Rattle.model_machine.specs.Steps.{After, blocked_answer, slot_after, slot_answer, turn_answer, turn_by, turn_step, unless_blocked}
+use Rattle.model_machine.specs.Requests.{BreaksRingsAt, asked_table, blocked_now, changes_now, table_after, table_by, without_victims}
+use Rattle.model_machine.specs.MachineCalls.{After, blocked_answer, slot_after, slot_answer, turn_answer, turn_by, turn_step, unless_blocked}
 use Rattle.model_machine.specs.History.{victims_in}
-use Rattle.program_rows.specs.Answering.{told_blocked}
+use Rattle.program_rows.specs.CallAnswers.{told_blocked}
 use Rattle.tm_machine.specs.Answers.{IsAnswered}
 use Rattle.tm_machine.specs.Parts.{PartsState}
-use Rattle.tm_machine.specs.Turns.{IsTurned, WaitsSo, gave_way_in, waited}
+use Rattle.tm_machine.specs.Turns.{IsRegionTurned, WaitsSo, gave_way_in, waited}
 use Rattle.tm_machine.specs.Victims.{BreaksRings, all_gave_way, gave_way}
 use Rattle.tm_machine.proofs.Leaving.{turn_leaves}
+use Rattle.tm_types.proofs.Ordered.{both_true}
 
 -- ---- flags that follow on more messages that wait
 raised_more : (transaction : Transaction) (w w' : ℕ) (raised : Bool) → w ≤ w' → (w ≡ 0 → raised ≡ false)
@@ -107,10 +108,6 @@ count_more p q (m ∷ messages) h = by (p m) refl (q m) refl (count_more p q mes
     by false e true f rest = omega (arith, rest)
     by false e false f rest = rest
 
-both_true : (a b : Bool) → a && b ≡ true → (a ≡ true) × (b ≡ true)
-both_true true b h = (refl, h)
-both_true false b h = absurd (cc)
-
 not_true : (b : Bool) → not b ≡ true → b ≡ false
 not_true true h = absurd (cc)
 not_true false h = refl
@@ -184,11 +181,11 @@ victims_told region (Held need limit) = refl
 victims_told region (Waits resource by) = refl
 victims_told region (Backed victims) = refl
 
-pub turned_answered : (old new : PartsState) (region : ℕ) (turned : Turned) → IsRegion old.system region → IsTurned old new region turned → IsAnswered old new (TurnEntry region (Ok turned))
+pub turned_answered : (old new : PartsState) (region : ℕ) (turned : Turned) → IsRegion old.system region → IsRegionTurned old new region turned → IsAnswered old new (TurnEntry region (Ok turned))
 turned_answered old new region turned there h = record {
   may = record {
     call = there;
-    victims = subst (λ vs. BreaksAt old.system old.moment region vs (slot_at old.moment region)) (sym (victims_told region turned)) h.victims;
+    victims = subst (λ vs. BreaksRingsAt old.system old.moment region vs (slot_at old.moment region)) (sym (victims_told region turned)) h.victims;
     answer = ap (λ t. TurnEntry region (Ok t)) (h.answer ∙ ap (turn_answer old.system old.moment region) (sym (victims_told region turned)));
   };
   after = h.after ∙ ap (After old.system old.moment (Turn region)) (sym (victims_told region turned));
@@ -215,7 +212,7 @@ waited_table resource by region (v ∷ victims) table = refl
 
 -- a region waited, and all rings through it were broken
 pub turned_waits : (old middle new : PartsState) (region : ℕ) (resource : Resource) (by : ℕ) (victims : List Victim) → WaitsSo old middle region resource by → BreaksRings middle new region victims
-    → IsTurned old new region (waited resource by victims)
+    → IsRegionTurned old new region (waited resource by victims)
 turned_waits old middle new region resource by victims w b = found (blocked_now old.system old.moment region w.slot) refl w.blocked
   where
     abbrev_changes : changes_now middle.system middle.moment ≡ changes_now old.system old.moment
@@ -230,7 +227,7 @@ turned_waits old middle new region resource by victims w b = found (blocked_now 
         b.moment ∙ ap (λ s. all_gave_way s middle.moment victims) w.system ∙ ap (λ m. all_gave_way old.system m victims) w.moment
         ∙ all_gave old.system (record old.moment { enqueues = asked_table old.system old.moment region }) victims w.settled
 
-    found : (blocked : Option (Request × ℕ)) → blocked_now old.system old.moment region w.slot ≡ blocked → told_blocked blocked ≡ Some (resource, by) → IsTurned old new region (waited resource by victims)
+    found : (blocked : Option (Request × ℕ)) → blocked_now old.system old.moment region w.slot ≡ blocked → told_blocked blocked ≡ Some (resource, by) → IsRegionTurned old new region (waited resource by victims)
     found None e told = cc
     found (Some blocked) e told = record {
       victims = rw (gave_in resource by victims) (rw w.here (rw e right));

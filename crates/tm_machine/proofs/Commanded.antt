@@ -10,7 +10,7 @@ use Rattle.tm_types.specs.declared.command.LastingCommand.TheVariants.{StartTran
 use Rattle.tm_types.specs.declared.message.Message.{Message}
 use Rattle.model_messages.specs.declared.conversation.Conversation.{Conversation}
 use Rattle.model_messages.specs.declared.conversation.TerminalConversation.{TerminalConversation}
-use Rattle.model_messages.specs.Input.{busy_id, is_conversing}
+use Rattle.model_messages.specs.ConversationInput.{busy_id, is_conversing}
 use Rattle.model_messages.specs.Terminals.{conversation_at, with_conversation}
 use Rattle.model_messages.specs.declared.queued.Queued.{Queued}
 use Rattle.model_messages.specs.Queue.{free_count, messages_of}
@@ -19,16 +19,16 @@ use Rattle.model_system.specs.Lists.{change_at}
 use Rattle.model_system.specs.System.{System}
 use Rattle.system_types.specs.Codes.{is_state_of, stopped_state}
 use Rattle.model_machine.specs.Machine.{Moment, moment_with, setting_of, setting_place, terminal_place}
-use Rattle.model_machine.specs.Lasting.{applied, conversing, stopped_code, stopped_terminal}
-use Rattle.model_machine.specs.Lasting.LastingStep.{Commands}
+use Rattle.model_machine.specs.LastingSteps.{applied, with_conversing, stopped_code, stopped_terminal}
+use Rattle.model_machine.specs.LastingSteps.LastingStep.{Commands}
 use Rattle.model_machine.specs.Trial.{Given}
-use Rattle.program_rows.specs.State.{DatabasesState}
+use Rattle.program_rows.specs.DatabasesState.{DatabasesState}
 use Rattle.lasting_state.specs.Tables.{TablesState, lasting_of}
-use Rattle.lasting_state.specs.Commands.{AppliesCommand, command_done, command_set}
+use Rattle.lasting_state.specs.DoneCommands.{AppliesCommand, command_done, command_set}
 use Rattle.region_work.specs.declared.region.Busy.{Busy}
-use Rattle.tm_machine.specs.Commands.{EndsNoneBusy, IsCommanded, states_set}
-use Rattle.tm_machine.specs.Parts.{PartsState, AreAtWork, AreConversations, AreParts, IsConversation, IsOfConversation, flags_of, settings_of, slots_of}
-use Rattle.region_work.specs.Region.{IsWork, given_in}
+use Rattle.tm_machine.specs.LastingCommands.{EndsNoneBusy, IsCommanded, states_set}
+use Rattle.tm_machine.specs.Parts.{PartsState, AreAtWork, AreConversations, AreParts, IsConversationOf, IsOfConversation, flags_of, settings_of, work_slots}
+use Rattle.region_work.specs.RegionWork.{IsWork, given_in}
 use Rattle.tm_machine.proofs.Asked.{length_map}
 use Rattle.tm_machine.proofs.Conversing.{all_both, all_map, all_with, belongs_still, names_stay, no_both, other_terminal}
 use Rattle.region_work.proofs.Kept.{all_found}
@@ -126,7 +126,7 @@ size_then (Exit terminal) states = refl
 module _ (system : System) (conversations : List TerminalConversation) (ms : List Message) (are : AreConversations system conversations ms) (terminal : List ℕ)
     (free : busy_id terminal ms ≡ None) where
   ended : List TerminalConversation
-  ended = conversing terminal None conversations
+  ended = with_conversing terminal None conversations
 
   none_found : (o : Option Message) → option_map (λ (m : Message). m.id) o ≡ None → o ≡ None
   none_found None e = refl
@@ -138,24 +138,24 @@ module _ (system : System) (conversations : List TerminalConversation) (ms : Lis
   abbrev made : Message → Option Conversation → Given
   made n c = record { message = n; conversation = c }
 
-  given_same : (n : Message) → is_conversing terminal n ≡ false → given_in (conversing terminal None conversations) n ≡ given_in conversations n
+  given_same : (n : Message) → is_conversing terminal n ≡ false → given_in (with_conversing terminal None conversations) n ≡ given_in conversations n
   given_same n other = by n.conversation refl where
     elsewhere : n.conversation ≡ true → n.origin ≡ terminal → ⊥
     elsewhere x s = no_both (sym (ap (λ b. b && n.conversation) ((bytes_eq-Decides n.origin terminal).1 s) ∙ x) ∙ other)
 
-    by : (f : Bool) → n.conversation ≡ f → made n (if f then conversation_at n.origin (conversing terminal None conversations) else None) ≡ made n (if f then conversation_at n.origin conversations else None)
+    by : (f : Bool) → n.conversation ≡ f → made n (if f then conversation_at n.origin (with_conversing terminal None conversations) else None) ≡ made n (if f then conversation_at n.origin conversations else None)
     by true e = ap (made n) (other_terminal terminal n.origin (with_conversation None) conversations (λ t. refl) (elsewhere e))
     by false e = refl
 
-  pub given_then : AllByRecursion (λ n. given_in (conversing terminal None conversations) n ≡ given_in conversations n) ms
-  given_then = all_map (λ n. is_conversing terminal n ≡ false) (λ n. given_in (conversing terminal None conversations) n ≡ given_in conversations n) ms given_same apart
+  pub given_then : AllByRecursion (λ n. given_in (with_conversing terminal None conversations) n ≡ given_in conversations n) ms
+  given_then = all_map (λ n. is_conversing terminal n ≡ false) (λ n. given_in (with_conversing terminal None conversations) n ≡ given_in conversations n) ms given_same apart
 
-  pub are_then : AreConversations system (conversing terminal None conversations) ms
+  pub are_then : AreConversations system (with_conversing terminal None conversations) ms
   are_then = record {
     names = names_stay terminal (with_conversation None) conversations (λ t. refl) ∙ are.names;
-    pads = all_with (λ t. IfSome t.conversation (IsConversation system)) terminal (with_conversation None) conversations are.pads (λ t e was. tt);
-    belong = all_both (λ n. given_in (conversing terminal None conversations) n ≡ given_in conversations n) (IsOfConversation conversations) (IsOfConversation (conversing terminal None conversations)) ms
-        (λ n same was. belongs_still conversations (conversing terminal None conversations) n same was) given_then are.belong;
+    pads = all_with (λ t. IfSome t.conversation (IsConversationOf system)) terminal (with_conversation None) conversations are.pads (λ t e was. tt);
+    belong = all_both (λ n. given_in (with_conversing terminal None conversations) n ≡ given_in conversations n) (IsOfConversation conversations) (IsOfConversation (with_conversing terminal None conversations)) ms
+        (λ n same was. belongs_still conversations (with_conversing terminal None conversations) n same was) given_then are.belong;
     alone = are.alone;
   }
 
@@ -174,7 +174,7 @@ at_work_then system databases conversations after queued regions given at_work p
 -- ---- the parts
 module _ (system : System) (tables : TablesState) (states : List CodeState) (regions : List (Option Busy)) (parts : AreParts system tables states regions) where
   abbrev moment_by : TablesState → List CodeState → Moment
-  moment_by t ss = record { lasting = lasting_of (settings_of ss) t; slots = slots_of regions; enqueues = t.databases.table; raised = flags_of ss }
+  moment_by t ss = record { lasting = lasting_of (settings_of ss) t; slots = work_slots regions; enqueues = t.databases.table; raised = flags_of ss }
 
   abbrev state_by : TablesState → List CodeState → PartsState
   state_by t ss = record { system = system; moment = moment_by t ss; databases = t.databases }
@@ -205,7 +205,7 @@ module _ (system : System) (tables : TablesState) (states : List CodeState) (reg
     states_are = parts.states_are;
     settled = parts.settled;
     told = parts.told;
-    at_work = at_work_then system tables.databases tables.conversations (conversing terminal None tables.conversations) tables.queues.queued regions
+    at_work = at_work_then system tables.databases tables.conversations (with_conversing terminal None tables.conversations) tables.queues.queued regions
         (given_then system tables.conversations (messages_of tables.queues.queued) parts.conversations terminal free) parts.at_work;
     conversations = are_then system tables.conversations (messages_of tables.queues.queued) parts.conversations terminal free;
     databases = parts.databases;
@@ -252,9 +252,9 @@ module _ (system : System) (tables : TablesState) (states : List CodeState) (reg
     pub commanded_is : IsCommanded (state_by tables states) (state_by tables' states') command
     commanded_is = record {
       moment =
-          moment_is system (applied (Commands command) (lasting_of (settings_of states) tables)) (slots_of regions) tables' states' states' regions tables.databases.table
+          moment_is system (applied (Commands command) (lasting_of (settings_of states) tables)) (work_slots regions) tables' states' states' regions tables.databases.table
           (followed_none system (λ name. free_count name tables'.queues.queued) (λ name. free_count name tables'.queues.queued) states' parts_commanded.settled (λ name. refl))
           parts_commanded.told lasts refl (ap (λ t. t.databases.table) done ∙ ap (λ d. d.table) (same_databases command))
-          ∙ ap (λ f. moment_with system (applied (Commands command) (lasting_of (settings_of states) tables)) (slots_of regions) tables.databases.table f) (ap flags_of set ∙ flags_then command states);
+          ∙ ap (λ f. moment_with system (applied (Commands command) (lasting_of (settings_of states) tables)) (work_slots regions) tables.databases.table f) (ap flags_of set ∙ flags_then command states);
       system = refl;
     }

@@ -13,19 +13,19 @@ use Rattle.model_messages.specs.declared.conversation.PadChange.{PadChange}
 use Rattle.model_messages.specs.declared.conversation.PadChange.TheVariants.{Stays, New, Ends}
 use Rattle.model_messages.specs.declared.conversation.TerminalConversation.{TerminalConversation}
 use Rattle.model_messages.specs.Pads.{code_field, pad_fault}
-use Rattle.model_messages.specs.Terminals.{is_of, terminal_at, conversation_at, pad_at, with_terminal, with_conversation}
+use Rattle.model_messages.specs.Terminals.{is_conversation_of, conversation_terminal, conversation_at, pad_at, with_terminal, with_conversation}
 use Rattle.model_system.specs.declared.code.Code.{Code}
 use Rattle.model_system.specs.Codes.{code_at}
 use Rattle.model_system.specs.System.{System}
-use Rattle.system_types.specs.Valid.{IsSystem, IsPadLength}
+use Rattle.system_types.specs.ValidSystem.{IsSystem, IsPadLength}
 use Rattle.model_machine.specs.Machine.{message_at as message_in}
-use Rattle.model_machine.specs.Lasting.{discarded_pad, new_pad, padded, with_text, without_message}
+use Rattle.model_machine.specs.LastingSteps.{discarded_pad, new_pad, with_pad_changed, with_conversation_text, without_message}
 use Rattle.model_machine.specs.Trial.{Given}
 use Rattle.io_pcb.specs.Pads.{IsNewPad, IsPadText, Suits}
-use Rattle.message_run.specs.Ahead.{given_with}
-use Rattle.region_work.specs.Region.{HasPad, HavePads, given_in}
+use Rattle.message_run.specs.WorkAhead.{given_with}
+use Rattle.region_work.specs.RegionWork.{HasPad, HavePads, given_in}
 use Rattle.region_work.proofs.Kept.{all_found}
-use Rattle.tm_machine.specs.Parts.{AreAlone, AreApart, AreConversations, IsConversation, IsOfConversation}
+use Rattle.tm_machine.specs.Parts.{AreAlone, AreOfOtherConversations, AreConversations, IsConversationOf, IsOfConversation}
 
 pub no_both : true ≡ false → ⊥
 no_both e = cc
@@ -47,33 +47,33 @@ KeepsName f = (t : TerminalConversation) → (f t).terminal ≡ t.terminal
 pub other_terminal : (name other : List ℕ) (f : TerminalConversation → TerminalConversation) (ts : List TerminalConversation) → KeepsName f → (other ≡ name → ⊥)
     → conversation_at other (with_terminal name f ts) ≡ conversation_at other ts
 other_terminal name other f [] keeps apart = refl
-other_terminal name other f (t ∷ ts) keeps apart = by (is_of name t) refl (is_of other t) refl (other_terminal name other f ts keeps apart)
+other_terminal name other f (t ∷ ts) keeps apart = by (is_conversation_of name t) refl (is_conversation_of other t) refl (other_terminal name other f ts keeps apart)
   where
     of : Option TerminalConversation → Option Conversation
     of found = option_and_then (λ u. u.conversation) found
 
-    by : (b : Bool) → is_of name t ≡ b → (c : Bool) → is_of other t ≡ c → conversation_at other (with_terminal name f ts) ≡ conversation_at other ts
-        → of (find (is_of other) (if b then f t ∷ ts else t ∷ with_terminal name f ts)) ≡ of (if c then Some t else find (is_of other) ts)
+    by : (b : Bool) → is_conversation_of name t ≡ b → (c : Bool) → is_conversation_of other t ≡ c → conversation_at other (with_terminal name f ts) ≡ conversation_at other ts
+        → of (find (is_conversation_of other) (if b then f t ∷ ts else t ∷ with_terminal name f ts)) ≡ of (if c then Some t else find (is_conversation_of other) ts)
     by true e true g rec = absurd (apart (sym ((bytes_eq-Decides t.terminal other).0 g) ∙ (bytes_eq-Decides t.terminal name).0 e))
-    by true e false g rec = ap (λ b. of (if b then Some (f t) else find (is_of other) ts)) (ap (λ n. bytes_eq n other) (keeps t) ∙ g)
-    by false e true g rec = ap (λ b. of (if b then Some t else find (is_of other) (with_terminal name f ts))) g
-    by false e false g rec = ap (λ b. of (if b then Some t else find (is_of other) (with_terminal name f ts))) g ∙ rec
+    by true e false g rec = ap (λ b. of (if b then Some (f t) else find (is_conversation_of other) ts)) (ap (λ n. bytes_eq n other) (keeps t) ∙ g)
+    by false e true g rec = ap (λ b. of (if b then Some t else find (is_conversation_of other) (with_terminal name f ts))) g
+    by false e false g rec = ap (λ b. of (if b then Some t else find (is_conversation_of other) (with_terminal name f ts))) g ∙ rec
 
 -- and it is found changed
 pub own_terminal : (name : List ℕ) (f : TerminalConversation → TerminalConversation) (ts : List TerminalConversation) → KeepsName f
-    → terminal_at name (with_terminal name f ts) ≡ option_map f (terminal_at name ts)
+    → conversation_terminal name (with_terminal name f ts) ≡ option_map f (conversation_terminal name ts)
 own_terminal name f [] keeps = refl
-own_terminal name f (t ∷ ts) keeps = by (is_of name t) refl (own_terminal name f ts keeps)
+own_terminal name f (t ∷ ts) keeps = by (is_conversation_of name t) refl (own_terminal name f ts keeps)
   where
-    by : (b : Bool) → is_of name t ≡ b → terminal_at name (with_terminal name f ts) ≡ option_map f (terminal_at name ts)
-        → find (is_of name) (if b then f t ∷ ts else t ∷ with_terminal name f ts) ≡ option_map f (if b then Some t else terminal_at name ts)
-    by true e rec = ap (λ b. if b then Some (f t) else find (is_of name) ts) (ap (λ n. bytes_eq n name) (keeps t) ∙ e)
-    by false e rec = ap (λ b. if b then Some t else find (is_of name) (with_terminal name f ts)) e ∙ rec
+    by : (b : Bool) → is_conversation_of name t ≡ b → conversation_terminal name (with_terminal name f ts) ≡ option_map f (conversation_terminal name ts)
+        → find (is_conversation_of name) (if b then f t ∷ ts else t ∷ with_terminal name f ts) ≡ option_map f (if b then Some t else conversation_terminal name ts)
+    by true e rec = ap (λ b. if b then Some (f t) else find (is_conversation_of name) ts) (ap (λ n. bytes_eq n name) (keeps t) ∙ e)
+    by false e rec = ap (λ b. if b then Some t else find (is_conversation_of name) (with_terminal name f ts)) e ∙ rec
 
 pub names_stay : (name : List ℕ) (f : TerminalConversation → TerminalConversation) (ts : List TerminalConversation) → KeepsName f
     → map (λ t. t.terminal) (with_terminal name f ts) ≡ map (λ t. t.terminal) ts
 names_stay name f [] keeps = refl
-names_stay name f (t ∷ ts) keeps = by (is_of name t) (names_stay name f ts keeps)
+names_stay name f (t ∷ ts) keeps = by (is_conversation_of name t) (names_stay name f ts keeps)
   where
     by : (b : Bool) → map (λ u. u.terminal) (with_terminal name f ts) ≡ map (λ u. u.terminal) ts
         → map (λ u. u.terminal) (if b then f t ∷ ts else t ∷ with_terminal name f ts) ≡ t.terminal ∷ map (λ u. u.terminal) ts
@@ -82,30 +82,30 @@ names_stay name f (t ∷ ts) keeps = by (is_of name t) (names_stay name f ts kee
 
 -- what holds of each terminal holds where it does of the changed one
 pub all_with : (P : TerminalConversation → Type 0) (name : List ℕ) (f : TerminalConversation → TerminalConversation) (ts : List TerminalConversation) → AllByRecursion P ts
-    → ((t : TerminalConversation) → terminal_at name ts ≡ Some t → P t → P (f t)) → AllByRecursion P (with_terminal name f ts)
+    → ((t : TerminalConversation) → conversation_terminal name ts ≡ Some t → P t → P (f t)) → AllByRecursion P (with_terminal name f ts)
 all_with P name f [] h change = tt
-all_with P name f (t ∷ ts) h change = by (is_of name t) refl (λ g. all_with P name f ts h.1 g)
+all_with P name f (t ∷ ts) h change = by (is_conversation_of name t) refl (λ g. all_with P name f ts h.1 g)
   where
-    by : (b : Bool) → is_of name t ≡ b → (((u : TerminalConversation) → terminal_at name ts ≡ Some u → P u → P (f u)) → AllByRecursion P (with_terminal name f ts))
+    by : (b : Bool) → is_conversation_of name t ≡ b → (((u : TerminalConversation) → conversation_terminal name ts ≡ Some u → P u → P (f u)) → AllByRecursion P (with_terminal name f ts))
         → AllByRecursion P (if b then f t ∷ ts else t ∷ with_terminal name f ts)
-    by true e rec = (change t (ap (λ b. if b then Some t else terminal_at name ts) e) h.0, h.1)
-    by false e rec = (h.0, rec (λ u g. change u (ap (λ b. if b then Some t else terminal_at name ts) e ∙ g)))
+    by true e rec = (change t (ap (λ b. if b then Some t else conversation_terminal name ts) e) h.0, h.1)
+    by false e rec = (h.0, rec (λ u g. change u (ap (λ b. if b then Some t else conversation_terminal name ts) e ∙ g)))
 
 pub conversation_holds : (P : Conversation → Type 0) (name : List ℕ) (ts : List TerminalConversation) → AllByRecursion (λ t. IfSome t.conversation P) ts → IfSome (conversation_at name ts) P
 conversation_holds P name [] h = tt
-conversation_holds P name (t ∷ ts) h = by (is_of name t) (conversation_holds P name ts h.1)
+conversation_holds P name (t ∷ ts) h = by (is_conversation_of name t) (conversation_holds P name ts h.1)
   where
-    by : (b : Bool) → IfSome (conversation_at name ts) P → IfSome (option_and_then (λ u. u.conversation) (if b then Some t else terminal_at name ts)) P
+    by : (b : Bool) → IfSome (conversation_at name ts) P → IfSome (option_and_then (λ u. u.conversation) (if b then Some t else conversation_terminal name ts)) P
     by true rec = h.0
     by false rec = rec
 
 -- ---- what becomes of a pad
-padded_other : (change : PadChange) (name other : List ℕ) (ts : List TerminalConversation) → (other ≡ name → ⊥) → conversation_at other (padded change name ts) ≡ conversation_at other ts
+padded_other : (change : PadChange) (name other : List ℕ) (ts : List TerminalConversation) → (other ≡ name → ⊥) → conversation_at other (with_pad_changed change name ts) ≡ conversation_at other ts
 padded_other Stays name other ts apart = refl
 padded_other (New text) name other ts apart = other_terminal name other (new_pad text) ts (λ t. refl) apart
 padded_other Ends name other ts apart = other_terminal name other (with_conversation None) ts (λ t. refl) apart
 
-padded_names : (change : PadChange) (name : List ℕ) (ts : List TerminalConversation) → map (λ t. t.terminal) (padded change name ts) ≡ map (λ t. t.terminal) ts
+padded_names : (change : PadChange) (name : List ℕ) (ts : List TerminalConversation) → map (λ t. t.terminal) (with_pad_changed change name ts) ≡ map (λ t. t.terminal) ts
 padded_names Stays name ts = refl
 padded_names (New text) name ts = names_stay name (new_pad text) ts (λ t. refl)
 padded_names Ends name ts = names_stay name (with_conversation None) ts (λ t. refl)
@@ -119,17 +119,17 @@ suits_only conversations m pad fits e = by pad (subst (λ b. Suits (if b then co
     by (New text) h = absurd h
     by Ends h = absurd h
 
-pub given_stays : (m n : Message) (pad : PadChange) (conversations : List TerminalConversation) → Suits (given_in conversations m).conversation pad → AreApart m n
-    → given_in (padded pad m.origin conversations) n ≡ given_in conversations n
+pub given_stays : (m n : Message) (pad : PadChange) (conversations : List TerminalConversation) → Suits (given_in conversations m).conversation pad → AreOfOtherConversations m n
+    → given_in (with_pad_changed pad m.origin conversations) n ≡ given_in conversations n
 given_stays m n pad conversations fits apart = by n.conversation m.conversation refl refl
   where
     made : Option Conversation → Given
     made c = record { message = n; conversation = c }
 
     by : (a b : Bool) → n.conversation ≡ a → m.conversation ≡ b
-        → made (if a then conversation_at n.origin (padded pad m.origin conversations) else None) ≡ made (if a then conversation_at n.origin conversations else None)
+        → made (if a then conversation_at n.origin (with_pad_changed pad m.origin conversations) else None) ≡ made (if a then conversation_at n.origin conversations else None)
     by false b e g = refl
-    by true false e g = ap (λ p. made (conversation_at n.origin (padded p m.origin conversations))) (suits_only conversations m pad fits g)
+    by true false e g = ap (λ p. made (conversation_at n.origin (with_pad_changed p m.origin conversations))) (suits_only conversations m pad fits g)
     by true true e g = ap made (padded_other pad m.origin n.origin conversations (apart g e))
 
 -- a new pad is one of the conversation
@@ -141,7 +141,7 @@ field_there code text e = by (nat_lt (length text) 8) (bytes_eq (take 8 text) (c
     by false true g f = (bytes_eq-Decides (take 8 text) (code_field code)).0 g
     by false false g f = let clash : Some 2 ≡ None = f in absurd (cc)
 
-new_right : (system : System) (c : Conversation) (text : List ℕ) → IsConversation system c → IsNewPad c text → IsConversation system (with_text text c)
+new_right : (system : System) (c : Conversation) (text : List ℕ) → IsConversationOf system c → IsNewPad c text → IsConversationOf system (with_conversation_text text c)
 new_right system c text h new = record {
   size = subst (λ n. IsSomeAnd (code_at system.codes c.code) (λ code. (1 ≤ code.transaction.scratch_pad) × (n + 6 ≡ code.transaction.scratch_pad))) (sym new.size) h.size;
   front = field_there c.code text new.good;
@@ -149,22 +149,22 @@ new_right system c text h new = record {
 }
 
 pads_padded : (system : System) (conversations : List TerminalConversation) (m : Message) (pad : PadChange) → Suits (given_in conversations m).conversation pad
-    → AllByRecursion (λ t. IfSome t.conversation (IsConversation system)) conversations
-    → AllByRecursion (λ t. IfSome t.conversation (IsConversation system)) (padded pad m.origin conversations)
+    → AllByRecursion (λ t. IfSome t.conversation (IsConversationOf system)) conversations
+    → AllByRecursion (λ t. IfSome t.conversation (IsConversationOf system)) (with_pad_changed pad m.origin conversations)
 pads_padded system conversations m Stays fits h = h
-pads_padded system conversations m Ends fits h = all_with (λ t. IfSome t.conversation (IsConversation system)) m.origin (with_conversation None) conversations h (λ t e was. tt)
+pads_padded system conversations m Ends fits h = all_with (λ t. IfSome t.conversation (IsConversationOf system)) m.origin (with_conversation None) conversations h (λ t e was. tt)
 pads_padded system conversations m (New text) fits h =
-    all_with (λ t. IfSome t.conversation (IsConversation system)) m.origin (new_pad text) conversations h one
+    all_with (λ t. IfSome t.conversation (IsConversationOf system)) m.origin (new_pad text) conversations h one
   where
     here : (b : Bool) → Suits (if b then conversation_at m.origin conversations else None) (New text) → Suits (conversation_at m.origin conversations) (New text)
     here true f = f
     here false f = absurd f
 
-    by : (c : Option Conversation) → Suits c (New text) → IfSome c (IsConversation system) → IfSome (option_map (with_text text) c) (IsConversation system)
+    by : (c : Option Conversation) → Suits c (New text) → IfSome c (IsConversationOf system) → IfSome (option_map (with_conversation_text text) c) (IsConversationOf system)
     by (Some c) f was = new_right system c text was f
     by None f was = tt
 
-    one : (t : TerminalConversation) → terminal_at m.origin conversations ≡ Some t → IfSome t.conversation (IsConversation system) → IfSome (option_map (with_text text) t.conversation) (IsConversation system)
+    one : (t : TerminalConversation) → conversation_terminal m.origin conversations ≡ Some t → IfSome t.conversation (IsConversationOf system) → IfSome (option_map (with_conversation_text text) t.conversation) (IsConversationOf system)
     one t e was = by t.conversation (subst (λ o. Suits (option_and_then (λ (u : TerminalConversation). u.conversation) o) (New text)) e (here m.conversation fits)) was
 
 -- ---- lists of messages
@@ -188,29 +188,29 @@ pub all_both : (P Q R : Message → Type 0) (ms : List Message) → ((m : Messag
 all_both P Q R [] f h g = tt
 all_both P Q R (m ∷ ms) f h g = (f m h.0 g.0, all_both P Q R ms f h.1 g.1)
 
-apart_back : (a b : Message) → AreApart a b → AreApart b a
+apart_back : (a b : Message) → AreOfOtherConversations a b → AreOfOtherConversations b a
 apart_back a b h x y s = h y x (sym s)
 
 -- of two messages in such a list
-pub alone_pair : (ms : List Message) (id other : ℕ) (m n : Message) → AreAlone ms → message_in ms id ≡ Some m → message_in ms other ≡ Some n → (id ≡ other → ⊥) → AreApart m n
+pub alone_pair : (ms : List Message) (id other : ℕ) (m n : Message) → AreAlone ms → message_in ms id ≡ Some m → message_in ms other ≡ Some n → (id ≡ other → ⊥) → AreOfOtherConversations m n
 alone_pair [] id other m n alone e g apart = cc
 alone_pair (h ∷ ms) id other m n alone e g apart = by (h.id == id) refl (h.id == other) refl e g (λ p q. alone_pair ms id other m n alone.1 p q apart)
   where
     by : (a : Bool) → (h.id == id) ≡ a → (b : Bool) → (h.id == other) ≡ b → (if a then Some h else message_in ms id) ≡ Some m → (if b then Some h else message_in ms other) ≡ Some n
-        → (message_in ms id ≡ Some m → message_in ms other ≡ Some n → AreApart m n) → AreApart m n
+        → (message_in ms id ≡ Some m → message_in ms other ≡ Some n → AreOfOtherConversations m n) → AreOfOtherConversations m n
     by true x true y p q rec = absurd (apart (sym (eqb-true h.id id x) ∙ eqb-true h.id other y))
-    by true x false y p q rec = let same : h ≡ m = cc in subst (λ k. AreApart k n) same (all_found (AreApart h) ms other n alone.0 q)
-    by false x true y p q rec = let same : h ≡ n = cc in subst (AreApart m) same (apart_back h m (all_found (AreApart h) ms id m alone.0 p))
+    by true x false y p q rec = let same : h ≡ m = cc in subst (λ k. AreOfOtherConversations k n) same (all_found (AreOfOtherConversations h) ms other n alone.0 q)
+    by false x true y p q rec = let same : h ≡ n = cc in subst (AreOfOtherConversations m) same (apart_back h m (all_found (AreOfOtherConversations h) ms id m alone.0 p))
     by false x false y p q rec = rec p q
 
-without_apart : (ms : List Message) (id : ℕ) (m : Message) → AreAlone ms → message_in ms id ≡ Some m → AllByRecursion (AreApart m) (without_message ms id)
+without_apart : (ms : List Message) (id : ℕ) (m : Message) → AreAlone ms → message_in ms id ≡ Some m → AllByRecursion (AreOfOtherConversations m) (without_message ms id)
 without_apart [] id m alone e = cc
 without_apart (h ∷ ms) id m alone e = by (h.id == id) e (λ g. without_apart ms id m alone.1 g)
   where
-    by : (b : Bool) → (if b then Some h else message_in ms id) ≡ Some m → (message_in ms id ≡ Some m → AllByRecursion (AreApart m) (without_message ms id))
-        → AllByRecursion (AreApart m) (if not b then h ∷ without_message ms id else without_message ms id)
-    by true g rec = let same : h ≡ m = cc in subst (λ k. AllByRecursion (AreApart k) (without_message ms id)) same (all_without (AreApart h) ms id alone.0)
-    by false g rec = (apart_back h m (all_found (AreApart h) ms id m alone.0 g), rec g)
+    by : (b : Bool) → (if b then Some h else message_in ms id) ≡ Some m → (message_in ms id ≡ Some m → AllByRecursion (AreOfOtherConversations m) (without_message ms id))
+        → AllByRecursion (AreOfOtherConversations m) (if not b then h ∷ without_message ms id else without_message ms id)
+    by true g rec = let same : h ≡ m = cc in subst (λ k. AllByRecursion (AreOfOtherConversations k) (without_message ms id)) same (all_without (AreOfOtherConversations h) ms id alone.0)
+    by false g rec = (apart_back h m (all_found (AreOfOtherConversations h) ms id m alone.0 g), rec g)
 
 alone_without : (ms : List Message) (id : ℕ) → AreAlone ms → AreAlone (without_message ms id)
 alone_without [] id h = tt
@@ -218,18 +218,18 @@ alone_without (m ∷ ms) id h = by (m.id == id) (alone_without ms id h.1)
   where
     by : (b : Bool) → AreAlone (without_message ms id) → AreAlone (if not b then m ∷ without_message ms id else without_message ms id)
     by true rec = rec
-    by false rec = (all_without (AreApart m) ms id h.0, rec)
+    by false rec = (all_without (AreOfOtherConversations m) ms id h.0, rec)
 
-pub alone_append : (ms ns : List Message) → AreAlone ms → AreAlone ns → AllByRecursion (λ m. AllByRecursion (AreApart m) ns) ms → AreAlone (ms ++ ns)
+pub alone_append : (ms ns : List Message) → AreAlone ms → AreAlone ns → AllByRecursion (λ m. AllByRecursion (AreOfOtherConversations m) ns) ms → AreAlone (ms ++ ns)
 alone_append [] ns h g apart = g
-alone_append (m ∷ ms) ns h g apart = (all_append (AreApart m) ms ns h.0 apart.0, alone_append ms ns h.1 g apart.1)
+alone_append (m ∷ ms) ns h g apart = (all_append (AreOfOtherConversations m) ms ns h.0 apart.0, alone_append ms ns h.1 g apart.1)
 
 -- messages that belong to no conversation
 abbrev pub IsPlain : Message → Type 0
 IsPlain m = m.conversation ≡ false
 
-plain_apart : (a : Message) (ns : List Message) → AllByRecursion IsPlain ns → AllByRecursion (AreApart a) ns
-plain_apart a ns h = all_map IsPlain (AreApart a) ns (λ n plain x y s. no_both (sym y ∙ plain)) h
+plain_apart : (a : Message) (ns : List Message) → AllByRecursion IsPlain ns → AllByRecursion (AreOfOtherConversations a) ns
+plain_apart a ns h = all_map IsPlain (AreOfOtherConversations a) ns (λ n plain x y s. no_both (sym y ∙ plain)) h
 
 plain_alone : (ns : List Message) → AllByRecursion IsPlain ns → AreAlone ns
 plain_alone [] h = tt
@@ -249,20 +249,20 @@ belongs_still before after n same was x = subst (λ g. IsSomeAnd g.conversation 
 -- ---- a message is done, and others that belong to no conversation are sent
 module _ (system : System) (conversations : List TerminalConversation) (ms : List Message) (are : AreConversations system conversations ms) (id : ℕ) (m : Message) (found : message_in ms id ≡ Some m)
     (pad : PadChange) (fits : Suits (given_in conversations m).conversation pad) where
-  pub given_left : (other : ℕ) (n : Message) → message_in ms other ≡ Some n → (other ≡ id → ⊥) → given_in (padded pad m.origin conversations) n ≡ given_in conversations n
+  pub given_left : (other : ℕ) (n : Message) → message_in ms other ≡ Some n → (other ≡ id → ⊥) → given_in (with_pad_changed pad m.origin conversations) n ≡ given_in conversations n
   given_left other n here apart = given_stays m n pad conversations fits (alone_pair ms id other m n are.alone found here (λ s. apart (sym s)))
 
-  pub conversations_closed : (sent : List Message) → AllByRecursion IsPlain sent → AreConversations system (padded pad m.origin conversations) (without_message ms id ++ sent)
+  pub conversations_closed : (sent : List Message) → AllByRecursion IsPlain sent → AreConversations system (with_pad_changed pad m.origin conversations) (without_message ms id ++ sent)
   conversations_closed sent plain = record {
     names = padded_names pad m.origin conversations ∙ are.names;
     pads = pads_padded system conversations m pad fits are.pads;
-    belong = all_append (IsOfConversation (padded pad m.origin conversations)) (without_message ms id) sent
-        (all_both (AreApart m) (IsOfConversation conversations) (IsOfConversation (padded pad m.origin conversations)) (without_message ms id)
-        (λ n apart was. belongs_still conversations (padded pad m.origin conversations) n (given_stays m n pad conversations fits apart) was)
+    belong = all_append (IsOfConversation (with_pad_changed pad m.origin conversations)) (without_message ms id) sent
+        (all_both (AreOfOtherConversations m) (IsOfConversation conversations) (IsOfConversation (with_pad_changed pad m.origin conversations)) (without_message ms id)
+        (λ n apart was. belongs_still conversations (with_pad_changed pad m.origin conversations) n (given_stays m n pad conversations fits apart) was)
         (without_apart ms id m are.alone found) (all_without (IsOfConversation conversations) ms id are.belong))
-        (plain_belongs (padded pad m.origin conversations) sent plain);
+        (plain_belongs (with_pad_changed pad m.origin conversations) sent plain);
     alone = alone_append (without_message ms id) sent (alone_without ms id are.alone) (plain_alone sent plain)
-        (all_any (λ n. AllByRecursion (AreApart n) sent) (without_message ms id) (λ n. plain_apart n sent plain));
+        (all_any (λ n. AllByRecursion (AreOfOtherConversations n) sent) (without_message ms id) (λ n. plain_apart n sent plain));
   }
 
 -- where a message is discarded its conversation ends
@@ -282,7 +282,7 @@ discarded_fits conversations m was = by m.conversation refl
     by false e = stays (given_in conversations m).conversation
 
 -- ---- what a program is given
-pub pad_text : (system : System) (c : Conversation) → IsSystem system → IsConversation system c → IsPadText c.pad
+pub pad_text : (system : System) (c : Conversation) → IsSystem system → IsConversationOf system c → IsPadText c.pad
 pad_text system c valid h = by (code_at system.codes c.code) h.size (found_holds (λ code. IsPadLength code.transaction.scratch_pad) (λ code. bytes_eq code.transaction.code c.code) system.codes valid.pads)
   where
     by : (found : Option Code) → IsSomeAnd found (λ code. (1 ≤ code.transaction.scratch_pad) × (length c.pad + 6 ≡ code.transaction.scratch_pad))
@@ -293,7 +293,7 @@ pad_text system c valid h = by (code_at system.codes c.code) h.size (found_holds
         record { code = omega (arith, size.1, least); held = (omega (arith, size.1, most), h.prints) }
     by None size limits = absurd size
 
-has_pad : (system : System) (conversations : List TerminalConversation) (m : Message) → IsSystem system → AllByRecursion (λ t. IfSome t.conversation (IsConversation system)) conversations
+has_pad : (system : System) (conversations : List TerminalConversation) (m : Message) → IsSystem system → AllByRecursion (λ t. IfSome t.conversation (IsConversationOf system)) conversations
     → IsOfConversation conversations m → HasPad conversations m
 has_pad system conversations m valid pads belongs = by m.conversation refl (conversation_at m.origin conversations) refl
   where
@@ -305,7 +305,7 @@ has_pad system conversations m valid pads belongs = by m.conversation refl (conv
         absurd none
     by true e (Some c) f =
         let here : c.code ≡ m.code = subst (λ o. IsSomeAnd o (λ k. k.code ≡ m.code)) (ap (λ b. if b then conversation_at m.origin conversations else None) e ∙ f) (belongs e) in
-        let is : IsConversation system c = subst (λ o. IfSome o (IsConversation system)) f (conversation_holds (IsConversation system) m.origin conversations pads) in
+        let is : IsConversationOf system c = subst (λ o. IfSome o (IsConversationOf system)) f (conversation_holds (IsConversationOf system) m.origin conversations pads) in
         record {
           given =
               ap (λ b. given_with m (if b then pad_at m.origin conversations else None)) e

@@ -8,7 +8,7 @@ use Rattle.std.proofs.lemmas.Bool.{eq-eqb}
 use Rattle.tm_types.specs.declared.message.Message.{Message}
 use Rattle.tm_types.specs.declared.abend.AbendCode.{AbendCode}
 use Rattle.model_messages.specs.declared.queued.Queued.{Queued}
-use Rattle.model_messages.specs.Queue.{IsNewId, message_at, messages_of, queued_at, without, free_count}
+use Rattle.model_messages.specs.Queue.{IsNewId, queued_message, messages_of, queued_at, without_id_queued, free_count}
 use Rattle.model_messages.specs.Room.{slot_room}
 use Rattle.model_messages.specs.Waiting.{first_waiting}
 use Rattle.model_messages.proofs.Laws.{found_behind, message_found, messages_held, messages_without, new_id_without}
@@ -17,7 +17,7 @@ use Rattle.io_pcb.specs.Pads.{Suits}
 use Rattle.model_messages.specs.declared.conversation.PadChange.{PadChange}
 use Rattle.model_messages.specs.declared.conversation.TerminalConversation.{TerminalConversation}
 use Rattle.model_data.specs.Table.{EnqueueTable}
-use Rattle.model_data.specs.Ask.{released}
+use Rattle.model_data.specs.EnqueueRequests.{released}
 use Rattle.model_system.specs.Codes.{code_at, code_place}
 use Rattle.model_system.specs.Jobs.{Job, job_by}
 use Rattle.model_system.specs.declared.code.Code.{Code}
@@ -31,25 +31,25 @@ use Rattle.model_machine.specs.Trial.{Given, WorkEnd, outputs_of, pad_of}
 use Rattle.model_machine.specs.Trial.WorkEnd.{Ends, Syncs, Abends}
 use Rattle.model_machine.specs.Trial.Advance.{Stops}
 use Rattle.model_machine.specs.Machine.{message_at as message_in, Moment, Slot, IsRegion, has_message, is_held, content, slot_at, raised_now, moment_with}
-use Rattle.model_machine.specs.Lasting.{LastingStep, abend_outputs, applied, discarded_pad, padded, without_message}
-use Rattle.model_machine.specs.Lasting.LastingStep.{Completes, Discards}
+use Rattle.model_machine.specs.LastingSteps.{LastingStep, abend_outputs, applied, discarded_pad, with_pad_changed, without_message}
+use Rattle.model_machine.specs.LastingSteps.LastingStep.{Completes, Discards}
 use Rattle.model_machine.specs.Requests.{blocked_now, slot_requests, table_after, table_by}
-use Rattle.model_machine.specs.Steps.{AtWork, After, ending_step, lasting_step, may_go_on, next_among, next_message, slot_after, slot_work, step_in_turn, sync_answer, turn_answer, work_answer, work_by}
+use Rattle.model_machine.specs.MachineCalls.{AtWork, After, ending_step, lasting_step, may_go_on, next_among, next_message, slot_after, slot_work, step_in_turn, sync_answer, turn_answer, work_answer, work_by}
 use Rattle.model_machine.specs.Flags.{all_followed}
 use Rattle.model_machine.proofs.Flags.{states_again}
-use Rattle.tran_pick.specs.Picked.{IsFirstFree}
+use Rattle.tran_pick.specs.RegionPick.{IsFirstFree}
 use Rattle.tran_pick.proofs.Found.{first_codes}
-use Rattle.program_rows.specs.State.{DatabasesState, AreRowsOf, IsRegionOf, committed_rows, dbds_of, region_at}
-use Rattle.program_rows.specs.Answering.{IsGivenUp}
-use Rattle.lasting_state.specs.Sending.{switches, switched_messages, with_messages}
-use Rattle.lasting_state.specs.Tables.{TablesState, lasting_of, closed, held, Applies, IsClosed}
+use Rattle.program_rows.specs.DatabasesState.{DatabasesState, AreRowsOf, IsRegionOf, committed_rows, dbds_of, region_at}
+use Rattle.program_rows.specs.CallAnswers.{IsGivenUp}
+use Rattle.lasting_state.specs.SentOutputs.{outputs_to_codes, switched_messages, with_messages}
+use Rattle.lasting_state.specs.Tables.{TablesState, lasting_of, message_closed, message_held, Applies, IsMessageClosed}
 use Rattle.region_work.specs.declared.region.Busy.{Busy}
-use Rattle.region_work.specs.Ends.{destinations, goes_on_with}
-use Rattle.tm_machine.specs.Ends.{EndsSo, IsCompleted, MayComplete, SlotEnds, completion_of}
+use Rattle.region_work.specs.WorkEnds.{destinations, goes_on_with}
+use Rattle.tm_machine.specs.WorkEnds.{EndsSo, IsCompleted, MayCompleteWork, SlotEnds, completion_of}
 use Rattle.tm_machine.proofs.Abends.{outputs_right}
-use Rattle.region_work.specs.Region.{given_in, IsUnit, calls_made, outputs_by, pad_by}
-use Rattle.tm_machine.specs.Turns.{IsTurned}
-use Rattle.tm_machine.specs.Parts.{PartsState, slot_of, slots_of, settings_of, flags_of, IsTold, AreAtWork, AreConversations, AreParts, IsIdle, IsOfConversation}
+use Rattle.region_work.specs.RegionWork.{given_in, IsRegionUnit, calls_made, outputs_by, pad_by}
+use Rattle.tm_machine.specs.Turns.{IsRegionTurned}
+use Rattle.tm_machine.specs.Parts.{PartsState, work_slot, work_slots, settings_of, flags_of, AreHoldersTold, AreAtWork, AreConversations, AreParts, IsIdle, IsOfConversation}
 use Rattle.tm_machine.proofs.Conversing.{IsPlain, conversations_closed, discarded_fits, given_left}
 use Rattle.region_work.proofs.Kept.{all_found}
 use Rattle.tm_machine.proofs.Tabled.{AreOwn, released_asks}
@@ -62,15 +62,15 @@ use Rattle.tm_machine.proofs.Scheduled.{parts_taken, told_taken}
 use Rattle.tm_machine.proofs.Stepped.{slot_is, trial_is, work_is}
 use Rattle.tm_machine.proofs.Tried.{IsTried, unit_trial}
 use Rattle.tm_machine.proofs.Telling.{longer_step, tells_step}
-use Rattle.tm_machine.specs.Told.{IsLonger, Tells}
-use Rattle.lasting_state.specs.Telling.{Tells as TablesTell, IsLonger as IsLongerStep}
+use Rattle.tm_machine.specs.ToldByCall.{IsCallLonger, TellsLastingStep}
+use Rattle.lasting_state.specs.ToldSteps.{TellsStep as TablesTell, AreRecordsLonger as IsLongerStep}
 
-told_new : (messages : List Message) (slots : List (Option Slot)) → AllByRecursion (λ m. is_held slots m.id ≡ false) messages → IsTold slots (with_messages messages [])
+told_new : (messages : List Message) (slots : List (Option Slot)) → AllByRecursion (λ m. is_held slots m.id ≡ false) messages → AreHoldersTold slots (with_messages messages [])
 told_new [] slots free = tt
 told_new (m ∷ messages) slots free = (free.0, told_new messages slots free.1)
 
 told_more : (messages : List Message) (queued : List Queued) (slots : List (Option Slot)) → AllByRecursion (λ m. is_held slots m.id ≡ false) messages
-    → IsTold slots queued → IsTold slots (with_messages messages queued)
+    → AreHoldersTold slots queued → AreHoldersTold slots (with_messages messages queued)
 told_more messages [] slots free told = told_new messages slots free
 told_more messages (q ∷ queued) slots free told = (told.0, told_more messages queued slots free told.1)
 
@@ -86,7 +86,7 @@ new_above next id (q ∷ queued) h above = (let here = above.0 in omega (arith, 
 
 -- no region has a message whose id is new
 all_free : (system : System) (databases : DatabasesState) (conversations : List TerminalConversation) (next : ℕ) (queued : List Queued) (regions : List (Option Busy)) (messages : List Message)
-    → IsNewId next queued → AreAtWork system databases conversations queued regions → AllByRecursion (λ m. next ≤ m.id) messages → AllByRecursion (λ m. is_held (slots_of regions) m.id ≡ false) messages
+    → IsNewId next queued → AreAtWork system databases conversations queued regions → AllByRecursion (λ m. next ≤ m.id) messages → AllByRecursion (λ m. is_held (work_slots regions) m.id ≡ false) messages
 all_free system databases conversations next queued regions [] above at_work h = tt
 all_free system databases conversations next queued regions (m ∷ messages) above at_work h = (
   new_free system databases conversations m.id queued regions (new_above next m.id queued h.0 above) at_work,
@@ -107,17 +107,17 @@ or_right true b h = refl
 or_right false b h = h
 
 -- a region's message is held
-held_at : (regions : List (Option Busy)) (place : ℕ) (busy : Busy) → slice_get regions place ≡ Some (Some busy) → is_held (slots_of regions) busy.id ≡ true
+held_at : (regions : List (Option Busy)) (place : ℕ) (busy : Busy) → slice_get regions place ≡ Some (Some busy) → is_held (work_slots regions) busy.id ≡ true
 held_at [] place busy e = cc
 held_at (r ∷ regions) zero busy e =
     let here : r ≡ Some busy = cc in
-    ap (λ o. has_message busy.id (slot_of o) || is_held (slots_of regions) busy.id) here ∙ ap (λ b. b || is_held (slots_of regions) busy.id) (eq-eqb busy.id busy.id refl)
-held_at (r ∷ regions) (suc place) busy e = or_right (has_message busy.id (slot_of r)) (is_held (slots_of regions) busy.id) (held_at regions place busy e)
+    ap (λ o. has_message busy.id (work_slot o) || is_held (work_slots regions) busy.id) here ∙ ap (λ b. b || is_held (work_slots regions) busy.id) (eq-eqb busy.id busy.id refl)
+held_at (r ∷ regions) (suc place) busy e = or_right (has_message busy.id (work_slot r)) (is_held (work_slots regions) busy.id) (held_at regions place busy e)
 
 module _ (system : System) (tables : TablesState) (states : List CodeState) (regions : List (Option Busy)) (region : ℕ)
     (parts : AreParts system tables states regions) (busy : Busy) (e : slice_get regions (region - 1) ≡ Some (Some busy)) (there : IsRegion system region) where
   abbrev moment_of_tables : TablesState → List CodeState → List (Option Busy) → Moment
-  moment_of_tables t ss rs = record { lasting = lasting_of (settings_of ss) t; slots = slots_of rs; enqueues = t.databases.table; raised = flags_of ss }
+  moment_of_tables t ss rs = record { lasting = lasting_of (settings_of ss) t; slots = work_slots rs; enqueues = t.databases.table; raised = flags_of ss }
 
   abbrev moment_now : Moment
   moment_now = moment_of_tables tables states regions
@@ -140,7 +140,7 @@ module _ (system : System) (tables : TablesState) (states : List CodeState) (reg
   abbrev left : List (Option Busy)
   left = slice_set regions (region - 1) None
 
-  pub found_here : message_at busy.id tables.queues.queued ≡ Some message_now
+  pub found_here : queued_message busy.id tables.queues.queued ≡ Some message_now
   found_here = ap (option_map (λ q. q.message)) (parts.at_work (region - 1) busy e).found
 
   -- the message of a work is there
@@ -166,7 +166,7 @@ module _ (system : System) (tables : TablesState) (states : List CodeState) (reg
       by None h = cc
 
   -- it may be completed
-  pub may_complete : MayComplete tables regions region
+  pub may_complete : MayCompleteWork tables regions region
   may_complete = record {
     busy = busy;
     works_on = e;
@@ -180,10 +180,10 @@ module _ (system : System) (tables : TablesState) (states : List CodeState) (reg
   abbrev given_here : Given
   given_here = given_in tables.conversations message_now
 
-  unit_here : IsUnit job_now given_here region tables.databases busy.unit
+  unit_here : IsRegionUnit job_now given_here region tables.databases busy.unit
   unit_here =
       let back : region - 1 + 1 ≡ region = omega (arith, there.0) in
-      subst (λ n. IsUnit job_now given_here n tables.databases busy.unit) back (parts.at_work (region - 1) busy e).work.unit
+      subst (λ n. IsRegionUnit job_now given_here n tables.databases busy.unit) back (parts.at_work (region - 1) busy e).work.unit
 
   pub tried : IsTried job_now given_here region tables.databases busy.unit
   tried = unit_trial job_now given_here region tables.databases busy.unit unit_here
@@ -242,19 +242,19 @@ module _ (system : System) (tables : TablesState) (states : List CodeState) (reg
 
   -- a completion is told, and that it doesn't fit
   module _ (unit room : ℕ) (does : lasting_step system moment_now (Turn region) ≡ Some (ending_step slot_now tried.trial Ends)) where
-    pub completed_tells : (before after : List ℕ) → TablesTell unit room completes tables before after → Tells system moment_now unit room (Turn region) before after
+    pub completed_tells : (before after : List ℕ) → TablesTell unit room completes tables before after → TellsLastingStep system moment_now unit room (Turn region) before after
     completed_tells before after h = tells_step system moment_now unit room (Turn region) completes tables (settings_of states) refl (does ∙ ap (λ s. Some s) completes_is) before after h
 
-    pub completed_longer : IsLongerStep unit room completes tables → IsLonger system moment_now unit room (Turn region)
+    pub completed_longer : IsLongerStep unit room completes tables → IsCallLonger system moment_now unit room (Turn region)
     completed_longer h = longer_step system moment_now unit room (Turn region) completes tables (settings_of states) refl (does ∙ ap (λ s. Some s) completes_is) h
 
   pub abended_tells : (unit room : ℕ) (abend : AbendCode) → EndsSo (state_with moment_now) region (Abends abend) → (before after : List ℕ)
-      → TablesTell unit room (Discards busy.id abend) tables before after → Tells system moment_now unit room (Turn region) before after
+      → TablesTell unit room (Discards busy.id abend) tables before after → TellsLastingStep system moment_now unit room (Turn region) before after
   abended_tells unit room abend ends before after h =
       tells_step system moment_now unit room (Turn region) (Discards busy.id abend) tables (settings_of states) refl (ends_step (Abends abend) ends) before after h
 
   pub abended_longer : (unit room : ℕ) (abend : AbendCode) → EndsSo (state_with moment_now) region (Abends abend)
-      → IsLongerStep unit room (Discards busy.id abend) tables → IsLonger system moment_now unit room (Turn region)
+      → IsLongerStep unit room (Discards busy.id abend) tables → IsCallLonger system moment_now unit room (Turn region)
   abended_longer unit room abend ends h =
       longer_step system moment_now unit room (Turn region) (Discards busy.id abend) tables (settings_of states) refl (ends_step (Abends abend) ends) h
 
@@ -264,27 +264,27 @@ module _ (system : System) (tables : TablesState) (states : List CodeState) (reg
 
   -- The message is gone, and its outputs were sent; the region is idle then, and the others work on.
   module _ (tables' : TablesState) (outputs : List EndedMessage) (pad : PadChange) (above : IsNewId tables.next_id tables.queues.queued)
-      (is : tables' ≡ closed tables'.databases pad tables message_now outputs) (named : message_now.id ≡ busy.id) (fits : Suits given_here.conversation pad)
+      (is : tables' ≡ message_closed tables'.databases pad tables message_now outputs) (named : message_now.id ≡ busy.id) (fits : Suits given_here.conversation pad)
       (beside : IsKeptBeside region tables.databases tables'.databases) (own : IsIdle region tables'.databases) (dbds : dbds_of tables'.databases ≡ dbds_of tables.databases)
       (gone : tables'.databases.table ≡ released region tables.databases.table) (rows : AreRowsOf (dbds_of tables'.databases) (committed_rows tables'.databases)) where
     abbrev sent : List Message
-    sent = switched_messages message_now.origin (switches tables.outputs outputs) tables.next_id
+    sent = switched_messages message_now.origin (outputs_to_codes tables.outputs outputs) tables.next_id
 
-    queued_is : tables'.queues.queued ≡ with_messages sent (without busy.id tables.queues.queued)
-    queued_is = ap (λ t. t.queues.queued) is ∙ ap (λ n. with_messages sent (without n tables.queues.queued)) named
+    queued_is : tables'.queues.queued ≡ with_messages sent (without_id_queued busy.id tables.queues.queued)
+    queued_is = ap (λ t. t.queues.queued) is ∙ ap (λ n. with_messages sent (without_id_queued n tables.queues.queued)) named
 
     above_sent : AllByRecursion (λ m. tables.next_id ≤ m.id) sent
-    above_sent = all_above tables.next_id message_now.origin (switches tables.outputs outputs) tables.next_id (omega arith)
+    above_sent = all_above tables.next_id message_now.origin (outputs_to_codes tables.outputs outputs) tables.next_id (omega arith)
 
     abbrev conversations_left : List TerminalConversation
-    conversations_left = padded pad message_now.origin tables.conversations
+    conversations_left = with_pad_changed pad message_now.origin tables.conversations
 
     conversations_are : tables'.conversations ≡ conversations_left
     conversations_are = ap (λ t. t.conversations) is
 
     messages_are : messages_of tables'.queues.queued ≡ without_message (messages_of tables.queues.queued) busy.id ++ sent
     messages_are =
-        ap messages_of queued_is ∙ messages_both (without busy.id tables.queues.queued) sent
+        ap messages_of queued_is ∙ messages_both (without_id_queued busy.id tables.queues.queued) sent
         ∙ ap (λ ms. ms ++ sent) (messages_without busy.id tables.queues.queued)
 
     conversations_here : AreConversations system tables'.conversations (messages_of tables'.queues.queued)
@@ -292,9 +292,9 @@ module _ (system : System) (tables : TablesState) (states : List CodeState) (reg
         subst (λ cs. AreConversations system cs (messages_of tables'.queues.queued)) (sym conversations_are)
         (subst (AreConversations system conversations_left) (sym messages_are)
         (conversations_closed system tables.conversations (messages_of tables.queues.queued) parts.conversations busy.id message_now found_in pad fits sent
-        (all_plain message_now.origin (switches tables.outputs outputs) tables.next_id)))
+        (all_plain message_now.origin (outputs_to_codes tables.outputs outputs) tables.next_id)))
 
-    others : AreAtWork system tables'.databases conversations_left (without busy.id tables.queues.queued) left
+    others : AreAtWork system tables'.databases conversations_left (without_id_queued busy.id tables.queues.queued) left
     others = end_at_work system tables.databases tables'.databases tables.conversations conversations_left tables.queues.queued regions (region - 1) busy e
         (stay_at_work system parts.valid tables.databases tables'.databases regions region beside count there.0)
         (λ other message here apart.
@@ -302,21 +302,21 @@ module _ (system : System) (tables : TablesState) (states : List CodeState) (reg
         (message_found other tables.queues.queued ∙ here) apart)
         parts.at_work
 
-    new_left : IsNewId tables.next_id (without busy.id tables.queues.queued)
+    new_left : IsNewId tables.next_id (without_id_queued busy.id tables.queues.queued)
     new_left = new_id_without tables.next_id busy.id tables.queues.queued above
 
-    told_left : IsTold (slots_of left) tables'.queues.queued
+    told_left : AreHoldersTold (work_slots left) tables'.queues.queued
     told_left = rw queued_is
-        (told_more sent (without busy.id tables.queues.queued) (slots_of left)
-        (all_free system tables'.databases conversations_left tables.next_id (without busy.id tables.queues.queued) left sent new_left others above_sent)
+        (told_more sent (without_id_queued busy.id tables.queues.queued) (work_slots left)
+        (all_free system tables'.databases conversations_left tables.next_id (without_id_queued busy.id tables.queues.queued) left sent new_left others above_sent)
         (end_told tables.queues.queued regions (region - 1) busy e parts.told))
 
     -- as many messages wait of each code to which nothing was sent
     waits : (name : List ℕ) → list_any (λ n. bytes_eq name n) (destinations outputs) ≡ false → free_count name tables'.queues.queued ≡ free_count name tables.queues.queued
     waits name none =
         ap (free_count name) queued_is
-        ∙ count_sent name message_now.origin tables.outputs outputs tables.next_id (without busy.id tables.queues.queued) none
-        ∙ count_without name busy.id (slots_of regions) tables.queues.queued (held_at regions (region - 1) busy e) parts.told
+        ∙ count_sent name message_now.origin tables.outputs outputs tables.next_id (without_id_queued busy.id tables.queues.queued) none
+        ∙ count_without name busy.id (work_slots regions) tables.queues.queued (held_at regions (region - 1) busy e) parts.told
 
     parts_closed : (states' : List CodeState) → length states' ≡ length states
         → raised_now (λ name. free_count name tables'.queues.queued) system.codes (flags_of states') ≡ flags_of states' → AreParts system tables' states' left
@@ -328,18 +328,18 @@ module _ (system : System) (tables : TablesState) (states : List CodeState) (reg
       states_are = size ∙ parts.states_are;
       settled = settled;
       told = told_left;
-      at_work = rw (conversations_are, queued_is) (at_work_more system tables'.databases conversations_left sent (without busy.id tables.queues.queued) left others);
+      at_work = rw (conversations_are, queued_is) (at_work_more system tables'.databases conversations_left sent (without_id_queued busy.id tables.queues.queued) left others);
       conversations = conversations_here;
       databases = are_beside system region tables.databases tables'.databases parts.databases beside dbds rows;
       idle = idle_ended system parts.valid tables.databases tables'.databases regions region beside count there.0 own parts.idle;
     }
 
     -- the slots of before tell what no region has, but for the message that is gone
-    told_before : IsTold (slots_of regions) tables'.queues.queued
+    told_before : AreHoldersTold (work_slots regions) tables'.queues.queued
     told_before = rw queued_is
-        (told_more sent (without busy.id tables.queues.queued) (slots_of regions)
+        (told_more sent (without_id_queued busy.id tables.queues.queued) (work_slots regions)
         (all_free system tables.databases tables.conversations tables.next_id tables.queues.queued regions sent above parts.at_work above_sent)
-        (told_without busy.id tables.queues.queued (slots_of regions) parts.told))
+        (told_without busy.id tables.queues.queued (work_slots regions) parts.told))
 
     -- the flags of the code and of the destinations followed
     follows_closed : (names : List (List ℕ)) (states' : List CodeState)
@@ -357,25 +357,25 @@ module _ (system : System) (tables : TablesState) (states : List CodeState) (reg
         → Applies step tables tables'
         → moment_of_tables tables' states' left ≡ After system moment_now (Turn region) []
     turned_closed states' answer step end h follows says none does frees applies =
-        moment_is system (applied step moment_now.lasting) (slice_set (slots_of regions) (region - 1) None) tables' states states' left (released region tables.databases.table) follows told_left (applies (settings_of states)) (set_slots regions (region - 1) None) gone
-        ∙ ap (λ s. moment_with system (applied step moment_now.lasting) (slice_set (slots_of regions) (region - 1) s) (released region tables.databases.table) (flags_of states)) (sym none)
-        ∙ ap (λ t. moment_with system (applied step moment_now.lasting) (slice_set (slots_of regions) (region - 1) (slot_after answer (Some slot_now))) t (flags_of states))
+        moment_is system (applied step moment_now.lasting) (slice_set (work_slots regions) (region - 1) None) tables' states states' left (released region tables.databases.table) follows told_left (applies (settings_of states)) (set_slots regions (region - 1) None) gone
+        ∙ ap (λ s. moment_with system (applied step moment_now.lasting) (slice_set (work_slots regions) (region - 1) s) (released region tables.databases.table) (flags_of states)) (sym none)
+        ∙ ap (λ t. moment_with system (applied step moment_now.lasting) (slice_set (work_slots regions) (region - 1) (slot_after answer (Some slot_now))) t (flags_of states))
         (sym (gone_here end h) ∙ sym (frees (table_by system moment_now region (Some slot_now))))
         ∙ sym (turn_leaves system moment_now region [] (Some slot_now) answer (Some step) (table_by system moment_now region (Some slot_now)) slot_here says does refl)
 
   -- what is closed, by the message that is there
-  closed_here : (databases : DatabasesState) (pads : Message → PadChange) (sends : Message → List EndedMessage) (tables' : TablesState) → IsClosed databases pads sends tables tables' busy.id
-      → (message_now.id ≡ busy.id) × (tables' ≡ closed databases (pads message_now) tables message_now (sends message_now))
-  closed_here databases pads sends tables' done = by (message_at busy.id tables.queues.queued) found_here done
+  closed_here : (databases : DatabasesState) (pads : Message → PadChange) (sends : Message → List EndedMessage) (tables' : TablesState) → IsMessageClosed databases pads sends tables tables' busy.id
+      → (message_now.id ≡ busy.id) × (tables' ≡ message_closed databases (pads message_now) tables message_now (sends message_now))
+  closed_here databases pads sends tables' done = by (queued_message busy.id tables.queues.queued) found_here done
     where
-      by : (found : Option Message) → found ≡ Some message_now → IsSomeAnd found (λ m. (m.id ≡ busy.id) × (tables' ≡ closed databases (pads m) tables m (sends m)))
-          → (message_now.id ≡ busy.id) × (tables' ≡ closed databases (pads message_now) tables message_now (sends message_now))
-      by (Some m) f g = let here : m ≡ message_now = cc in subst (λ n. (n.id ≡ busy.id) × (tables' ≡ closed databases (pads n) tables n (sends n))) here g
+      by : (found : Option Message) → found ≡ Some message_now → IsSomeAnd found (λ m. (m.id ≡ busy.id) × (tables' ≡ message_closed databases (pads m) tables m (sends m)))
+          → (message_now.id ≡ busy.id) × (tables' ≡ message_closed databases (pads message_now) tables message_now (sends message_now))
+      by (Some m) f g = let here : m ≡ message_now = cc in subst (λ n. (n.id ≡ busy.id) × (tables' ≡ message_closed databases (pads n) tables n (sends n))) here g
       by None f g = absurd g
 
   -- The message is completed.
   module _ (tables' : TablesState) (d : IsCompleted region busy tables tables') where
-    done_is : (message_now.id ≡ busy.id) × (tables' ≡ closed tables'.databases (pad_by busy.unit) tables message_now (outputs_by busy.unit))
+    done_is : (message_now.id ≡ busy.id) × (tables' ≡ message_closed tables'.databases (pad_by busy.unit) tables message_now (outputs_by busy.unit))
     done_is = closed_here tables'.databases (λ _. pad_by busy.unit) (λ _. outputs_by busy.unit) tables' d.closed
 
     fits_here : Suits given_here.conversation (pad_by busy.unit)
@@ -400,7 +400,7 @@ module _ (system : System) (tables : TablesState) (states : List CodeState) (reg
 
     pub done_turned : (states' : List CodeState) → IsFollowed system (λ name. free_count name tables'.queues.queued) states states'
         → EndsSo (state_with moment_now) region Ends
-        → IsTurned (state_with moment_now) (state_on tables' states' left) region (Done busy.code busy.id)
+        → IsRegionTurned (state_with moment_now) (state_on tables' states' left) region (Done busy.code busy.id)
     done_turned states' follows h = record {
       victims = nobody_breaks system moment_now region slot_now slot_here (free_here Ends h);
       answer = sym (answer_here Ends h);
@@ -421,9 +421,9 @@ module _ (system : System) (tables : TablesState) (states : List CodeState) (reg
             → next_among system moment_now (lasting_of (settings_of states) tables') slot_now code state ≡ goes_on_with system.qbytes tables' busy.code busy.taken (count_by is_some regions) code state
         by (Some code) (Some state) =
             ap (λ n. if may_go_on code.transaction state busy.taken && nat_le (content (lasting_of (settings_of states) tables') + slot_room * n) system.qbytes
-            then first_waiting (is_held (slots_of regions)) busy.code (lasting_of (settings_of states) tables').messages else None) (busy_is regions)
+            then first_waiting (is_held (work_slots regions)) busy.code (lasting_of (settings_of states) tables').messages else None) (busy_is regions)
             ∙ ap (λ f. if may_go_on code.transaction state busy.taken && nat_le (content (lasting_of (settings_of states) tables') + slot_room * count_by is_some regions) system.qbytes
-            then f else None) (first_free_is busy.code (slots_of regions) tables'.queues.queued
+            then f else None) (first_free_is busy.code (work_slots regions) tables'.queues.queued
             (told_before tables' (outputs_by busy.unit) (pad_by busy.unit) d.above done_is.1 done_is.0 fits_here beside_here own_idle d.dbds d.committed.table d.rows))
         by (Some code) None = refl
         by None state = refl
@@ -442,7 +442,7 @@ module _ (system : System) (tables : TablesState) (states : List CodeState) (reg
 
     pub none_turned : (states' : List CodeState) → IsFollowed system (λ name. free_count name tables'.queues.queued) states states'
         → turn_answer system moment_now region [] ≡ QC busy.code busy.id → EndsSo (state_with moment_now) region Syncs
-        → IsTurned (state_with moment_now) (state_on tables' states' left) region (QC busy.code busy.id)
+        → IsRegionTurned (state_with moment_now) (state_on tables' states' left) region (QC busy.code busy.id)
     none_turned states' follows says h = record {
       victims = nobody_breaks system moment_now region slot_now slot_here (free_here Syncs h);
       answer = sym says;
@@ -452,7 +452,7 @@ module _ (system : System) (tables : TablesState) (states : List CodeState) (reg
     }
 
     -- the region goes on with a further message
-    module _ (tables'' : TablesState) (new : Busy) (holds : tables'' ≡ held tables' new.id region) (code : new.code ≡ busy.code) (fresh : new.unit ≡ None)
+    module _ (tables'' : TablesState) (new : Busy) (holds : tables'' ≡ message_held tables' new.id region) (code : new.code ≡ busy.code) (fresh : new.unit ≡ None)
         (free : IsFirstFree tables'.queues.queued busy.code new.id) where
       empty : slice_get left (region - 1) ≡ Some None
       empty = get_set regions (region - 1) (Some busy) None e
@@ -462,7 +462,7 @@ module _ (system : System) (tables : TablesState) (states : List CodeState) (reg
         between : AreParts system tables' middle left
         between = parts_completed middle follows
 
-        pub told_next : IsTold (slots_of (slice_set left (region - 1) (Some new))) tables''.queues.queued
+        pub told_next : AreHoldersTold (work_slots (slice_set left (region - 1) (Some new))) tables''.queues.queued
         told_next = rw holds (told_taken system tables' middle left region between new empty there.0)
 
         pub parts_next : (states' : List CodeState) → length states' ≡ length states
@@ -484,22 +484,22 @@ module _ (system : System) (tables : TablesState) (states : List CodeState) (reg
       pub next_turned : (middle states' : List CodeState) → IsFollowed system (λ name. free_count name tables'.queues.queued) states middle
           → IsFollowed system (λ name. free_count name tables''.queues.queued) states states' → new.taken ≡ busy.taken + 1
           → turn_answer system moment_now region [] ≡ Next busy.code busy.id new.id → EndsSo (state_with moment_now) region Syncs
-          → IsTurned (state_with moment_now) (state_on tables'' states' (slice_set left (region - 1) (Some new))) region (Next busy.code busy.id new.id)
+          → IsRegionTurned (state_with moment_now) (state_on tables'' states' (slice_set left (region - 1) (Some new))) region (Next busy.code busy.id new.id)
       next_turned middle states' before follows taken says h = record {
         victims = nobody_breaks system moment_now region slot_now slot_here (free_here Syncs h);
         answer = sym says;
         after =
-            moment_is system (applied completes moment_now.lasting) (slice_set (slots_of regions) (region - 1) (Some next)) tables'' states states' (slice_set left (region - 1) (Some new)) (released region tables.databases.table) follows
+            moment_is system (applied completes moment_now.lasting) (slice_set (work_slots regions) (region - 1) (Some next)) tables'' states states' (slice_set left (region - 1) (Some new)) (released region tables.databases.table) follows
             (told_next middle before)
             (ap (lasting_of (settings_of states)) holds
             ∙ ap {A = List Message} (λ ms. record (lasting_of (settings_of states) tables') { messages = ms }) (messages_held new.id (Some region) tables'.queues.queued)
             ∙ d.applies (settings_of states))
-            (ap slots_of (set_set regions (region - 1) None (Some new)) ∙ set_slots regions (region - 1) (Some new)
-            ∙ ap (λ c. slice_set (slots_of regions) (region - 1) (Some (record { code = c; taken = new.taken; id = new.id; calls = calls_made new.unit }))) code
-            ∙ ap (λ n. slice_set (slots_of regions) (region - 1) (Some (record { code = busy.code; taken = n; id = new.id; calls = calls_made new.unit }))) taken
-            ∙ ap (λ u. slice_set (slots_of regions) (region - 1) (Some (record { code = busy.code; taken = busy.taken + 1; id = new.id; calls = calls_made u }))) fresh)
+            (ap work_slots (set_set regions (region - 1) None (Some new)) ∙ set_slots regions (region - 1) (Some new)
+            ∙ ap (λ c. slice_set (work_slots regions) (region - 1) (Some (record { code = c; taken = new.taken; id = new.id; calls = calls_made new.unit }))) code
+            ∙ ap (λ n. slice_set (work_slots regions) (region - 1) (Some (record { code = busy.code; taken = n; id = new.id; calls = calls_made new.unit }))) taken
+            ∙ ap (λ u. slice_set (work_slots regions) (region - 1) (Some (record { code = busy.code; taken = busy.taken + 1; id = new.id; calls = calls_made u }))) fresh)
             (ap (λ t. t.databases.table) holds ∙ d.committed.table)
-            ∙ ap (λ t. moment_with system (applied completes moment_now.lasting) (slice_set (slots_of regions) (region - 1) (Some next)) t (flags_of states)) (sym (gone_here Syncs h))
+            ∙ ap (λ t. moment_with system (applied completes moment_now.lasting) (slice_set (work_slots regions) (region - 1) (Some next)) t (flags_of states)) (sym (gone_here Syncs h))
             ∙ sym (turn_leaves system moment_now region [] (Some slot_now) (Next busy.code busy.id new.id) (Some completes) (table_by system moment_now region (Some slot_now)) slot_here says
             (step_here Syncs h ∙ ap (λ s. Some s) completes_is) refl);
         system = refl;
@@ -510,10 +510,10 @@ module _ (system : System) (tables : TablesState) (states : List CodeState) (reg
 
   -- The work has ended abnormally.
   module _ (tables' : TablesState) (above : IsNewId tables.next_id tables.queues.queued) (abend : AbendCode)
-      (done : IsClosed tables'.databases discarded_pad (λ message. abend_outputs message abend) tables tables' busy.id)
+      (done : IsMessageClosed tables'.databases discarded_pad (λ message. abend_outputs message abend) tables tables' busy.id)
       (applies : Applies (Discards busy.id abend) tables tables')
       (back : IsGivenUp region tables.databases tables'.databases) (dbds : dbds_of tables'.databases ≡ dbds_of tables.databases) where
-    gone_is : (message_now.id ≡ busy.id) × (tables' ≡ closed tables'.databases (discarded_pad message_now) tables message_now (abend_outputs message_now abend))
+    gone_is : (message_now.id ≡ busy.id) × (tables' ≡ message_closed tables'.databases (discarded_pad message_now) tables message_now (abend_outputs message_now abend))
     gone_is = closed_here tables'.databases discarded_pad (λ message. abend_outputs message abend) tables' done
 
     fits_gone : Suits given_here.conversation (discarded_pad message_now)
@@ -529,12 +529,12 @@ module _ (system : System) (tables : TablesState) (states : List CodeState) (reg
     back_idle : IsIdle region tables'.databases
     back_idle = idle_given_up region tables.databases tables'.databases works_there back
 
-    pub follows_abended : (states' : List CodeState) (origin : List ℕ) → IsSomeAnd (message_at busy.id tables.queues.queued) (λ message. origin ≡ message.origin)
+    pub follows_abended : (states' : List CodeState) (origin : List ℕ) → IsSomeAnd (queued_message busy.id tables.queues.queued) (λ message. origin ≡ message.origin)
         → states' ≡ all_followed system.codes (λ name. free_count name tables'.queues.queued) (origin ∷ []) states
         → IsFollowed system (λ name. free_count name tables'.queues.queued) states states'
     follows_abended states' origin from follow =
         follows_closed tables' (abend_outputs message_now abend) (discarded_pad message_now) above gone_is.1 gone_is.0 fits_gone beside_back back_idle dbds back.table back_rows (origin ∷ []) states'
-        (λ name none. ap (λ o. bytes_eq name o || false) (sym (by (message_at busy.id tables.queues.queued) found_here from)) ∙ none) follow
+        (λ name none. ap (λ o. bytes_eq name o || false) (sym (by (queued_message busy.id tables.queues.queued) found_here from)) ∙ none) follow
       where
         by : (found : Option Message) → found ≡ Some message_now → IsSomeAnd found (λ message. origin ≡ message.origin) → origin ≡ message_now.origin
         by (Some m) f g = let here : m ≡ message_now = cc in g ∙ ap (λ n. n.origin) here
@@ -547,7 +547,7 @@ module _ (system : System) (tables : TablesState) (states : List CodeState) (reg
 
     pub abended_turned : (states' : List CodeState) → IsFollowed system (λ name. free_count name tables'.queues.queued) states states'
         → EndsSo (state_with moment_now) region (Abends abend)
-        → IsTurned (state_with moment_now) (state_on tables' states' left) region (Abended busy.code busy.id abend)
+        → IsRegionTurned (state_with moment_now) (state_on tables' states' left) region (Abended busy.code busy.id abend)
     abended_turned states' follows h = record {
       victims = nobody_breaks system moment_now region slot_now slot_here (free_here (Abends abend) h);
       answer = sym (answer_here (Abends abend) h);

@@ -4,7 +4,7 @@ use Rattle.std.specs.Prelude.{Option, Some, None, IsSome, IsSomeAnd, IsTrue, ◌
 use Rattle.std.specs.Option.{option_map, option_map_or, is_some}
 use Rattle.std.specs.List.{AllByRecursion, count_by, list_any}
 use Rattle.std.specs.Ordering.{nat_cmp}
-use Rattle.std.specs.declared.cmp.Ordering.TheVariants.{Less, Equal}
+use Rattle.std.specs.declared.cmp.Ordering.TheVariants.{Less}
 use Rattle.std.specs.Str.{bytes_eq}
 use Rattle.std.proofs.lemmas.Bool.{eqb-true}
 use Rattle.std.proofs.lemmas.List.Elements.{recursion_from_All}
@@ -13,27 +13,26 @@ use Rattle.std.proofs.lemmas.Map.Keys.{sorted_head, sorted_tail}
 use Rattle.std.proofs.lemmas.Option.{get_or_from_slice_get}
 use Rattle.tm_types.specs.declared.message.Message.{Message}
 use Rattle.model_messages.specs.declared.queued.Queued.{Queued}
-use Rattle.model_messages.specs.Queue.{AreInOrder, has_id, ids_of, message_at, messages_of, queued_at, with_holder, free_count}
+use Rattle.model_messages.specs.Queue.{AreInOrder, has_id, ids_of, queued_message, messages_of, queued_at, with_holder, free_count}
 use Rattle.model_messages.proofs.Laws.{messages_held}
-use Rattle.msg_queues.proofs.Keys.{equal_from}
 use Rattle.model_data.specs.Table.{blockers, wait_of, waits_for}
-use Rattle.model_data.specs.Ask.{released}
-use Rattle.model_data.specs.Cycle.{IsRegion as IsTableRegion, IsCycle, WaitsAlong, changes_of, gives_way, victim_of}
+use Rattle.model_data.specs.EnqueueRequests.{released}
+use Rattle.model_data.specs.Cycle.{IsTableRegion as IsTableRegion, IsCycle, WaitsAlong, changed_count_of, gives_way, victim_of}
 use Rattle.model_data.specs.declared.request.Request.{Request}
 use Rattle.model_system.specs.declared.code_state.CodeState.{CodeState}
 use Rattle.model_system.specs.System.{System}
 use Rattle.model_system.specs.Jobs.{Job}
 use Rattle.model_machine.specs.Machine.{Moment, Slot, IsRegion, slot_at}
 use Rattle.model_machine.specs.Requests.{changes_by, changes_now}
-use Rattle.model_machine.specs.Work.{slot_trial}
+use Rattle.model_machine.specs.WorkSoFar.{slot_trial}
 use Rattle.model_machine.specs.Flags.{all_followed}
-use Rattle.program_rows.specs.State.{RegionRows, IsRegionOf, dbds_of, no_rows, region_at, rows_of}
-use Rattle.program_rows.specs.Answering.{IsGivenUp}
+use Rattle.program_rows.specs.DatabasesState.{RegionRows, IsRegionOf, dbds_of, no_rows, region_at, rows_of_stores}
+use Rattle.program_rows.specs.CallAnswers.{IsGivenUp}
 use Rattle.lasting_state.specs.Tables.{TablesState, lasting_of, given_back, with_databases}
-use Rattle.deadlock_pick.specs.Weighed.{IsWeighed}
+use Rattle.deadlock_pick.specs.Weights.{IsWeighed}
 use Rattle.region_work.specs.declared.region.Busy.{Busy}
-use Rattle.region_work.specs.Region.{given_in, calls_made}
-use Rattle.tm_machine.specs.Parts.{slot_of, slots_of, settings_of, flags_of, IsTold, AreConversations, AreParts}
+use Rattle.region_work.specs.RegionWork.{given_in, calls_made}
+use Rattle.tm_machine.specs.Parts.{work_slot, work_slots, settings_of, flags_of, AreHoldersTold, AreConversations, AreParts}
 use Rattle.tm_machine.specs.Victims.{gave_way}
 use Rattle.tm_machine.proofs.Others.{IsKeptBeside, are_beside, beside_given_up, idle_ended, idle_given_up, rows_stay, stay_at_work}
 use Rattle.tm_machine.proofs.Free.{count_held, or_none}
@@ -43,21 +42,16 @@ use Rattle.tm_machine.proofs.Raising.{IsFollowed, followed_all, followed_settled
 use Rattle.tm_machine.proofs.Resting.{slots_length}
 use Rattle.tm_machine.proofs.Stepped.{slot_is, trial_is}
 use Rattle.tm_machine.proofs.Tried.{IsTried, unit_trial}
-
--- ---- the messages of an id
-none_above : (code : List ℕ) (id : ℕ) (qs : List Queued) → AllByRecursion (λ k. nat_cmp id k ≡ Less) (ids_of qs) → AllByRecursion (λ q. has_id id q ≡ true → q.message.code ≡ code) qs
-none_above code id [] below = tt
-none_above code id (q ∷ qs) below =
-    (λ same. let clash : Less ≡ Equal = sym below.0 ∙ equal_from id q.message.id (sym (eqb-true q.message.id id same)) in absurd (cc), none_above code id qs below.1)
+use Rattle.tran_pick.proofs.Found.{none_above}
 
 -- all messages that have the id of one are of its code
-same_code : (code : List ℕ) (id : ℕ) (qs : List Queued) → AreInOrder qs → IsSomeAnd (message_at id qs) (λ m. code ≡ m.code) → AllByRecursion (λ q. has_id id q ≡ true → q.message.code ≡ code) qs
+same_code : (code : List ℕ) (id : ℕ) (qs : List Queued) → AreInOrder qs → IsSomeAnd (queued_message id qs) (λ m. code ≡ m.code) → AllByRecursion (λ q. has_id id q ≡ true → q.message.code ≡ code) qs
 same_code code id [] ordered e = tt
 same_code code id (p ∷ qs) ordered e =
     by (has_id id p) refl e (same_code code id qs (sorted_tail nat_cmp p.message.id (ids_of qs) ordered))
   where
     by : (b : Bool) → has_id id p ≡ b → IsSomeAnd (option_map (λ (q : Queued). q.message) (if b then Some p else queued_at id qs)) (λ m. code ≡ m.code)
-        → (IsSomeAnd (message_at id qs) (λ m. code ≡ m.code) → AllByRecursion (λ q. has_id id q ≡ true → q.message.code ≡ code) qs)
+        → (IsSomeAnd (queued_message id qs) (λ m. code ≡ m.code) → AllByRecursion (λ q. has_id id q ≡ true → q.message.code ≡ code) qs)
         → (has_id id p ≡ true → p.message.code ≡ code) × AllByRecursion (λ q. has_id id q ≡ true → q.message.code ≡ code) qs
     by true h f rest = (
       λ same. sym f,
@@ -72,7 +66,7 @@ same_code code id (p ∷ qs) ordered e =
 module _ (system : System) (tables : TablesState) (states : List CodeState) (regions : List (Option Busy)) (region : ℕ)
     (parts : AreParts system tables states regions) (busy : Busy) (e : slice_get regions (region - 1) ≡ Some (Some busy)) (there : IsRegion system region) where
   abbrev moment_with_tables : TablesState → List CodeState → List (Option Busy) → Moment
-  moment_with_tables t ss rs = record { lasting = lasting_of (settings_of ss) t; slots = slots_of rs; enqueues = t.databases.table; raised = flags_of ss }
+  moment_with_tables t ss rs = record { lasting = lasting_of (settings_of ss) t; slots = work_slots rs; enqueues = t.databases.table; raised = flags_of ss }
 
   abbrev left : List (Option Busy)
   left = slice_set regions (region - 1) None
@@ -94,7 +88,7 @@ module _ (system : System) (tables : TablesState) (states : List CodeState) (reg
     queued_is : tables'.queues.queued ≡ with_holder busy.id None tables.queues.queued
     queued_is = ap (λ t. t.queues.queued) is
 
-    told_left : IsTold (slots_of left) tables'.queues.queued
+    told_left : AreHoldersTold (work_slots left) tables'.queues.queued
     told_left = rw queued_is (back_told system tables.databases tables.conversations tables.queues.queued tables.queues.queued regions (region - 1) busy parts.at_work e parts.told)
 
     pub parts_given : (states' : List CodeState) → IsFollowed system (λ name. free_count name tables'.queues.queued) states states' → AreParts system tables' states' left
@@ -116,7 +110,7 @@ module _ (system : System) (tables : TablesState) (states : List CodeState) (reg
     }
 
     -- the flag of the message's code follows, and no other is to
-    pub follows_given : (states' : List CodeState) (code : List ℕ) → AreInOrder tables.queues.queued → IsSomeAnd (message_at busy.id tables.queues.queued) (λ message. code ≡ message.code)
+    pub follows_given : (states' : List CodeState) (code : List ℕ) → AreInOrder tables.queues.queued → IsSomeAnd (queued_message busy.id tables.queues.queued) (λ message. code ≡ message.code)
         → states' ≡ all_followed system.codes (λ name. free_count name tables'.queues.queued) (code ∷ []) states
         → IsFollowed system (λ name. free_count name tables'.queues.queued) states states'
     follows_given states' code ordered of follow =
@@ -127,10 +121,10 @@ module _ (system : System) (tables : TablesState) (states : List CodeState) (reg
     pub moment_given : (states' : List CodeState) → IsFollowed system (λ name. free_count name tables'.queues.queued) states states'
         → moment_with_tables tables' states' left ≡ gave_way system (moment_with_tables tables states regions) region
     moment_given states' follows =
-        moment_is system (lasting_of (settings_of states) tables) (slice_set (slots_of regions) (region - 1) None) tables' states states' left (released region tables.databases.table) follows told_left
+        moment_is system (lasting_of (settings_of states) tables) (slice_set (work_slots regions) (region - 1) None) tables' states states' left (released region tables.databases.table) follows told_left
         (ap (lasting_of (settings_of states)) is
         ∙ ap {A = List Message} (λ ms. record (lasting_of (settings_of states) (with_databases tables tables'.databases)) { messages = ms }) (messages_held busy.id None tables.queues.queued)
-        ∙ ap (λ c. record (lasting_of (settings_of states) tables) { rows = rows_of c }) back.committed)
+        ∙ ap (λ c. record (lasting_of (settings_of states) tables) { rows = rows_of_stores c }) back.committed)
         (set_slots regions (region - 1) None) back.table
 
 -- ---- how many records each region has changed
@@ -144,17 +138,17 @@ same_lists f g (r ∷ rs) (d ∷ ds) l each = λ i. each 0 r d refl refl i ∷ s
     suc_same : {m n : ℕ} → suc m ≡ suc n → m ≡ n
     suc_same h = omega (arith, h)
 
-map_twice : (f : Option Slot → ℕ) (rs : List (Option Busy)) → map f (slots_of rs) ≡ map (λ r. f (slot_of r)) rs
+map_twice : (f : Option Slot → ℕ) (rs : List (Option Busy)) → map f (work_slots rs) ≡ map (λ r. f (work_slot r)) rs
 map_twice f [] = refl
-map_twice f (r ∷ rs) = ap (λ ns. f (slot_of r) ∷ ns) (map_twice f rs)
+map_twice f (r ∷ rs) = ap (λ ns. f (work_slot r) ∷ ns) (map_twice f rs)
 
 module _ (system : System) (tables : TablesState) (states : List CodeState) (regions : List (Option Busy)) (parts : AreParts system tables states regions) where
   abbrev moment_now : Moment
-  moment_now = record { lasting = lasting_of (settings_of states) tables; slots = slots_of regions; enqueues = tables.databases.table; raised = flags_of states }
+  moment_now = record { lasting = lasting_of (settings_of states) tables; slots = work_slots regions; enqueues = tables.databases.table; raised = flags_of states }
 
   -- what a region has changed, by its number less one
   changes_at : (place : ℕ) (r : Option Busy) (d : RegionRows) → slice_get regions place ≡ Some r → slice_get tables.databases.regions place ≡ Some d
-      → changes_by system (lasting_of (settings_of states) tables) (slot_of r) ≡ length d.changed
+      → changes_by system (lasting_of (settings_of states) tables) (work_slot r) ≡ length d.changed
   changes_at place None d e f =
       sym (ap (λ (x : RegionRows). length x.changed) (sym here) ∙ ap length (parts.idle place e).clean.changed)
     where
@@ -189,13 +183,13 @@ module _ (system : System) (tables : TablesState) (states : List CodeState) (reg
   pub changes_are : map (λ rows. length rows.changed) tables.databases.regions ≡ changes_now system moment_now
   changes_are =
       sym (map_twice (changes_by system (lasting_of (settings_of states) tables)) regions
-      ∙ same_lists (λ r. changes_by system (lasting_of (settings_of states) tables) (slot_of r)) (λ rows. length rows.changed) regions tables.databases.regions
+      ∙ same_lists (λ r. changes_by system (lasting_of (settings_of states) tables) (work_slot r)) (λ rows. length rows.changed) regions tables.databases.regions
       (parts.databases.regions ∙ sym parts.regions_are) changes_at)
 
-  pub few_busy : count_by is_some (slots_of regions) ≤ 8
+  pub few_busy : count_by is_some (work_slots regions) ≤ 8
   few_busy =
-      let most = count_by-le-length is_some (slots_of regions) in
-      let size : length (slots_of regions) ≡ length regions = slots_length regions in
+      let most = count_by-le-length is_some (work_slots regions) in
+      let size : length (work_slots regions) ≡ length regions = slots_length regions in
       omega (arith, most, size, parts.regions_are, parts.valid.few_regions)
 
   pub changes_count : length (map (λ (rows : RegionRows). length rows.changed) tables.databases.regions) ≡ length system.regions
@@ -254,7 +248,7 @@ module _ (system : System) (tables : TablesState) (states : List CodeState) (reg
       along first others first (subst (IsTableRegion tables.databases.table) (sym ring.0) is) (recursion_from_All (IsTableRegion tables.databases.table) others ring.1.regions) ring.1.waits
 
   gives_one : (weights : List ℕ) (a b : ℕ) → IsWaiting a → IsWaiting b → IsWaiting (gives_way weights a b)
-  gives_one weights a b x y = by (nat_lt (changes_of weights a) (changes_of weights b) || ((changes_of weights a == changes_of weights b) && nat_lt b a))
+  gives_one weights a b x y = by (nat_lt (changed_count_of weights a) (changed_count_of weights b) || ((changed_count_of weights a == changed_count_of weights b) && nat_lt b a))
     where
       by : (c : Bool) → IsWaiting (if c then a else b)
       by true = x

@@ -13,22 +13,22 @@ use Rattle.tm_types.specs.Name.{IsName}
 use Rattle.tm_types.specs.Segment.{is_printable}
 use Rattle.model_messages.specs.declared.conversation.Conversation.{Conversation}
 use Rattle.model_messages.specs.declared.conversation.TerminalConversation.{TerminalConversation}
-use Rattle.model_messages.specs.Input.{is_conversing, busy_id}
+use Rattle.model_messages.specs.ConversationInput.{is_conversing, busy_id}
 use Rattle.model_messages.specs.Pads.{begun, code_field}
-use Rattle.model_messages.specs.Terminals.{terminal_at, conversation_at, with_conversation}
+use Rattle.model_messages.specs.Terminals.{conversation_terminal, conversation_at, with_conversation}
 use Rattle.model_system.specs.declared.code.Code.{Code}
 use Rattle.model_system.specs.Codes.{code_at}
 use Rattle.model_system.specs.System.{System}
-use Rattle.system_types.specs.Valid.{IsSystem, IsPadLength}
+use Rattle.system_types.specs.ValidSystem.{IsSystem, IsPadLength}
 use Rattle.system_types.proofs.Indexed.{found_at}
 use Rattle.model_machine.specs.declared.lasting.TerminalState.{TerminalState}
 use Rattle.model_machine.specs.Machine.{terminal_place, fresh_terminal_state}
-use Rattle.model_machine.specs.Lasting.{KeptInput, code_word, conversing, input_message, kept_alone, kept_by, kept_by_code, kept_first, with_begun}
-use Rattle.model_machine.specs.Steps.{busy_by}
+use Rattle.model_machine.specs.LastingSteps.{KeptInput, code_word, with_conversing, input_message, kept_alone, kept_by, kept_by_code, kept_first, with_begun}
+use Rattle.model_machine.specs.MachineCalls.{busy_by}
 use Rattle.model_machine.specs.Trial.{Given}
 use Rattle.lasting_changes.proofs.Abended.{both, name_prints}
-use Rattle.region_work.specs.Region.{given_in}
-use Rattle.tm_machine.specs.Parts.{AreApart, AreConversations, IsConversation, IsOfConversation}
+use Rattle.region_work.specs.RegionWork.{given_in}
+use Rattle.tm_machine.specs.Parts.{AreOfOtherConversations, AreConversations, IsConversationOf, IsOfConversation}
 use Rattle.tm_machine.proofs.Conversing.{all_both, all_map, all_append, all_with, alone_append, belongs_still, found_holds, names_stay, no_both, other_terminal, own_terminal}
 
 -- ---- a pad as it begins
@@ -65,7 +65,7 @@ field_length code named =
     ∙ (let many = blanks_many (8 - length code) in omega (arith, many, named.1))
 
 begun_right : (system : System) (word : List ℕ) (code : Code) → IsSystem system → IsName word → code_at system.codes word ≡ Some code → (code.transaction.scratch_pad == 0) ≡ false
-    → IsConversation system (begun word (code.transaction.scratch_pad - 14))
+    → IsConversationOf system (begun word (code.transaction.scratch_pad - 14))
 begun_right system word code valid named found some = record {
   size = subst (λ o. IsSomeAnd o (λ c. (1 ≤ c.transaction.scratch_pad) × (length (begun word (code.transaction.scratch_pad - 14)).pad + 6 ≡ c.transaction.scratch_pad))) (sym found) (positive, count);
   front = take_front 8 (code_field word) (replicate (code.transaction.scratch_pad - 14) 32) (field_length word named);
@@ -107,7 +107,7 @@ find_map p f (x ∷ xs) = by (p (f x)) (find_map p f xs)
     by false rec = rec
 
 pub terminal_there : (terminals : List TerminalState) (ts : List TerminalConversation) (name : List ℕ) (place : ℕ) → map (λ t. t.name) terminals ≡ map (λ t. t.terminal) ts
-    → terminal_place terminals name ≡ Some place → place < length terminals → IsSome (terminal_at name ts)
+    → terminal_place terminals name ≡ Some place → place < length terminals → IsSome (conversation_terminal name ts)
 terminal_there terminals ts name place names at within =
     sym (find_map (λ n. bytes_eq n name) (λ (t : TerminalConversation). t.terminal) ts)
     ∙ ap (λ ns. is_some (find (λ n. bytes_eq n name) ns)) (sym names)
@@ -134,7 +134,7 @@ none_conversing terminal (m ∷ ms) e = by (is_conversing terminal m) refl e (no
 module _ (system : System) (valid : IsSystem system) (conversations : List TerminalConversation) (ms : List Message) (are : AreConversations system conversations ms)
     (terminal : List ℕ) (id : ℕ) where
   joins : (after : List TerminalConversation) (new : Message) → AllByRecursion (λ n. given_in after n ≡ given_in conversations n) ms → map (λ t. t.terminal) after ≡ system.terminals
-      → AllByRecursion (λ t. IfSome t.conversation (IsConversation system)) after → AllByRecursion (λ n. AreApart n new) ms → IsOfConversation after new
+      → AllByRecursion (λ t. IfSome t.conversation (IsConversationOf system)) after → AllByRecursion (λ n. AreOfOtherConversations n new) ms → IsOfConversation after new
       → Joined system conversations after ms new
   joins after new given names pads apart belongs = record {
     given = given;
@@ -145,7 +145,7 @@ module _ (system : System) (valid : IsSystem system) (conversations : List Termi
           (all_both (λ n. given_in after n ≡ given_in conversations n) (IsOfConversation conversations) (IsOfConversation after) ms
           (λ n same was. belongs_still conversations after n same was) given are.belong)
           (belongs, tt);
-      alone = alone_append ms (new ∷ []) are.alone (tt, tt) (all_map (λ n. AreApart n new) (λ n. AllByRecursion (AreApart n) (new ∷ [])) ms (λ n a. (a, tt)) apart);
+      alone = alone_append ms (new ∷ []) are.alone (tt, tt) (all_map (λ n. AreOfOtherConversations n new) (λ n. AllByRecursion (AreOfOtherConversations n) (new ∷ [])) ms (λ n a. (a, tt)) apart);
     };
   }
 
@@ -153,7 +153,7 @@ module _ (system : System) (valid : IsSystem system) (conversations : List Termi
   all_same [] = tt
   all_same (n ∷ ns) = (refl, all_same ns)
 
-  plain_apart : (new : Message) (ns : List Message) → new.conversation ≡ false → AllByRecursion (λ n. AreApart n new) ns
+  plain_apart : (new : Message) (ns : List Message) → new.conversation ≡ false → AllByRecursion (λ n. AreOfOtherConversations n new) ns
   plain_apart new [] plain = tt
   plain_apart new (n ∷ ns) plain = (λ x y s. no_both (sym y ∙ plain), plain_apart new ns plain)
 
@@ -169,7 +169,7 @@ module _ (system : System) (valid : IsSystem system) (conversations : List Termi
       → Joined system conversations conversations ms (record { id = id; origin = terminal; code = c.code; conversation = true; segments = segments })
   goes_on c segments here free =
       joins conversations new (all_same ms) are.names are.pads
-      (all_map (λ n. is_conversing terminal n ≡ false) (λ n. AreApart n new) ms apart (none_conversing terminal ms (none_found (find (is_conversing terminal) ms) free)))
+      (all_map (λ n. is_conversing terminal n ≡ false) (λ n. AreOfOtherConversations n new) ms apart (none_conversing terminal ms (none_found (find (is_conversing terminal) ms) free)))
       (λ x. subst (λ o. IsSomeAnd o (λ k. k.code ≡ c.code)) (sym here) refl)
     where
       new : Message
@@ -179,33 +179,33 @@ module _ (system : System) (valid : IsSystem system) (conversations : List Termi
       none_found None e = refl
       none_found (Some m) e = let clash : Some m.id ≡ None = e in absurd (cc)
 
-      apart : (n : Message) → is_conversing terminal n ≡ false → AreApart n new
+      apart : (n : Message) → is_conversing terminal n ≡ false → AreOfOtherConversations n new
       apart n fails x y s =
           no_both (sym (ap (λ b. b && n.conversation) ((bytes_eq-Decides n.origin terminal).1 (sym s)) ∙ x) ∙ fails)
 
   -- an input with which one begins
-  first : IsSome (terminal_at terminal conversations) → (word : List ℕ) (segments : List (List ℕ)) (code : Code) → IsName word → conversation_at terminal conversations ≡ None
+  first : IsSome (conversation_terminal terminal conversations) → (word : List ℕ) (segments : List (List ℕ)) (code : Code) → IsName word → conversation_at terminal conversations ≡ None
       → code_at system.codes word ≡ Some code → (code.transaction.scratch_pad == 0) ≡ false
-      → Joined system conversations (conversing terminal (Some (begun word (code.transaction.scratch_pad - 14))) conversations) ms
+      → Joined system conversations (with_conversing terminal (Some (begun word (code.transaction.scratch_pad - 14))) conversations) ms
       (record { id = id; origin = terminal; code = word; conversation = true; segments = segments })
   first there word segments code named none found some =
       joins after new (all_map (IsOfConversation conversations) (λ n. given_in after n ≡ given_in conversations n) ms same are.belong)
       (names_stay terminal (with_conversation (Some b)) conversations (λ t. refl) ∙ are.names)
-      (all_with (λ t. IfSome t.conversation (IsConversation system)) terminal (with_conversation (Some b)) conversations are.pads
+      (all_with (λ t. IfSome t.conversation (IsConversationOf system)) terminal (with_conversation (Some b)) conversations are.pads
       (λ t e was. begun_right system word code valid named found some))
-      (all_map (IsOfConversation conversations) (λ n. AreApart n new) ms (λ n was x y s. not_here n was x (sym s)) are.belong)
-      (λ x. subst (λ o. IsSomeAnd o (λ k. k.code ≡ word)) (sym (here (terminal_at terminal conversations) refl there)) refl)
+      (all_map (IsOfConversation conversations) (λ n. AreOfOtherConversations n new) ms (λ n was x y s. not_here n was x (sym s)) are.belong)
+      (λ x. subst (λ o. IsSomeAnd o (λ k. k.code ≡ word)) (sym (here (conversation_terminal terminal conversations) refl there)) refl)
     where
       b : Conversation
       b = begun word (code.transaction.scratch_pad - 14)
 
       after : List TerminalConversation
-      after = conversing terminal (Some b) conversations
+      after = with_conversing terminal (Some b) conversations
 
       new : Message
       new = record { id = id; origin = terminal; code = word; conversation = true; segments = segments }
 
-      here : (o : Option TerminalConversation) → terminal_at terminal conversations ≡ o → IsSome o → conversation_at terminal after ≡ Some b
+      here : (o : Option TerminalConversation) → conversation_terminal terminal conversations ≡ o → IsSome o → conversation_at terminal after ≡ Some b
       here (Some t) e h = ap (option_and_then (λ u. u.conversation)) (own_terminal terminal (with_conversation (Some b)) conversations (λ t. refl) ∙ ap (option_map (with_conversation (Some b))) e)
       here None e h = let clash : false ≡ true = h in absurd (cc)
 
@@ -228,7 +228,7 @@ module _ (system : System) (valid : IsSystem system) (conversations : List Termi
   abbrev JoinedBy : KeptInput → Type 0
   JoinedBy kept = Joined system conversations (with_begun terminal kept.begins conversations) ms (input_message id terminal kept)
 
-  joined_by : IsSome (terminal_at terminal conversations) → (segments : List (List ℕ)) (c : Option Conversation) → conversation_at terminal conversations ≡ c → busy_by c (busy_id terminal ms) ≡ None
+  joined_by : IsSome (conversation_terminal terminal conversations) → (segments : List (List ℕ)) (c : Option Conversation) → conversation_at terminal conversations ≡ c → busy_by c (busy_id terminal ms) ≡ None
       → IsName (kept_by system c segments).code → JoinedBy (kept_by system c segments)
   joined_by there segments (Some c) e free named = goes_on c segments e (none_busy (busy_id terminal ms) free)
     where
@@ -247,7 +247,7 @@ module _ (system : System) (valid : IsSystem system) (conversations : List Termi
       by None f name = alone (code_word segments) segments
       by (Some code) f name = by_pad code (code.transaction.scratch_pad == 0) f refl name
 
-  pub input_joined : IsSome (terminal_at terminal conversations) → (segments : List (List ℕ)) (kept : KeptInput) → kept ≡ kept_by system (conversation_at terminal conversations) segments
+  pub input_joined : IsSome (conversation_terminal terminal conversations) → (segments : List (List ℕ)) (kept : KeptInput) → kept ≡ kept_by system (conversation_at terminal conversations) segments
       → busy_by (conversation_at terminal conversations) (busy_id terminal ms) ≡ None → IsName kept.code → JoinedBy kept
   input_joined there segments kept is free named =
       subst JoinedBy (sym is) (joined_by there segments (conversation_at terminal conversations) refl free (subst (λ k. IsName k.code) is named))

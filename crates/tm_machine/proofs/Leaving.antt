@@ -12,38 +12,38 @@ use Rattle.model_machine.specs.Trial.{Advance, Trial}
 use Rattle.model_system.specs.Jobs.{Job, job_of}
 use Rattle.model_data.specs.declared.victim.Victim.{Victim}
 use Rattle.model_data.specs.Table.{EnqueueTable}
-use Rattle.model_machine.specs.Work.{slot_trial}
-use Rattle.model_machine.specs.Requests.{BreaksAt, asked_table, blocked_now, requests_of, requests_on, slot_requests, table_after, table_by, without_victims}
+use Rattle.model_machine.specs.WorkSoFar.{slot_trial}
+use Rattle.model_machine.specs.Requests.{BreaksRingsAt, asked_table, blocked_now, requests_of, requests_on, slot_requests, table_after, table_by, without_victims}
 use Rattle.model_machine.specs.Machine.{LastingState, Moment, Slot, slot_at, waiting_now, moment_with}
-use Rattle.model_machine.specs.Lasting.{LastingStep, applied}
-use Rattle.model_machine.specs.Steps.{AtWork, After, blocked_answer, turn_answer, turn_by, turn_step, slot_after, slot_answer, slot_work, step_in_turn, unless_blocked, work_answer, ended_step}
+use Rattle.model_machine.specs.LastingSteps.{LastingStep, applied}
+use Rattle.model_machine.specs.MachineCalls.{AtWork, After, blocked_answer, turn_answer, turn_by, turn_step, slot_after, slot_answer, slot_work, step_in_turn, unless_blocked, work_answer, ended_step}
 use Rattle.model_machine.proofs.Flags.{now_same}
 use Rattle.lasting_state.specs.Tables.{TablesState, lasting_of}
 use Rattle.region_work.specs.declared.region.Busy.{Busy}
-use Rattle.tm_machine.specs.Parts.{slots_of, settings_of, flags_of, IsTold, AreParts}
+use Rattle.tm_machine.specs.Parts.{work_slots, settings_of, flags_of, AreHoldersTold, AreParts}
 use Rattle.tm_machine.proofs.Linked.{free_count_is}
 use Rattle.tm_machine.proofs.Raising.{IsFollowed, followed_none}
 
 -- where the flags followed, the moment is the one that the machine makes
 pub moment_is : (system : System) (lasting : LastingState) (slots : List (Option Slot)) (tables : TablesState) (states states' : List CodeState) (regions : List (Option Busy)) (table : EnqueueTable)
-    → IsFollowed system (λ name. free_count name tables.queues.queued) states states' → IsTold (slots_of regions) tables.queues.queued
-    → lasting_of (settings_of states) tables ≡ lasting → slots_of regions ≡ slots → tables.databases.table ≡ table
-    → record { lasting = lasting_of (settings_of states') tables; slots = slots_of regions; enqueues = tables.databases.table; raised = flags_of states' } ≡ moment_with system lasting slots table (flags_of states)
+    → IsFollowed system (λ name. free_count name tables.queues.queued) states states' → AreHoldersTold (work_slots regions) tables.queues.queued
+    → lasting_of (settings_of states) tables ≡ lasting → work_slots regions ≡ slots → tables.databases.table ≡ table
+    → record { lasting = lasting_of (settings_of states') tables; slots = work_slots regions; enqueues = tables.databases.table; raised = flags_of states' } ≡ moment_with system lasting slots table (flags_of states)
 moment_is system lasting slots tables states states' regions table follows told lasts slotted same =
-    ap {B = Moment} (λ s. record { lasting = lasting_of s tables; slots = slots_of regions; enqueues = tables.databases.table; raised = flags_of states' }) follows.settings
-    ∙ ap {B = Moment} (λ f. record { lasting = lasting_of (settings_of states) tables; slots = slots_of regions; enqueues = tables.databases.table; raised = f })
-    (follows.flags ∙ now_same (λ name. free_count name tables.queues.queued) (waiting_now (lasting_of (settings_of states) tables) (slots_of regions)) system.codes (flags_of states)
-    (λ name. sym (free_count_is name (slots_of regions) tables.queues.queued told)))
-    ∙ ap (λ l. moment_with system l (slots_of regions) tables.databases.table (flags_of states)) lasts
+    ap {B = Moment} (λ s. record { lasting = lasting_of s tables; slots = work_slots regions; enqueues = tables.databases.table; raised = flags_of states' }) follows.settings
+    ∙ ap {B = Moment} (λ f. record { lasting = lasting_of (settings_of states) tables; slots = work_slots regions; enqueues = tables.databases.table; raised = f })
+    (follows.flags ∙ now_same (λ name. free_count name tables.queues.queued) (waiting_now (lasting_of (settings_of states) tables) (work_slots regions)) system.codes (flags_of states)
+    (λ name. sym (free_count_is name (work_slots regions) tables.queues.queued told)))
+    ∙ ap (λ l. moment_with system l (work_slots regions) tables.databases.table (flags_of states)) lasts
     ∙ ap (λ ss. moment_with system lasting ss tables.databases.table (flags_of states)) slotted
     ∙ ap (λ t. moment_with system lasting slots t (flags_of states)) same
 
 -- where nothing moved, the moment stays
 pub moment_stays : (system : System) (tables : TablesState) (states : List CodeState) (regions : List (Option Busy)) → AreParts system tables states regions
-    → record { lasting = lasting_of (settings_of states) tables; slots = slots_of regions; enqueues = tables.databases.table; raised = flags_of states }
-    ≡ moment_with system (lasting_of (settings_of states) tables) (slots_of regions) tables.databases.table (flags_of states)
+    → record { lasting = lasting_of (settings_of states) tables; slots = work_slots regions; enqueues = tables.databases.table; raised = flags_of states }
+    ≡ moment_with system (lasting_of (settings_of states) tables) (work_slots regions) tables.databases.table (flags_of states)
 moment_stays system tables states regions parts =
-    moment_is system (lasting_of (settings_of states) tables) (slots_of regions) tables states states regions tables.databases.table
+    moment_is system (lasting_of (settings_of states) tables) (work_slots regions) tables states states regions tables.databases.table
     (followed_none system (λ name. free_count name tables.queues.queued) (λ name. free_count name tables.queues.queued) states parts.settled (λ name. refl)) parts.told refl refl refl
 
 -- ---- turns
@@ -86,6 +86,6 @@ turn_steps system moment region slot work next free works is =
 
 -- nobody gives way where nothing is blocked
 pub nobody_breaks : (system : System) (moment : Moment) (region : ℕ) (slot : Slot) → slot_at moment region ≡ Some slot → blocked_now system moment region slot ≡ None
-    → BreaksAt system moment region [] (slot_at moment region)
+    → BreaksRingsAt system moment region [] (slot_at moment region)
 nobody_breaks system moment region slot here free =
     rw here (rw free refl)

@@ -28,6 +28,6 @@ mod Settled
 mod Opened
 pub mod Abends
 pub mod Dequeued
-pub mod CommandAnswersEnded
+pub mod ConversationEnd
 pub mod Regions
 pub mod Performed

@@ -8,17 +8,17 @@ use Rattle.std.proofs.lemmas.List.Sums.{length-filter}
 use Rattle.std.proofs.lemmas.Bool.{eqb-true, eq-eqb, ne_eqb}
 use Rattle.tm_types.specs.declared.message.Message.{Message}
 use Rattle.model_messages.specs.declared.queued.Queued.{Queued}
-use Rattle.model_messages.specs.Queue.{IsNewId, has_id, is_free_of, queued_at, message_at, messages_of, with_message, with_holder, without, first_free, free_count}
+use Rattle.model_messages.specs.Queue.{IsNewId, has_id, is_free_of, queued_at, queued_message, messages_of, with_message, with_holder, without_id_queued, first_free, free_count}
 use Rattle.model_messages.specs.Waiting.{is_waiting, first_waiting, count_waiting}
 use Rattle.model_messages.proofs.Laws.{message_found, found_behind, found_without, found_held, found_own}
 use Rattle.model_messages.specs.declared.conversation.TerminalConversation.{TerminalConversation}
 use Rattle.model_system.specs.System.{System}
-use Rattle.program_rows.specs.State.{DatabasesState}
+use Rattle.program_rows.specs.DatabasesState.{DatabasesState}
 use Rattle.model_machine.specs.Trial.{Given}
 use Rattle.model_machine.specs.Machine.{Slot, has_message, is_held}
 use Rattle.region_work.specs.declared.region.Busy.{Busy}
-use Rattle.region_work.specs.Region.{IsWork, given_in}
-use Rattle.tm_machine.specs.Parts.{slot_of, slots_of, IsAtWork, IsTold, AreAtWork}
+use Rattle.region_work.specs.RegionWork.{IsWork, given_in}
+use Rattle.tm_machine.specs.Parts.{work_slot, work_slots, IsAtWork, AreHoldersTold, AreAtWork}
 use Rattle.region_work.proofs.Kept.{all_found}
 
 -- A message waits where no region has it, by the slots or by the queues.
@@ -30,7 +30,7 @@ free_is code slots q told = ap (λ held. bytes_eq q.message.code code && not hel
     none-is (Some r) = refl
     none-is None = refl
 
-pub first_free_is : (code : List ℕ) (slots : List (Option Slot)) (queued : List Queued) → IsTold slots queued
+pub first_free_is : (code : List ℕ) (slots : List (Option Slot)) (queued : List Queued) → AreHoldersTold slots queued
     → first_waiting (is_held slots) code (messages_of queued) ≡ first_free code queued
 first_free_is code slots [] told = refl
 first_free_is code slots (q ∷ qs) told =
@@ -42,7 +42,7 @@ first_free_is code slots (q ∷ qs) told =
     by true rest = refl
     by false rest = rest
 
-free_length : (code : List ℕ) (slots : List (Option Slot)) (queued : List Queued) → IsTold slots queued
+free_length : (code : List ℕ) (slots : List (Option Slot)) (queued : List Queued) → AreHoldersTold slots queued
     → length (filter (is_waiting (is_held slots) code) (messages_of queued)) ≡ length (filter (is_free_of code) queued)
 free_length code slots [] told = refl
 free_length code slots (q ∷ qs) told = rw (free_is code slots q told.0) (by (is_free_of code q) (free_length code slots qs told.1))
@@ -53,41 +53,41 @@ free_length code slots (q ∷ qs) told = rw (free_is code slots q told.0) (by (i
     by true rest = ap suc rest
     by false rest = rest
 
-pub free_count_is : (code : List ℕ) (slots : List (Option Slot)) (queued : List Queued) → IsTold slots queued
+pub free_count_is : (code : List ℕ) (slots : List (Option Slot)) (queued : List Queued) → AreHoldersTold slots queued
     → count_waiting (is_held slots) code (messages_of queued) ≡ free_count code queued
 free_count_is code slots queued told =
     sym (length-filter (is_waiting (is_held slots) code) (messages_of queued)) ∙ free_length code slots queued told ∙ length-filter (is_free_of code) queued
 
 -- as many slots are busy as regions
-busy_length : (regions : List (Option Busy)) → length (filter is_some (slots_of regions)) ≡ length (filter is_some regions)
+busy_length : (regions : List (Option Busy)) → length (filter is_some (work_slots regions)) ≡ length (filter is_some regions)
 busy_length [] = refl
 busy_length (Some busy ∷ regions) = ap suc (busy_length regions)
 busy_length (None ∷ regions) = busy_length regions
 
-pub busy_is : (regions : List (Option Busy)) → count_by is_some (slots_of regions) ≡ count_by is_some regions
-busy_is regions = sym (length-filter is_some (slots_of regions)) ∙ busy_length regions ∙ length-filter is_some regions
+pub busy_is : (regions : List (Option Busy)) → count_by is_some (work_slots regions) ≡ count_by is_some regions
+busy_is regions = sym (length-filter is_some (work_slots regions)) ∙ busy_length regions ∙ length-filter is_some regions
 
 -- A region that changes its work.
 held_here : (id : ℕ) (regions : List (Option Busy)) (place : ℕ) (old new : Option Busy) → slice_get regions place ≡ Some old
-    → has_message id (slot_of new) ≡ true → is_held (slots_of (slice_set regions place new)) id ≡ true
+    → has_message id (work_slot new) ≡ true → is_held (work_slots (slice_set regions place new)) id ≡ true
 held_here id [] place old new e h = cc
 held_here id (r ∷ regions) zero old new e h = rw h refl
-held_here id (r ∷ regions) (suc place) old new e h = or-true (has_message id (slot_of r)) _ (held_here id regions place old new e h)
+held_here id (r ∷ regions) (suc place) old new e h = or-true (has_message id (work_slot r)) _ (held_here id regions place old new e h)
   where
     or-true : (a b : Bool) → b ≡ true → (a || b) ≡ true
     or-true true b e = refl
     or-true false b e = e
 
 held_same : (id : ℕ) (regions : List (Option Busy)) (place : ℕ) (old new : Option Busy) → slice_get regions place ≡ Some old
-    → has_message id (slot_of new) ≡ has_message id (slot_of old) → is_held (slots_of (slice_set regions place new)) id ≡ is_held (slots_of regions) id
+    → has_message id (work_slot new) ≡ has_message id (work_slot old) → is_held (work_slots (slice_set regions place new)) id ≡ is_held (work_slots regions) id
 held_same id [] place old new e h = cc
 held_same id (r ∷ regions) zero old new e h =
-    let here : r ≡ old = cc in ap (λ b. b || is_held (slots_of regions) id) (h ∙ sym (ap (λ o. has_message id (slot_of o)) here))
-held_same id (r ∷ regions) (suc place) old new e h = ap (λ b. has_message id (slot_of r) || b) (held_same id regions place old new e h)
+    let here : r ≡ old = cc in ap (λ b. b || is_held (work_slots regions) id) (h ∙ sym (ap (λ o. has_message id (work_slot o)) here))
+held_same id (r ∷ regions) (suc place) old new e h = ap (λ b. has_message id (work_slot r) || b) (held_same id regions place old new e h)
 
 -- no region has a message of this id
 not_held : (id : ℕ) (regions : List (Option Busy)) → ((place : ℕ) (busy : Busy) → slice_get regions place ≡ Some (Some busy) → busy.id ≢ id)
-    → is_held (slots_of regions) id ≡ false
+    → is_held (work_slots regions) id ≡ false
 not_held id [] others = refl
 not_held id (Some busy ∷ regions) others =
     rw (ne_eqb busy.id id (others zero busy refl)) (not_held id regions (λ place b e. others (suc place) b e))
@@ -130,21 +130,21 @@ module _ (system : System) (databases : DatabasesState) (conversations : List Te
 
 -- a slot whose message stays
 pub slot_told : (queued : List Queued) (regions : List (Option Busy)) (place : ℕ) (old : Busy) (slot : Slot) → slice_get regions place ≡ Some (Some old) → slot.id ≡ old.id
-    → IsTold (slots_of regions) queued → IsTold (slice_set (slots_of regions) place (Some slot)) queued
+    → AreHoldersTold (work_slots regions) queued → AreHoldersTold (slice_set (work_slots regions) place (Some slot)) queued
 slot_told [] regions place old slot e same told = tt
 slot_told (q ∷ qs) regions place old slot e same told =
     (slot_held q.message.id regions place e ∙ told.0, slot_told qs regions place old slot e same told.1)
   where
-    slot_held : (id : ℕ) (rs : List (Option Busy)) (at : ℕ) → slice_get rs at ≡ Some (Some old) → is_held (slice_set (slots_of rs) at (Some slot)) id ≡ is_held (slots_of rs) id
+    slot_held : (id : ℕ) (rs : List (Option Busy)) (at : ℕ) → slice_get rs at ≡ Some (Some old) → is_held (slice_set (work_slots rs) at (Some slot)) id ≡ is_held (work_slots rs) id
     slot_held id [] at f = cc
     slot_held id (r ∷ rs) zero f =
         let here : r ≡ Some old = cc in
-        ap (λ n. (n == id) || is_held (slots_of rs) id) same ∙ sym (ap (λ o. has_message id (slot_of o) || is_held (slots_of rs) id) here)
-    slot_held id (r ∷ rs) (suc at) f = ap (λ b. has_message id (slot_of r) || b) (slot_held id rs at f)
+        ap (λ n. (n == id) || is_held (work_slots rs) id) same ∙ sym (ap (λ o. has_message id (work_slot o) || is_held (work_slots rs) id) here)
+    slot_held id (r ∷ rs) (suc at) f = ap (λ b. has_message id (work_slot r) || b) (slot_held id rs at f)
 
 -- a region that makes a step keeps its message
 pub step_told : (queued : List Queued) (regions : List (Option Busy)) (place : ℕ) (old new : Busy) → slice_get regions place ≡ Some (Some old) → new.id ≡ old.id
-    → IsTold (slots_of regions) queued → IsTold (slots_of (slice_set regions place (Some new))) queued
+    → AreHoldersTold (work_slots regions) queued → AreHoldersTold (work_slots (slice_set regions place (Some new))) queued
 step_told [] regions place old new e same told = tt
 step_told (q ∷ qs) regions place old new e same told = (
   held_same q.message.id regions place (Some old) (Some new) e (ap (λ id. id == q.message.id) same) ∙ told.0,
@@ -160,10 +160,10 @@ StayAtWork system databases databases' regions place =
 -- other messages are given as they were
 abbrev pub StayGiven : ℕ → List Queued → List TerminalConversation → List TerminalConversation → Type 0
 StayGiven id queued conversations conversations' =
-    (other : ℕ) (message : Message) → message_at other queued ≡ Some message → (other ≡ id → ⊥) → given_in conversations' message ≡ given_in conversations message
+    (other : ℕ) (message : Message) → queued_message other queued ≡ Some message → (other ≡ id → ⊥) → given_in conversations' message ≡ given_in conversations message
 
 pub step_at_work : (system : System) (databases databases' : DatabasesState) (conversations : List TerminalConversation) (queued : List Queued) (regions : List (Option Busy)) (place : ℕ) (old new : Busy) → slice_get regions place ≡ Some (Some old)
-    → new.id ≡ old.id → ((message : Message) → message_at old.id queued ≡ Some message → IsWork system databases' (place + 1) (given_in conversations message) new)
+    → new.id ≡ old.id → ((message : Message) → queued_message old.id queued ≡ Some message → IsWork system databases' (place + 1) (given_in conversations message) new)
     → StayAtWork system databases databases' regions place
     → AreAtWork system databases conversations queued regions → AreAtWork system databases' conversations queued (slice_set regions place (Some new))
 step_at_work system databases databases' conversations queued regions place old new e same works stay at_work other busy f =
@@ -189,13 +189,13 @@ step_at_work system databases databases' conversations queued regions place old 
 
 -- an empty region takes a message that no region has
 pub take_told : (id holder : ℕ) (queued : List Queued) (regions : List (Option Busy)) (place : ℕ) (new : Busy) → slice_get regions place ≡ Some None → new.id ≡ id
-    → IsTold (slots_of regions) queued → IsTold (slots_of (slice_set regions place (Some new))) (with_holder id (Some holder) queued)
+    → AreHoldersTold (work_slots regions) queued → AreHoldersTold (work_slots (slice_set regions place (Some new))) (with_holder id (Some holder) queued)
 take_told id holder [] regions place new e same told = tt
 take_told id holder (q ∷ qs) regions place new e same told =
     (by (has_id id q) refl, take_told id holder qs regions place new e same told.1)
   where
     by : (b : Bool) → has_id id q ≡ b
-        → is_held (slots_of (slice_set regions place (Some new))) (if b then record q { holder = Some holder } else q).message.id
+        → is_held (work_slots (slice_set regions place (Some new))) (if b then record q { holder = Some holder } else q).message.id
         ≡ is_some (if b then record q { holder = Some holder } else q).holder
     by true h = held_here q.message.id regions place None (Some new) e (eq-eqb new.id q.message.id (same ∙ sym (eqb-true q.message.id id h)))
     by false h =
@@ -240,12 +240,12 @@ take_at_work system databases conversations id queued regions place new message 
 
 -- a region gives its message up, which goes
 pub end_told : (queued : List Queued) (regions : List (Option Busy)) (place : ℕ) (old : Busy) → slice_get regions place ≡ Some (Some old)
-    → IsTold (slots_of regions) queued → IsTold (slots_of (slice_set regions place None)) (without old.id queued)
+    → AreHoldersTold (work_slots regions) queued → AreHoldersTold (work_slots (slice_set regions place None)) (without_id_queued old.id queued)
 end_told [] regions place old e told = tt
 end_told (q ∷ qs) regions place old e told = by (has_id old.id q) refl (end_told qs regions place old e told.1)
   where
-    by : (b : Bool) → has_id old.id q ≡ b → IsTold (slots_of (slice_set regions place None)) (without old.id qs)
-        → IsTold (slots_of (slice_set regions place None)) (if not b then q ∷ without old.id qs else without old.id qs)
+    by : (b : Bool) → has_id old.id q ≡ b → AreHoldersTold (work_slots (slice_set regions place None)) (without_id_queued old.id qs)
+        → AreHoldersTold (work_slots (slice_set regions place None)) (if not b then q ∷ without_id_queued old.id qs else without_id_queued old.id qs)
     by true h rest = rest
     by false h rest = (
       held_same q.message.id regions place (Some old) None e (sym (ne_eqb old.id q.message.id (λ s. no-both (sym (eq-eqb q.message.id old.id (sym s)) ∙ h)))) ∙ told.0,
@@ -254,14 +254,14 @@ end_told (q ∷ qs) regions place old e told = by (has_id old.id q) refl (end_to
 
 pub end_at_work : (system : System) (databases databases' : DatabasesState) (conversations conversations' : List TerminalConversation) (queued : List Queued) (regions : List (Option Busy)) (place : ℕ) (old : Busy)
     → slice_get regions place ≡ Some (Some old) → StayAtWork system databases databases' regions place → StayGiven old.id queued conversations conversations'
-    → AreAtWork system databases conversations queued regions → AreAtWork system databases' conversations' (without old.id queued) (slice_set regions place None)
+    → AreAtWork system databases conversations queued regions → AreAtWork system databases' conversations' (without_id_queued old.id queued) (slice_set regions place None)
 end_at_work system databases databases' conversations conversations' queued regions place old e stay given at_work other busy f =
     ⊎_elim (λ h. absurd (none-is busy h.1)) there (set_get regions place other None busy f)
   where
     none-is : (b : Busy) → None ≡ Some b → ⊥
     none-is b e = cc
 
-    there : (place ≢ other) × (slice_get regions other ≡ Some (Some busy)) → IsAtWork system databases' conversations' (without old.id queued) (other + 1) busy
+    there : (place ≢ other) × (slice_get regions other ≡ Some (Some busy)) → IsAtWork system databases' conversations' (without_id_queued old.id queued) (other + 1) busy
     there h =
         let was = at_work other busy h.1 in
         let apart : busy.id ≢ old.id = one_each system databases conversations queued regions at_work other place busy old h.1 e (λ s. h.0 (sym s)) in
@@ -274,7 +274,7 @@ end_at_work system databases databases' conversations conversations' queued regi
 
 -- a region gives its message back, which keeps its place
 pub back_told : (system : System) (databases : DatabasesState) (conversations : List TerminalConversation) (whole queued : List Queued) (regions : List (Option Busy)) (place : ℕ) (old : Busy) → AreAtWork system databases conversations whole regions
-    → slice_get regions place ≡ Some (Some old) → IsTold (slots_of regions) queued → IsTold (slots_of (slice_set regions place None)) (with_holder old.id None queued)
+    → slice_get regions place ≡ Some (Some old) → AreHoldersTold (work_slots regions) queued → AreHoldersTold (work_slots (slice_set regions place None)) (with_holder old.id None queued)
 back_told system databases conversations whole [] regions place old at_work e told = tt
 back_told system databases conversations whole (q ∷ qs) regions place old at_work e told =
     (by (has_id old.id q) refl, back_told system databases conversations whole qs regions place old at_work e told.1)
@@ -289,7 +289,7 @@ back_told system databases conversations whole (q ∷ qs) regions place old at_w
         (set_get regions place other None busy f)
 
     by : (b : Bool) → has_id old.id q ≡ b
-        → is_held (slots_of (slice_set regions place None)) (if b then record q { holder = None } else q).message.id ≡ is_some (if b then record q { holder = None } else q).holder
+        → is_held (work_slots (slice_set regions place None)) (if b then record q { holder = None } else q).message.id ≡ is_some (if b then record q { holder = None } else q).holder
     by true h =
         let same : q.message.id ≡ old.id = eqb-true q.message.id old.id h in
         not_held q.message.id (slice_set regions place None) (λ other busy f s. apart other busy f (s ∙ same))
@@ -316,7 +316,7 @@ back_at_work system databases databases' conversations queued regions place old 
 
 -- an input comes, which no region has
 pub new_told : (queued : List Queued) (slots : List (Option Slot)) (message : Message) → is_held slots message.id ≡ false
-    → IsTold slots queued → IsTold slots (with_message message queued)
+    → AreHoldersTold slots queued → AreHoldersTold slots (with_message message queued)
 new_told [] slots message free told = (free, tt)
 new_told (q ∷ qs) slots message free told = (told.0, new_told qs slots message free told.1)
 
@@ -329,7 +329,7 @@ below_new id next (p ∷ qs) q above e = by (has_id id p) refl e (λ h. below_ne
     by false h f rest = rest f
 
 pub new_free : (system : System) (databases : DatabasesState) (conversations : List TerminalConversation) (next : ℕ) (queued : List Queued) (regions : List (Option Busy)) → IsNewId next queued → AreAtWork system databases conversations queued regions
-    → is_held (slots_of regions) next ≡ false
+    → is_held (work_slots regions) next ≡ false
 new_free system databases conversations next queued regions above at_work =
     not_held next regions (λ place busy e same.
     let small : busy.id < next = below_new busy.id next queued (record { message = (at_work place busy e).message; holder = Some (place + 1) }) above (at_work place busy e).found in
@@ -348,21 +348,21 @@ new_at_work system databases conversations conversations' queued regions message
       work = subst (λ g. IsWork system databases (place + 1) g busy) (sym same) was.work;
     }
 
-pub told_without : (id : ℕ) (queued : List Queued) (slots : List (Option Slot)) → IsTold slots queued → IsTold slots (without id queued)
+pub told_without : (id : ℕ) (queued : List Queued) (slots : List (Option Slot)) → AreHoldersTold slots queued → AreHoldersTold slots (without_id_queued id queued)
 told_without id [] slots told = tt
 told_without id (q ∷ qs) slots told = by (not (has_id id q)) (told_without id qs slots told.1)
   where
-    by : (b : Bool) → IsTold slots (without id qs) → IsTold slots (if b then q ∷ without id qs else without id qs)
+    by : (b : Bool) → AreHoldersTold slots (without_id_queued id qs) → AreHoldersTold slots (if b then q ∷ without_id_queued id qs else without_id_queued id qs)
     by true rest = (told.0, rest)
     by false rest = rest
 
 -- the slots of regions of which one changed
-pub set_slots : (regions : List (Option Busy)) (place : ℕ) (new : Option Busy) → slots_of (slice_set regions place new) ≡ slice_set (slots_of regions) place (slot_of new)
+pub set_slots : (regions : List (Option Busy)) (place : ℕ) (new : Option Busy) → work_slots (slice_set regions place new) ≡ slice_set (work_slots regions) place (work_slot new)
 set_slots [] place new = refl
 set_slots (r ∷ regions) zero new = refl
-set_slots (r ∷ regions) (suc place) new = ap (λ ss. slot_of r ∷ ss) (set_slots regions place new)
+set_slots (r ∷ regions) (suc place) new = ap (λ ss. work_slot r ∷ ss) (set_slots regions place new)
 
-pub get_slots : (regions : List (Option Busy)) (place : ℕ) → slice_get (slots_of regions) place ≡ option_map slot_of (slice_get regions place)
+pub get_slots : (regions : List (Option Busy)) (place : ℕ) → slice_get (work_slots regions) place ≡ option_map work_slot (slice_get regions place)
 get_slots [] place = refl
 get_slots (r ∷ regions) zero = refl
 get_slots (r ∷ regions) (suc place) = get_slots regions place

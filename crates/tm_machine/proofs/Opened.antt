@@ -14,7 +14,7 @@ use Rattle.model_messages.specs.declared.conversation.Conversation.{Conversation
 use Rattle.model_messages.specs.declared.conversation.TerminalConversation.{TerminalConversation}
 use Rattle.model_messages.specs.Pads.{code_field}
 use Rattle.model_messages.specs.Terminals.{conversation_at}
-use Rattle.model_messages.specs.Input.{is_conversing}
+use Rattle.model_messages.specs.ConversationInput.{is_conversing}
 use Rattle.model_messages.specs.Queue.{IsNewId, free_count, messages_of}
 use Rattle.model_system.specs.declared.code.Code.{Code}
 use Rattle.model_system.specs.Codes.{code_at}
@@ -24,15 +24,15 @@ use Rattle.model_machine.specs.declared.lasting.TerminalState.{TerminalState}
 use Rattle.model_machine.specs.Machine.{LastingState, Slot, is_held, raised_now, states_by, start_of, waiting_now}
 use Rattle.model_machine.proofs.Flags.{now_twice, now_same}
 use Rattle.model_data.specs.Table.{empty_table, wait_of}
-use Rattle.model_image.specs.States.{ascend_below, are_alone, breaks_a_rule, has_right_pad, is_conversation, is_known, is_of_conversation, is_terminal, is_code, is_pad_of, has_no_pad, is_next, is_small, is_setting, wrong_ids, wrong_values, unknown_messages, wrong_replies, over_full}
-use Rattle.checkpointing.specs.Records.{IsOfSystem}
-use Rattle.system_types.specs.Valid.{IsSystem}
-use Rattle.openings.specs.Parts.{OpeningParts, AreOpeningParts, waiting}
-use Rattle.program_rows.specs.State.{DatabasesState, AreRowsOf, clean_region, committed_rows, dbds_of, rows_of}
+use Rattle.model_image.specs.States.{ascend_below, are_alone, breaks_a_rule, has_right_pad, is_conversation, is_message_known, is_of_conversation, is_system_terminal, is_system_code, is_pad_of, has_no_pad, is_next, is_small, is_setting, wrong_ids, wrong_values, unknown_messages, wrong_replies, over_full}
+use Rattle.checkpointing.specs.SnapshotRecords.{IsOfSystem}
+use Rattle.system_types.specs.ValidSystem.{IsSystem}
+use Rattle.openings.specs.OpeningParts.{OpeningParts, AreOpeningParts, waiting_message}
+use Rattle.program_rows.specs.DatabasesState.{DatabasesState, AreRowsOf, clean_region, committed_rows, dbds_of, rows_of_stores}
 use Rattle.lasting_state.specs.Tables.{TablesState, lasting_of}
 use Rattle.lasting_changes.proofs.Abended.{both, name_prints}
 use Rattle.region_work.specs.declared.region.Busy.{Busy}
-use Rattle.tm_machine.specs.Parts.{slot_of, slots_of, settings_of, flags_of, IsTold, AreAlone, AreApart, AreParts, IsConversation, IsOfConversation}
+use Rattle.tm_machine.specs.Parts.{work_slot, work_slots, settings_of, flags_of, AreHoldersTold, AreAlone, AreOfOtherConversations, AreParts, IsConversationOf, IsOfConversation}
 use Rattle.tm_machine.proofs.Joining.{field_is, blanks_print}
 use Rattle.tm_machine.proofs.Linked.{free_count_is}
 use Rattle.tm_machine.proofs.Started.{none_busy, none_slots, none_length, rows_length, below_none, clean_first}
@@ -63,7 +63,7 @@ last_of true true false d e f h = absurd (no_rule h)
 last_of true true true false e f h = absurd (no_rule h)
 last_of true true true true false f h = absurd (no_rule h)
 
-all_below : (next : ℕ) (ms : List Message) → ascend_below next ms ≡ true → IsNewId next (map waiting ms)
+all_below : (next : ℕ) (ms : List Message) → ascend_below next ms ≡ true → IsNewId next (map waiting_message ms)
 all_below next [] h = tt
 all_below next (m ∷ []) h = (ltb-true m.id next h, tt)
 all_below next (m ∷ later ∷ ms) h =
@@ -86,10 +86,10 @@ module _ (system : System) (names : AllByRecursion (λ code. IsName code.transac
   field_prints code is =
       subst (λ f. list_all is_printable f ≡ true) (sym (field_is code is)) (both code (replicate (8 - length code) 32) (name_prints code is.2) (blanks_print (8 - length code)))
 
-  right : (c : Conversation) → is_conversation system c ≡ true → IsConversation system c
+  right : (c : Conversation) → is_conversation system c ≡ true → IsConversationOf system c
   right c h = by (code_at system.codes c.code) refl
     where
-      by : (o : Option Code) → code_at system.codes c.code ≡ o → IsConversation system c
+      by : (o : Option Code) → code_at system.codes c.code ≡ o → IsConversationOf system c
       by None q = absurd (false≢true (sym (ap (λ o. option_map_or (λ (code : Code). is_pad_of code.transaction.scratch_pad c) o false) q) ∙ h))
       by (Some code) q =
           let pad : is_pad_of code.transaction.scratch_pad c ≡ true = sym (ap (λ o. option_map_or (λ (code : Code). is_pad_of code.transaction.scratch_pad c) o false) q) ∙ h in
@@ -106,21 +106,21 @@ module _ (system : System) (names : AllByRecursion (λ code. IsName code.transac
                 (both (take 8 c.pad) (drop 8 c.pad) (subst (λ f. list_all is_printable f ≡ true) (sym front) (field_prints c.code (named system.codes names c.code code q))) three_of.1);
           }
 
-  pads : (ts : List TerminalConversation) → list_all (has_right_pad system) ts ≡ true → AllByRecursion (λ t. IfSome t.conversation (IsConversation system)) ts
+  pads : (ts : List TerminalConversation) → list_all (has_right_pad system) ts ≡ true → AllByRecursion (λ t. IfSome t.conversation (IsConversationOf system)) ts
   pads [] h = tt
   pads (t ∷ ts) h = let p = and_parts (has_right_pad system t) (list_all (has_right_pad system) ts) h in (by t.conversation p.0, pads ts p.1)
     where
-      by : (o : Option Conversation) → option_map_or (is_conversation system) o true ≡ true → IfSome o (IsConversation system)
+      by : (o : Option Conversation) → option_map_or (is_conversation system) o true ≡ true → IfSome o (IsConversationOf system)
       by None e = tt
       by (Some c) e = right c e
 
-belongs : (system : System) (lasting : LastingState) (ms : List Message) → list_all (is_known system lasting) ms ≡ true → AllByRecursion (IsOfConversation lasting.conversations) ms
+belongs : (system : System) (lasting : LastingState) (ms : List Message) → list_all (is_message_known system lasting) ms ≡ true → AllByRecursion (IsOfConversation lasting.conversations) ms
 belongs system lasting [] h = tt
-belongs system lasting (m ∷ ms) h = let p = and_parts (is_known system lasting m) (list_all (is_known system lasting) ms) h in (one p.0, belongs system lasting ms p.1)
+belongs system lasting (m ∷ ms) h = let p = and_parts (is_message_known system lasting m) (list_all (is_message_known system lasting) ms) h in (one p.0, belongs system lasting ms p.1)
   where
-    one : is_known system lasting m ≡ true → IsOfConversation lasting.conversations m
+    one : is_message_known system lasting m ≡ true → IsOfConversation lasting.conversations m
     one k belonging =
-        let a = and_parts (is_terminal system m.origin && is_code system m.code) (if m.conversation then is_of_conversation lasting m else has_no_pad system m) k in
+        let a = and_parts (is_system_terminal system m.origin && is_system_code system m.code) (if m.conversation then is_of_conversation lasting m else has_no_pad system m) k in
         let c : is_of_conversation lasting m ≡ true = sym (ap (λ t. if t then is_of_conversation lasting m else has_no_pad system m) belonging) ∙ a.1 in
         subst (λ t. IsSomeAnd (if t then conversation_at m.origin lasting.conversations else None) (λ (x : Conversation). x.code ≡ m.code)) (sym belonging)
         (by (conversation_at m.origin lasting.conversations) c)
@@ -135,7 +135,7 @@ alone (m ∷ ms) h =
     let p = and_parts (not (m.conversation && list_any (is_conversing m.origin) ms)) (are_alone ms) h in
     (apart ms (not_true (m.conversation && list_any (is_conversing m.origin) ms) p.0), alone ms p.1)
   where
-    apart : (others : List Message) → (m.conversation && list_any (is_conversing m.origin) others) ≡ false → AllByRecursion (AreApart m) others
+    apart : (others : List Message) → (m.conversation && list_any (is_conversing m.origin) others) ≡ false → AllByRecursion (AreOfOtherConversations m) others
     apart [] e = tt
     apart (o ∷ others) e = (one, apart others rest)
       where
@@ -147,7 +147,7 @@ alone (m ∷ ms) h =
             by true false c q = q
             by true true c q = absurd (no_rule q)
 
-        one : AreApart m o
+        one : AreOfOtherConversations m o
         one mine its same =
             no_rule (sym (both_true m.conversation (is_conversing m.origin o) (list_any (is_conversing m.origin) others) mine
             (and_true (bytes_eq o.origin m.origin) o.conversation ((bytes_eq-Decides o.origin m.origin).1 same) its)) ∙ e)
@@ -184,11 +184,11 @@ none_held : (n id : ℕ) → is_held (replicate n None) id ≡ false
 none_held zero id = refl
 none_held (suc n) id = none_held n id
 
-waiting_messages : (ms : List Message) → messages_of (map waiting ms) ≡ ms
+waiting_messages : (ms : List Message) → messages_of (map waiting_message ms) ≡ ms
 waiting_messages [] = refl
 waiting_messages (m ∷ ms) = ap (λ l. m ∷ l) (waiting_messages ms)
 
-told_none : (slots : List (Option Slot)) → ((id : ℕ) → is_held slots id ≡ false) → (ms : List Message) → IsTold slots (map waiting ms)
+told_none : (slots : List (Option Slot)) → ((id : ℕ) → is_held slots id ≡ false) → (ms : List Message) → AreHoldersTold slots (map waiting_message ms)
 told_none slots none [] = tt
 told_none slots none (m ∷ ms) = (none m.id, told_none slots none ms)
 
@@ -196,14 +196,14 @@ abbrev rest_of : List (Option Slot) → List (Option Slot)
 rest_of [] = []
 rest_of (s ∷ slots) = slots
 
-pub all_empty : (n : ℕ) (regions : List (Option Busy)) → slots_of regions ≡ replicate n None → regions ≡ replicate n None
+pub all_empty : (n : ℕ) (regions : List (Option Busy)) → work_slots regions ≡ replicate n None → regions ≡ replicate n None
 all_empty zero [] e = refl
 all_empty zero (r ∷ regions) e = cc
 all_empty (suc n) [] e = cc
 all_empty (suc n) (None ∷ regions) e = ap (λ rs. None ∷ rs) (all_empty n regions (ap rest_of e))
 all_empty (suc n) (Some busy ∷ regions) e = absurd (clash (ap (λ l. slice_get l 0) e))
   where
-    clash : ◌≡◌ {A = Option (Option Slot)} (Some (slot_of (Some busy))) (Some None) → ⊥
+    clash : ◌≡◌ {A = Option (Option Slot)} (Some (work_slot (Some busy))) (Some None) → ⊥
     clash q = cc
 
 module _ (system : System) (state : LastingState) (p : OpeningParts) (a : AreOpeningParts system state p) (rules : breaks_a_rule system state ≡ false) where
@@ -215,8 +215,8 @@ module _ (system : System) (state : LastingState) (p : OpeningParts) (a : AreOpe
       last_of (is_next state.next_id) (is_small state.steps) (list_all (λ terminal. is_small terminal.last) state.terminals) (list_all (λ terminal. is_next terminal.next) state.outputs)
       (list_all is_setting state.codes) (list_all (has_right_pad system) state.conversations) parts_of.0
 
-  known : (list_all (is_known system state) state.messages ≡ true) × (are_alone state.messages ≡ true)
-  known = and_parts (list_all (is_known system state) state.messages) (are_alone state.messages) (not_broken (list_all (is_known system state) state.messages && are_alone state.messages) parts_of.2)
+  known : (list_all (is_message_known system state) state.messages ≡ true) × (are_alone state.messages ≡ true)
+  known = and_parts (list_all (is_message_known system state) state.messages) (are_alone state.messages) (not_broken (list_all (is_message_known system state) state.messages && are_alone state.messages) parts_of.2)
 
   pub new_id : IsNewId p.next_id p.queues.queued
   new_id =
@@ -228,7 +228,7 @@ module _ (system : System) (state : LastingState) (p : OpeningParts) (a : AreOpe
 module _ (system : System) (state : LastingState) (p : OpeningParts) (d : DatabasesState) (regions : List (Option Busy)) (a : AreOpeningParts system state p)
     (rules : breaks_a_rule system state ≡ false) (of : IsOfSystem system state) (valid : IsSystem system) (all_named : AllByRecursion (λ code. IsName code.transaction.code) system.codes)
     (empty : regions ≡ replicate (length system.regions) None) (stores : d.stores ≡ p.stores.stores) (committed : d.committed ≡ p.stores.stores)
-    (clean : d.regions ≡ replicate (length system.regions) (clean_region (rows_of p.stores.stores))) (table : d.table ≡ empty_table (length system.regions))
+    (clean : d.regions ≡ replicate (length system.regions) (clean_region (rows_of_stores p.stores.stores))) (table : d.table ≡ empty_table (length system.regions))
     (rows : AreRowsOf (dbds_of d) (committed_rows d)) where
   abbrev tables : TablesState
   tables = record { databases = d; queues = p.queues; next_id = p.next_id; terminals = p.terminals; outputs = p.outputs; conversations = p.conversations; steps = p.steps }
@@ -248,19 +248,19 @@ module _ (system : System) (state : LastingState) (p : OpeningParts) (d : Databa
   flags_are : flags_of p.codes ≡ flags
   flags_are = ap flags_of a.codes ∙ flags_by state.codes flags fit
 
-  slots_are : slots_of regions ≡ slots
-  slots_are = ap slots_of empty ∙ none_slots (length system.regions)
+  slots_are : work_slots regions ≡ slots
+  slots_are = ap work_slots empty ∙ none_slots (length system.regions)
 
-  told : IsTold (slots_of regions) p.queues.queued
-  told = subst (λ ss. IsTold ss p.queues.queued) (sym slots_are) (subst (λ q. IsTold slots q) (sym (ap (λ q. q.queued) a.queues)) (told_none slots (none_held (length system.regions)) state.messages))
+  told : AreHoldersTold (work_slots regions) p.queues.queued
+  told = subst (λ ss. AreHoldersTold ss p.queues.queued) (sym slots_are) (subst (λ q. AreHoldersTold slots q) (sym (ap (λ q. q.queued) a.queues)) (told_none slots (none_held (length system.regions)) state.messages))
 
   waits : (name : List ℕ) → free_count name p.queues.queued ≡ waiting_now state slots name
   waits name =
-      sym (free_count_is name (slots_of regions) p.queues.queued told)
+      sym (free_count_is name (work_slots regions) p.queues.queued told)
       ∙ (λ i. waiting_now (record state { messages = messages_are system state p a rules i }) (slots_are i) name)
 
   clean_now : d.regions ≡ replicate (length system.regions) (clean_region (committed_rows d))
-  clean_now = clean ∙ ap (λ ss. replicate (length system.regions) (clean_region (rows_of ss))) (sym committed)
+  clean_now = clean ∙ ap (λ ss. replicate (length system.regions) (clean_region (rows_of_stores ss))) (sym committed)
 
   pub parts_opened : AreParts system tables p.codes regions
   parts_opened = record {
@@ -278,7 +278,7 @@ module _ (system : System) (state : LastingState) (p : OpeningParts) (d : Databa
     at_work = λ place busy e. absurd (none_busy (length system.regions) place busy (sym (ap (λ rs. slice_get rs place) empty) ∙ e));
     conversations = record {
       names = ap (map (λ (t : TerminalConversation). t.terminal)) a.conversations ∙ of.conversations;
-      pads = subst (AllByRecursion (λ t. IfSome t.conversation (IsConversation system))) (sym a.conversations) (pads system all_named state.conversations (right_pads system state p a rules));
+      pads = subst (AllByRecursion (λ t. IfSome t.conversation (IsConversationOf system))) (sym a.conversations) (pads system all_named state.conversations (right_pads system state p a rules));
       belong = subst (λ cs. AllByRecursion (IsOfConversation cs) (messages_of p.queues.queued)) (sym a.conversations)
           (subst (AllByRecursion (IsOfConversation state.conversations)) (sym (messages_are system state p a rules)) (belongs system state state.messages (known system state p a rules).0));
       alone = subst AreAlone (sym (messages_are system state p a rules)) (alone state.messages (known system state p a rules).1);
@@ -290,10 +290,10 @@ module _ (system : System) (state : LastingState) (p : OpeningParts) (d : Databa
     };
   }
 
-  pub moment_opened : record { lasting = lasting_of (settings_of p.codes) tables; slots = slots_of regions; enqueues = d.table; raised = flags_of p.codes } ≡ start_of system state
+  pub moment_opened : record { lasting = lasting_of (settings_of p.codes) tables; slots = work_slots regions; enqueues = d.table; raised = flags_of p.codes } ≡ start_of system state
   moment_opened = λ i. record {
     lasting = record {
-      rows = (ap rows_of committed ∙ a.rows) i;
+      rows = (ap rows_of_stores committed ∙ a.rows) i;
       messages = messages_are system state p a rules i;
       next_id = a.next_id i;
       terminals = a.terminals i;

@@ -9,17 +9,17 @@ use Rattle.model_data.specs.declared.need.Need.{Need as RootNeed}
 use Rattle.model_data.specs.Data.{Data}
 use Rattle.model_data.specs.declared.request.Request.{Request}
 use Rattle.model_data.specs.Table.{wait_of}
-use Rattle.model_data.specs.Ask.{after_asks}
+use Rattle.model_data.specs.EnqueueRequests.{after_asks}
 use Rattle.model_system.specs.declared.need.CallText.{CallText}
 use Rattle.model_system.specs.declared.need.Need.{Need}
 use Rattle.model_system.specs.declared.need.Need.TheVariants.{Call, Ended, Abend}
 use Rattle.model_system.specs.Jobs.{Job, job_of, job_by, job_with, program_at}
-use Rattle.model_machine.specs.Trial.{Given, Reached, Trial, reached, trial_need}
+use Rattle.model_machine.specs.Trial.{Given, Reached, Trial, pcb_reached, trial_need}
 use Rattle.model_machine.specs.Trial.Reached.{Messages, Rows, Nothing}
 use Rattle.model_machine.specs.Requests.{request_for, requests_at, requests_by, requests_of, asked_behind}
-use Rattle.program_rows.specs.State.{DatabasesState, RegionRows, AreRowsOf, IsClean, IsRegionOf, no_rows, region_at, committed_rows, dbds_of, rows_of, clean_region, with_records_from}
-use Rattle.program_rows.specs.Answering.{IsBeside, IsCommitted, IsGivenUp}
-use Rattle.message_run.specs.Ahead.{IsAhead, IsHeld, StayOthers}
+use Rattle.program_rows.specs.DatabasesState.{DatabasesState, RegionRows, AreRowsOf, IsClean, IsRegionOf, no_rows, region_at, committed_rows, dbds_of, rows_of_stores, clean_region, with_records_from}
+use Rattle.program_rows.specs.CallAnswers.{IsBeside, IsCommitted, IsGivenUp}
+use Rattle.message_run.specs.WorkAhead.{IsAhead, IsHeld, StayOthers}
 use Rattle.message_run.specs.RunState.{RunState}
 use Rattle.message_run.proofs.Holding.{asks_keep}
 use Rattle.message_run.proofs.Beside.{kept}
@@ -27,10 +27,10 @@ use Rattle.message_run.proofs.Others.{beside_committed as committed_law}
 use Rattle.model_system.specs.declared.code.Code.{Code}
 use Rattle.model_system.specs.declared.system_program.SystemProgram.{SystemProgram}
 use Rattle.model_system.specs.Codes.{code_at}
-use Rattle.system_types.specs.Valid.{IsServable, IsSystem}
+use Rattle.system_types.specs.ValidSystem.{IsServable, IsSystem}
 use Rattle.model_system.specs.System.{System}
 use Rattle.region_work.specs.declared.region.Busy.{Busy}
-use Rattle.region_work.specs.Region.{IsUnit}
+use Rattle.region_work.specs.RegionWork.{IsRegionUnit}
 use Rattle.tm_machine.specs.Parts.{IsIdle, AreDatabases, AreIdle}
 use Rattle.tm_machine.proofs.Linked.{StayAtWork}
 use Rattle.tm_machine.proofs.Tabled.{AreOwn, regions_asks, held_released, wait_asks, wait_ended, wait_released}
@@ -46,7 +46,7 @@ own_at region (Rows target) d call = own_map region target.number _
 own_at region Nothing d call = tt
 
 own_by : (region : ℕ) (job : Job) (trial : Trial) (need : Need) → AreOwn region (requests_by region job trial need)
-own_by region job trial (Call call) = own_at region (reached job.system.databases job.pcbs call.pcb) trial.databases call
+own_by region job trial (Call call) = own_at region (pcb_reached job.system.databases job.pcbs call.pcb) trial.databases call
 own_by region job trial Ended = tt
 own_by region job trial (Abend code) = tt
 
@@ -60,14 +60,14 @@ own_behind region job None = tt
 -- ---- the work of a region that sees what it saw, and holds what it held
 clean_same : (other : ℕ) (old new : DatabasesState) → new.committed ≡ old.committed → region_at other new ≡ region_at other old → IsClean other old → IsClean other new
 clean_same other old new committed sees h = record {
-  sees = ap (λ r. r.rows) sees ∙ h.sees ∙ sym (ap rows_of committed);
+  sees = ap (λ r. r.rows) sees ∙ h.sees ∙ sym (ap rows_of_stores committed);
   changed = ap (λ r. r.changed) sees ∙ h.changed;
 }
 
 unit_same : (job : Job) (given : Given) (other : ℕ) (old new : DatabasesState) (unit : Option RunState)
     → new.committed ≡ old.committed → region_at other new ≡ region_at other old → dbds_of new ≡ dbds_of old
     → ((q : Request) → q.region ≡ other → IsHeld old.table q → IsHeld new.table q)
-    → IsUnit job given other old unit → IsUnit job given other new unit
+    → IsRegionUnit job given other old unit → IsRegionUnit job given other new unit
 unit_same job given other old new None committed sees dbds holds h = clean_same other old new committed sees h
 unit_same job given other old new (Some unit) committed sees dbds holds h = kept job given other old new unit dbds holds h committed sees
 
@@ -77,7 +77,7 @@ pub record IsKeptBeside (region : ℕ) (old new : DatabasesState) : Type 0 where
   pub count : length new.regions ≡ length old.regions
   pub regions : new.table.regions ≡ old.table.regions
   pub units : (other : ℕ) → (other ≡ region → ⊥) → IsRegionOf old other → (job : Job) (given : Given) (unit : Option RunState)
-      → IsServable job.system.databases job.pcbs job.lines → IsUnit job given other old unit → IsUnit job given other new unit
+      → IsServable job.system.databases job.pcbs job.lines → IsRegionUnit job given other old unit → IsRegionUnit job given other new unit
   pub idle : (other : ℕ) → (other ≡ region → ⊥) → IsRegionOf old other → IsIdle other old → IsIdle other new
 
 places_apart : (other region : ℕ) → (other ≡ region → ⊥) → 1 ≤ other → 1 ≤ region → other - 1 ≡ region - 1 → ⊥
@@ -115,7 +115,7 @@ pub beside_same : (region : ℕ) (old new : DatabasesState) → new ≡ old → 
 beside_same region old new same = record {
   count = ap (λ d. length d.regions) same;
   regions = ap (λ d. d.table.regions) same;
-  units = λ other apart there job given unit servable was. subst (λ d. IsUnit job given other d unit) (sym same) was;
+  units = λ other apart there job given unit servable was. subst (λ d. IsRegionUnit job given other d unit) (sym same) was;
   idle = λ other apart there was. subst (IsIdle other) (sym same) was;
 }
 
@@ -169,7 +169,7 @@ beside_committed region old new positive stays dbds rows_old rows_new = record {
         committed_law job given other region old new unit there.least positive apart dbds ahead servable rows_old rows_new there.most stays
 
     units : (other : ℕ) → (other ≡ region → ⊥) → IsRegionOf old other → (job : Job) (given : Given) (unit : Option RunState)
-        → IsServable job.system.databases job.pcbs job.lines → IsUnit job given other old unit → IsUnit job given other new unit
+        → IsServable job.system.databases job.pcbs job.lines → IsRegionUnit job given other old unit → IsRegionUnit job given other new unit
     units other apart there job given None servable was = beside_clean other old new (stays.others other apart there.least there.most) was
     units other apart there job given (Some unit) servable was = law other apart there job given unit servable was
 
@@ -185,7 +185,7 @@ are_beside system region old new are beside dbds rows = record {
 -- what is committed stays
 pub rows_stay : (old new : DatabasesState) → new.committed ≡ old.committed → dbds_of new ≡ dbds_of old → AreRowsOf (dbds_of old) (committed_rows old) → AreRowsOf (dbds_of new) (committed_rows new)
 rows_stay old new committed dbds rows =
-    subst (λ ds. AreRowsOf ds (committed_rows new)) (sym dbds) (subst (λ c. AreRowsOf (dbds_of old) (rows_of c)) (sym committed) rows)
+    subst (λ ds. AreRowsOf ds (committed_rows new)) (sym dbds) (subst (λ c. AreRowsOf (dbds_of old) (rows_of_stores c)) (sym committed) rows)
 
 -- ---- jobs
 program_holds : (P : SystemProgram → Type 0) (p : SystemProgram → Bool) (programs : List SystemProgram) → All P programs → (found : SystemProgram) → find p programs ≡ Some found → P found
@@ -282,7 +282,7 @@ idle_committed region old new stays = record {
 
 pub idle_given_up : (region : ℕ) (old new : DatabasesState) → IsRegionOf old region → IsGivenUp region old new → IsIdle region new
 idle_given_up region old new there back = record {
-  clean = record { sees = ap (λ r. r.rows) own ∙ sym (ap rows_of back.committed); changed = ap (λ r. r.changed) own };
+  clean = record { sees = ap (λ r. r.rows) own ∙ sym (ap rows_of_stores back.committed); changed = ap (λ r. r.changed) own };
   waits = ap (wait_of region) back.table ∙ wait_ended region old.table;
 }
   where

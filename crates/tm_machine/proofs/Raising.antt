@@ -12,8 +12,8 @@ use Rattle.model_system.specs.System.{System}
 use Rattle.model_machine.specs.Machine.{raised_now}
 use Rattle.model_machine.specs.Flags.{followed, followed_by, all_followed}
 use Rattle.model_machine.proofs.Flags.{flags_follow, settings_stay, all_followed_length, now_twice, now_same}
-use Rattle.system_types.specs.Valid.{IsSystem}
-use Rattle.region_work.specs.Ends.{destinations}
+use Rattle.system_types.specs.ValidSystem.{IsSystem}
+use Rattle.region_work.specs.WorkEnds.{destinations}
 use Rattle.tm_machine.specs.Parts.{settings_of, flags_of}
 
 -- the flags followed on those of `states`; all else of the codes stayed

@@ -9,10 +9,10 @@ use Rattle.model_machine.specs.declared.active.ActiveRegion.{ActiveRegion}
 use Rattle.model_machine.specs.declared.active.RegionWork.{RegionWork}
 use Rattle.model_machine.specs.declared.active.RegionWork.TheVariants.{Idle}
 use Rattle.model_data.specs.Table.{EnqueueTable, wait_of, waits_by}
-use Rattle.model_machine.specs.ModelMachineCommands.{active_from, first_busy, waiting_work, work_of}
+use Rattle.model_machine.specs.CommandAnswers.{active_from, first_busy, waiting_work, work_of}
 use Rattle.model_machine.specs.Machine.{Slot, slot_in}
-use Rattle.tm_machine.specs.Lookups.{message_of}
-use Rattle.tm_machine.specs.Work.{work_on}
+use Rattle.tm_machine.specs.RegionMessage.{region_message}
+use Rattle.tm_machine.specs.WaitingWork.{work_on}
 
 -- ---- the work of one
 
@@ -21,14 +21,14 @@ work_same databases s (Some resource) (Some by) = refl
 work_same databases s (Some resource) None = refl
 work_same databases s None by = refl
 
-pub idle_work : (databases : List Dbd) (table : EnqueueTable) (region : ℕ) (slot : Option Slot) → None ≡ message_of slot → Idle ≡ work_of databases table region slot
+pub idle_work : (databases : List Dbd) (table : EnqueueTable) (region : ℕ) (slot : Option Slot) → None ≡ region_message slot → Idle ≡ work_of databases table region slot
 idle_work databases table region None e = refl
 idle_work databases table region (Some s) e = cc
 
 taken : (a b : List ℕ × ℕ) → Some a ≡ Some b → a ≡ b
 taken a b e = cc
 
-pub busy_work : (databases : List Dbd) (table : EnqueueTable) (region : ℕ) (slot : Option Slot) (code : List ℕ) (id : ℕ) (work : RegionWork) → Some (code, id) ≡ message_of slot
+pub busy_work : (databases : List Dbd) (table : EnqueueTable) (region : ℕ) (slot : Option Slot) (code : List ℕ) (id : ℕ) (work : RegionWork) → Some (code, id) ≡ region_message slot
     → work ≡ work_on databases code id (option_map (λ request. request.resource) (wait_of region table)) (waits_by region table) → work ≡ work_of databases table region slot
 busy_work databases table region None code id work e is = cc
 busy_work databases table region (Some s) code id work e is =
@@ -80,20 +80,20 @@ busy_at region [] place slot h e = absurd (omega (arith, h))
 busy_at region (s ∷ slots) zero slot h e = ap (λ o. first_busy region (o ∷ slots)) e
 busy_at region (s ∷ slots) (suc place) slot h e = busy_at region slots place slot (omega (arith, h)) e
 
-pub busy_found : (slots : List (Option Slot)) (place : ℕ) (work : List ℕ × ℕ) → place < length slots → Some work ≡ message_of (slot_in slots (place + 1))
+pub busy_found : (slots : List (Option Slot)) (place : ℕ) (work : List ℕ × ℕ) → place < length slots → Some work ≡ region_message (slot_in slots (place + 1))
     → Some (place + 1, work.1) ≡ first_busy (place + 1) (drop place slots)
 busy_found slots place work h e = by (slot_in slots (place + 1)) refl e where
-  by : (slot : Option Slot) → slot_in slots (place + 1) ≡ slot → Some work ≡ message_of slot → Some (place + 1, work.1) ≡ first_busy (place + 1) (drop place slots)
+  by : (slot : Option Slot) → slot_in slots (place + 1) ≡ slot → Some work ≡ region_message slot → Some (place + 1, work.1) ≡ first_busy (place + 1) (drop place slots)
   by None is f = cc
   by (Some s) is f =
       let same = taken work (s.code, s.id) f in
       ap (λ n. Some (place + 1, n)) (ap (λ x. x.1) same)
       ∙ sym (busy_at (place + 1) slots place (Some s) h (sym (slot_from slots place) ∙ is))
 
-pub busy_next : (slots : List (Option Slot)) (place : ℕ) → place < length slots → None ≡ message_of (slot_in slots (place + 1))
+pub busy_next : (slots : List (Option Slot)) (place : ℕ) → place < length slots → None ≡ region_message (slot_in slots (place + 1))
     → first_busy (place + 1) (drop place slots) ≡ first_busy (place + 1 + 1) (drop (place + 1) slots)
 busy_next slots place h e = by (slot_in slots (place + 1)) refl e where
-  by : (slot : Option Slot) → slot_in slots (place + 1) ≡ slot → None ≡ message_of slot → first_busy (place + 1) (drop place slots) ≡ first_busy (place + 1 + 1) (drop (place + 1) slots)
+  by : (slot : Option Slot) → slot_in slots (place + 1) ≡ slot → None ≡ region_message slot → first_busy (place + 1) (drop place slots) ≡ first_busy (place + 1 + 1) (drop (place + 1) slots)
   by (Some s) is f = cc
   by None is f =
       busy_at (place + 1) slots place None h (sym (slot_from slots place) ∙ is)

@@ -8,11 +8,11 @@ use Rattle.model_system.specs.declared.code_state.CodeState.{CodeState}
 use Rattle.model_system.specs.System.{System}
 use Rattle.model_machine.specs.Machine.{Moment, Slot}
 use Rattle.model_machine.specs.Pick.{Candidate, pick_of}
-use Rattle.model_machine.specs.Steps.{rests, all_rest, pick_now, need_now}
+use Rattle.model_machine.specs.MachineCalls.{rests, all_rest, pick_now, need_now}
 use Rattle.tran_pick.specs.declared.picked.Pick.{Pick}
 use Rattle.lasting_state.specs.Tables.{TablesState}
 use Rattle.region_work.specs.declared.region.Busy.{Busy}
-use Rattle.tm_machine.specs.Parts.{slot_of, slots_of, AreParts}
+use Rattle.tm_machine.specs.Parts.{work_slot, work_slots, AreParts}
 use Rattle.tm_machine.proofs.Scheduled.{pick_with, pick_is, moment_now}
 use Rattle.tm_machine.proofs.Stepped.{slot_is}
 
@@ -31,11 +31,11 @@ pub all_rest_end : (system : System) (moment : Moment) (region : ℕ) (slots : L
     → all_rest system moment region (drop place slots) ≡ true
 all_rest_end system moment region slots place h = ap (all_rest system moment region) (drop_of_length-le slots h)
 
-pub slots_length : (regions : List (Option Busy)) → length (slots_of regions) ≡ length regions
+pub slots_length : (regions : List (Option Busy)) → length (work_slots regions) ≡ length regions
 slots_length [] = refl
 slots_length (r ∷ regions) = ap suc (slots_length regions)
 
-slot_some : (busy : Option Busy) → is_some (slot_of busy) ≡ is_some busy
+slot_some : (busy : Option Busy) → is_some (work_slot busy) ≡ is_some busy
 slot_some (Some busy) = refl
 slot_some None = refl
 

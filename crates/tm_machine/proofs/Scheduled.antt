@@ -20,19 +20,19 @@ use Rattle.model_machine.specs.declared.entry.Turned.{Turned}
 use Rattle.model_machine.specs.declared.entry.Turned.TheVariants.{Scheduled, Idle, Held}
 use Rattle.model_machine.specs.Machine.{Moment, Slot, is_held, slot_at, raised_now, moment_with}
 use Rattle.model_machine.specs.Pick.{Candidate, pick_of}
-use Rattle.model_machine.specs.Requests.{BreaksAt, table_after}
-use Rattle.tm_machine.specs.Turns.{IsTurned}
-use Rattle.model_machine.specs.Steps.{pick_now, need_now, schedule_answer, slot_after, turn_by, turn_answer, After}
+use Rattle.model_machine.specs.Requests.{BreaksRingsAt, table_after}
+use Rattle.tm_machine.specs.Turns.{IsRegionTurned}
+use Rattle.model_machine.specs.MachineCalls.{pick_now, need_now, schedule_answer, slot_after, turn_by, turn_answer, After}
 use Rattle.model_machine.specs.Flags.{all_followed}
 use Rattle.model_machine.proofs.Flags.{states_again}
 use Rattle.model_machine.proofs.Picks.{pick_same}
-use Rattle.tran_pick.specs.Picked.{IsFirstFree}
+use Rattle.tran_pick.specs.RegionPick.{IsFirstFree}
 use Rattle.tran_pick.proofs.Found.{first_codes}
 use Rattle.tran_pick.specs.declared.picked.Pick.{Pick}
-use Rattle.lasting_state.specs.Tables.{TablesState, lasting_of, held}
+use Rattle.lasting_state.specs.Tables.{TablesState, lasting_of, message_held}
 use Rattle.region_work.specs.declared.region.Busy.{Busy}
-use Rattle.region_work.specs.Region.{given_in, IsWork, calls_made}
-use Rattle.tm_machine.specs.Parts.{slot_of, slots_of, settings_of, flags_of, IsTold, AreAtWork, AreConversations, AreParts}
+use Rattle.region_work.specs.RegionWork.{given_in, IsWork, calls_made}
+use Rattle.tm_machine.specs.Parts.{work_slot, work_slots, settings_of, flags_of, AreHoldersTold, AreAtWork, AreConversations, AreParts}
 use Rattle.tm_machine.proofs.Linked.{first_free_is, take_told, take_at_work, set_length, set_slots, get_slots}
 use Rattle.tm_machine.proofs.Free.{count_held, or_none}
 use Rattle.tm_machine.proofs.Conversing.{found_holds}
@@ -63,23 +63,23 @@ job_there system None there program = cc
 
 -- a region whose slot is empty is empty
 pub empty_at : (regions : List (Option Busy)) (place : ℕ) (found : Option Busy) → slice_get regions place ≡ Some found
-    → unwrap_or (slice_get (slots_of regions) place) None ≡ None → found ≡ None
+    → unwrap_or (slice_get (work_slots regions) place) None ≡ None → found ≡ None
 empty_at regions place None e empty = refl
 empty_at regions place (Some busy) e empty =
-    absurd (no-slot (slot_of (Some busy)) refl (sym (ap (λ s. unwrap_or s None) (get_slots regions place ∙ ap (option_map slot_of) e)) ∙ empty))
+    absurd (no-slot (work_slot (Some busy)) refl (sym (ap (λ s. unwrap_or s None) (get_slots regions place ∙ ap (option_map work_slot) e)) ∙ empty))
   where
-    no-slot : (s : Option Slot) → s ≡ slot_of (Some busy) → s ≡ None → ⊥
+    no-slot : (s : Option Slot) → s ≡ work_slot (Some busy) → s ≡ None → ⊥
     no-slot s a b = cc
 
 module _ (system : System) (tables : TablesState) (states : List CodeState) (regions : List (Option Busy)) (region : ℕ)
     (parts : AreParts system tables states regions) where
   abbrev pub moment_now : Moment
-  moment_now = record { lasting = lasting_of (settings_of states) tables; slots = slots_of regions; enqueues = tables.databases.table; raised = flags_of states }
+  moment_now = record { lasting = lasting_of (settings_of states) tables; slots = work_slots regions; enqueues = tables.databases.table; raised = flags_of states }
 
   pub pick_is : pick_now system moment_now region ≡ pick_of system region states (λ name. first_free name tables.queues.queued)
   pick_is =
-      ap (λ ss. pick_of system region ss (λ code. first_waiting (is_held (slots_of regions)) code (messages_of tables.queues.queued))) (states_again states)
-      ∙ pick_same system region states _ _ (λ name. first_free_is name (slots_of regions) tables.queues.queued parts.told)
+      ap (λ ss. pick_of system region ss (λ code. first_waiting (is_held (work_slots regions)) code (messages_of tables.queues.queued))) (states_again states)
+      ∙ pick_same system region states _ _ (λ name. first_free_is name (work_slots regions) tables.queues.queued parts.told)
 
   pub none_picked : (result : Option Pick) → result ≡ None → result ≡ option_map pick_with (pick_of system region states (λ name. first_free name tables.queues.queued))
       → pick_now system moment_now region ≡ None
@@ -124,27 +124,27 @@ module _ (system : System) (tables : TablesState) (states : List CodeState) (reg
         sym (by_pick p h ∙ ap (λ b. if b then Held (need_now moment_now) system.qbytes else Scheduled p.code p.id) (le-ltb system.qbytes (need_now moment_now) (omega (arith, n, l, fits))))
 
     -- a region that stays empty
-    slots_same : slice_set (slots_of regions) (region - 1) None ≡ slots_of regions
-    slots_same = sym (set_slots regions (region - 1) None) ∙ ap slots_of (set_same regions (region - 1) None empty)
+    slots_same : slice_set (work_slots regions) (region - 1) None ≡ work_slots regions
+    slots_same = sym (set_slots regions (region - 1) None) ∙ ap work_slots (set_same regions (region - 1) None empty)
 
     pub stays_empty : (answer : Turned) → answer ≡ turn_answer system moment_now region [] → slot_after answer None ≡ None → table_after answer region tables.databases.table ≡ tables.databases.table → moment_now ≡ After system moment_now (Turn region) []
     stays_empty answer says none same =
         moment_stays system tables states regions parts
         ∙ ap (λ ss. moment_with system moment_now.lasting ss tables.databases.table (flags_of states)) (sym slots_same)
-        ∙ ap (λ s. moment_with system moment_now.lasting (slice_set (slots_of regions) (region - 1) s) tables.databases.table (flags_of states)) (sym none)
-        ∙ ap (λ t. moment_with system moment_now.lasting (slice_set (slots_of regions) (region - 1) (slot_after answer None)) t (flags_of states)) (sym same)
+        ∙ ap (λ s. moment_with system moment_now.lasting (slice_set (work_slots regions) (region - 1) s) tables.databases.table (flags_of states)) (sym none)
+        ∙ ap (λ t. moment_with system moment_now.lasting (slice_set (work_slots regions) (region - 1) (slot_after answer None)) t (flags_of states)) (sym same)
         ∙ sym (turn_leaves system moment_now region [] None answer None tables.databases.table empty_slot (sym says) refl refl)
 
     -- nobody gives way where a region is empty
-    nobody : BreaksAt system moment_now region [] (slot_at moment_now region)
+    nobody : BreaksRingsAt system moment_now region [] (slot_at moment_now region)
     nobody = rw empty_slot refl
 
-    pub idle_turned : pick_now system moment_now region ≡ None → IsTurned (record { system = system; moment = moment_now; databases = tables.databases }) (record { system = system; moment = moment_now; databases = tables.databases }) region Idle
+    pub idle_turned : pick_now system moment_now region ≡ None → IsRegionTurned (record { system = system; moment = moment_now; databases = tables.databases }) (record { system = system; moment = moment_now; databases = tables.databases }) region Idle
     idle_turned e = record { victims = nobody; answer = idle_answer e; after = stays_empty Idle (idle_answer e) refl refl; system = refl }
 
     pub held_turned : (p : Pick) (need limit : ℕ) → IsSomeAnd (pick_now system moment_now region) (λ c. (c.code ≡ p.code) × (c.id ≡ p.id))
         → need ≡ need_now moment_now → limit ≡ system.qbytes → limit < need
-        → IsTurned (record { system = system; moment = moment_now; databases = tables.databases }) (record { system = system; moment = moment_now; databases = tables.databases }) region (Held need limit)
+        → IsRegionTurned (record { system = system; moment = moment_now; databases = tables.databases }) (record { system = system; moment = moment_now; databases = tables.databases }) region (Held need limit)
     held_turned p need limit h n l less = record {
       victims = nobody;
       answer = held_answer p need limit h n l less;
@@ -157,10 +157,10 @@ module _ (system : System) (tables : TablesState) (states : List CodeState) (reg
     back = omega (arith, positive)
 
     -- the flags behind the taking, where those of some names followed
-    pub told_taken : IsTold (slots_of (slice_set regions (region - 1) (Some busy))) (with_holder busy.id (Some region) tables.queues.queued)
+    pub told_taken : AreHoldersTold (work_slots (slice_set regions (region - 1) (Some busy))) (with_holder busy.id (Some region) tables.queues.queued)
     told_taken = take_told busy.id region tables.queues.queued regions (region - 1) busy empty refl parts.told
 
-    pub parts_taken : (tables' : TablesState) (states' : List CodeState) → tables' ≡ held tables busy.id region
+    pub parts_taken : (tables' : TablesState) (states' : List CodeState) → tables' ≡ message_held tables busy.id region
         → IsSomeAnd (queued_at busy.id tables.queues.queued) (λ q. q.holder ≡ None)
         → IsSome (code_at system.codes busy.code) → busy.unit ≡ None → length states' ≡ length states
         → raised_now (λ name. free_count name tables'.queues.queued) system.codes (flags_of states') ≡ flags_of states'
@@ -196,39 +196,39 @@ module _ (system : System) (tables : TablesState) (states : List CodeState) (reg
         by None job f g none k = absurd none
 
     -- as many messages of other codes wait
-    pub others_wait : (tables' : TablesState) → tables' ≡ held tables busy.id region → IsFirstFree tables.queues.queued busy.code busy.id → (name : List ℕ)
+    pub others_wait : (tables' : TablesState) → tables' ≡ message_held tables busy.id region → IsFirstFree tables.queues.queued busy.code busy.id → (name : List ℕ)
         → bytes_eq name busy.code ≡ false → free_count name tables'.queues.queued ≡ free_count name tables.queues.queued
     others_wait tables' is free name other =
         ap (λ t. free_count name t.queues.queued) is
         ∙ count_held name busy.code busy.id (Some region) tables.queues.queued other (first_codes busy.code tables.queues.queued busy.id free.ordered free.first)
 
-    pub follows_taken : (tables' : TablesState) (states' : List CodeState) → tables' ≡ held tables busy.id region → IsFirstFree tables.queues.queued busy.code busy.id
+    pub follows_taken : (tables' : TablesState) (states' : List CodeState) → tables' ≡ message_held tables busy.id region → IsFirstFree tables.queues.queued busy.code busy.id
         → states' ≡ all_followed system.codes (λ name. free_count name tables'.queues.queued) (busy.code ∷ []) states
         → IsFollowed system (λ name. free_count name tables'.queues.queued) states states'
     follows_taken tables' states' is free follow =
         followed_all system (λ name. free_count name tables.queues.queued) (λ name. free_count name tables'.queues.queued) (busy.code ∷ []) states states' parts.valid parts.states_are parts.settled
         (λ name none. others_wait tables' is free name (or_none (bytes_eq name busy.code) false none).0) follow
 
-    pub moment_taken : (tables' : TablesState) (states' : List CodeState) → tables' ≡ held tables busy.id region → busy.taken ≡ 1 → calls_made busy.unit ≡ 0
+    pub moment_taken : (tables' : TablesState) (states' : List CodeState) → tables' ≡ message_held tables busy.id region → busy.taken ≡ 1 → calls_made busy.unit ≡ 0
         → IsFollowed system (λ name. free_count name tables'.queues.queued) states states'
         → Scheduled busy.code busy.id ≡ turn_answer system moment_now region []
-        → record { lasting = lasting_of (settings_of states') tables'; slots = slots_of (slice_set regions (region - 1) (Some busy)); enqueues = tables'.databases.table; raised = flags_of states' }
+        → record { lasting = lasting_of (settings_of states') tables'; slots = work_slots (slice_set regions (region - 1) (Some busy)); enqueues = tables'.databases.table; raised = flags_of states' }
         ≡ After system moment_now (Turn region) []
     moment_taken tables' states' is one none follows says =
-        moment_is system moment_now.lasting (slice_set (slots_of regions) (region - 1) (Some (record { code = busy.code; taken = 1; id = busy.id; calls = 0 }))) tables' states states' (slice_set regions (region - 1) (Some busy)) tables.databases.table
+        moment_is system moment_now.lasting (slice_set (work_slots regions) (region - 1) (Some (record { code = busy.code; taken = 1; id = busy.id; calls = 0 }))) tables' states states' (slice_set regions (region - 1) (Some busy)) tables.databases.table
         follows (rw is told_taken)
         (ap (lasting_of (settings_of states)) is ∙ ap {A = List Message} (λ ms. record (lasting_of (settings_of states) tables) { messages = ms }) (messages_held busy.id (Some region) tables.queues.queued))
         (set_slots regions (region - 1) (Some busy)
-        ∙ ap (λ n. slice_set (slots_of regions) (region - 1) (Some (record { code = busy.code; taken = n; id = busy.id; calls = calls_made busy.unit }))) one
-        ∙ ap (λ n. slice_set (slots_of regions) (region - 1) (Some (record { code = busy.code; taken = 1; id = busy.id; calls = n }))) none)
+        ∙ ap (λ n. slice_set (work_slots regions) (region - 1) (Some (record { code = busy.code; taken = n; id = busy.id; calls = calls_made busy.unit }))) one
+        ∙ ap (λ n. slice_set (work_slots regions) (region - 1) (Some (record { code = busy.code; taken = 1; id = busy.id; calls = n }))) none)
         (ap (λ t. t.databases.table) is)
         ∙ sym (turn_leaves system moment_now region [] None (Scheduled busy.code busy.id) None tables.databases.table (empty_slot empty) (sym says) refl refl)
 
-    pub scheduled_turned : (tables' : TablesState) (states' : List CodeState) → tables' ≡ held tables busy.id region → busy.taken ≡ 1 → calls_made busy.unit ≡ 0
+    pub scheduled_turned : (tables' : TablesState) (states' : List CodeState) → tables' ≡ message_held tables busy.id region → busy.taken ≡ 1 → calls_made busy.unit ≡ 0
         → IsFollowed system (λ name. free_count name tables'.queues.queued) states states'
         → Scheduled busy.code busy.id ≡ turn_answer system moment_now region []
-        → IsTurned (record { system = system; moment = moment_now; databases = tables.databases })
-        (record { system = system; moment = record { lasting = lasting_of (settings_of states') tables'; slots = slots_of (slice_set regions (region - 1) (Some busy)); enqueues = tables'.databases.table; raised = flags_of states' }; databases = tables'.databases })
+        → IsRegionTurned (record { system = system; moment = moment_now; databases = tables.databases })
+        (record { system = system; moment = record { lasting = lasting_of (settings_of states') tables'; slots = work_slots (slice_set regions (region - 1) (Some busy)); enqueues = tables'.databases.table; raised = flags_of states' }; databases = tables'.databases })
         region (Scheduled busy.code busy.id)
     scheduled_turned tables' states' is one none follows says = record {
       victims = nobody empty;

@@ -7,11 +7,11 @@ use Rattle.model_system.specs.System.{System}
 use Rattle.model_system.specs.Jobs.{Job}
 use Rattle.model_machine.specs.Trial.{Given}
 use Rattle.message_run.specs.RunState.{RunState}
-use Rattle.message_run.specs.Ahead.{IsAhead}
-use Rattle.program_rows.specs.State.{DatabasesState, IsClean, settled, with_marks}
+use Rattle.message_run.specs.WorkAhead.{IsAhead}
+use Rattle.program_rows.specs.DatabasesState.{DatabasesState, IsClean, with_all_settled, with_marks}
 use Rattle.lasting_state.specs.Tables.{TablesState}
 use Rattle.region_work.specs.declared.region.Busy.{Busy}
-use Rattle.region_work.specs.Region.{IsUnit, given_in}
+use Rattle.region_work.specs.RegionWork.{IsRegionUnit, given_in}
 use Rattle.tm_machine.specs.Parts.{AreParts, AreAtWork, AreIdle}
 
 clean_marked : (changed : List (List ℕ)) (region : ℕ) (d : DatabasesState) → IsClean region d → IsClean region (with_marks changed d)
@@ -32,8 +32,8 @@ ahead_marked changed job given region d run a = record {
   standing = a.standing;
 }
 
-unit_marked : (changed : List (List ℕ)) (job : Job) (given : Given) (region : ℕ) (d : DatabasesState) (unit : Option RunState) → IsUnit job given region d unit
-    → IsUnit job given region (with_marks changed d) unit
+unit_marked : (changed : List (List ℕ)) (job : Job) (given : Given) (region : ℕ) (d : DatabasesState) (unit : Option RunState) → IsRegionUnit job given region d unit
+    → IsRegionUnit job given region (with_marks changed d) unit
 unit_marked changed job given region d None clean = clean_marked changed region d clean
 unit_marked changed job given region d (Some run) ahead = ahead_marked changed job given region d run ahead
 
@@ -69,5 +69,5 @@ parts_marked changed system tables states regions p = record {
 }
 
 pub parts_settled : (system : System) (tables : TablesState) (states : List CodeState) (regions : List (Option Busy)) → AreParts system tables states regions
-    → AreParts system (record tables { databases = settled tables.databases }) states regions
+    → AreParts system (record tables { databases = with_all_settled tables.databases }) states regions
 parts_settled system tables states regions p = parts_marked (map (λ (numbers : List ℕ). []) tables.databases.changed) system tables states regions p

@@ -10,10 +10,10 @@ use Rattle.model_machine.specs.declared.entry.ShowAnswer.{ShowAnswer}
 use Rattle.model_machine.specs.declared.entry.ShowAnswer.TheVariants.{Reply as ShowReply, Empty as ShowEmpty, Stopped as ShowStopped, Unknown as ShowUnknown}
 use Rattle.model_machine.specs.declared.lasting.TerminalState.{TerminalState}
 use Rattle.model_machine.specs.Machine.{terminal_at}
-use Rattle.model_machine.specs.Steps.{show_by, show_to}
+use Rattle.model_machine.specs.MachineCalls.{show_by, show_to}
 use Rattle.lasting_state.specs.declared.shown.Shown.{Shown}
 use Rattle.lasting_state.specs.declared.shown.Shown.TheVariants.{Reply as ShownReply, Empty, Stopped, Unknown}
-use Rattle.lasting_state.specs.Showing.{IsShown, IsShownTo, IsShownWhere}
+use Rattle.lasting_state.specs.ShownTerminal.{IsShown, IsShownTo, IsShownWhere}
 use Rattle.tm_machine.proofs.Asked.{place_is, at_place}
 
 -- the answer that tells of it

@@ -7,8 +7,8 @@ use Rattle.std.proofs.lemmas.List.{append-nil, append_assoc}
 use Rattle.tm_types.specs.declared.message.Message.{Message}
 use Rattle.tm_types.specs.declared.dbd.Dbd.{Dbd}
 use Rattle.tm_types.specs.declared.resource.Resource.{Resource}
-use Rattle.system_types.specs.Valid.{IsDatabase}
-use Rattle.model_messages.specs.Queue.{message_at}
+use Rattle.system_types.specs.ValidSystem.{IsDatabase}
+use Rattle.model_messages.specs.Queue.{queued_message}
 use Rattle.model_system.specs.declared.code_state.CodeState.{CodeState}
 use Rattle.model_system.specs.Jobs.{job_of}
 use Rattle.model_system.specs.System.{System}
@@ -19,19 +19,19 @@ use Rattle.model_machine.specs.declared.entry.Turned.TheVariants.{Scheduled, Cal
 use Rattle.model_machine.specs.Requests.{without_victims}
 use Rattle.model_machine.specs.Machine.{Moment, Slot, slot_at, slot_in}
 use Rattle.log_records.specs.declared.record.Record.{Record}
-use Rattle.log_records.specs.Spelling.{number2, content, record_length, spelling, IsRecord}
+use Rattle.log_records.specs.RecordSpelling.{number2, record_content, record_length, record_spelling, IsLogRecord}
 use Rattle.log_records.proofs.FieldLaws.{number2_length}
-use Rattle.program_rows.specs.State.{DatabasesState}
-use Rattle.log_records.specs.Telling.{spelled, Tells as RowsTell}
-use Rattle.program_rows.specs.OnSlots.{SlotsState, slots_in, GivesUpSo, HaveSlots, AreOnSlots}
+use Rattle.program_rows.specs.DatabasesState.{DatabasesState}
+use Rattle.log_records.specs.ToldRecords.{spelled_records, TellsInRoom as RowsTell}
+use Rattle.program_rows.specs.SlotsState.{SlotsState, slots_state_of, GivesUpSo, HaveSlots, AreOnSlots}
 use Rattle.message_run.proofs.Calls.{all_at}
-use Rattle.message_run.specs.Telling.{next_told}
+use Rattle.message_run.specs.MessageChanges.{next_told}
 use Rattle.lasting_state.specs.Tables.{TablesState, lasting_of}
 use Rattle.region_work.specs.declared.region.Busy.{Busy}
-use Rattle.region_work.specs.Region.{given_in, HasNext, NextTells, calls_made}
-use Rattle.tm_machine.specs.Parts.{PartsState, slots_of, settings_of, flags_of, AreDatabases, AreParts}
-use Rattle.tm_machine.specs.OnSlots.{slots_now, GiveUpSo, VictimsGiveUp, slot_told, changes_told, turn_records, TellByCall, TurnTells, IsTurnLonger, TurnsSo, HasSlots}
-use Rattle.tm_machine.specs.Told.{bytes_of, records_of, IsLonger, Tells}
+use Rattle.region_work.specs.RegionWork.{given_in, HasNext, NextTells, calls_made}
+use Rattle.tm_machine.specs.Parts.{PartsState, work_slots, settings_of, flags_of, AreDatabases, AreParts}
+use Rattle.tm_machine.specs.SlotChanges.{slots_now, GiveUpSo, VictimsGiveUp, next_call_told, changes_told, turn_records, TellByCall, TurnTells, IsTurnLonger, TurnsSo, HasSlots}
+use Rattle.tm_machine.specs.ToldByCall.{told_bytes_of, told_records_of, IsCallLonger, TellsLastingStep}
 use Rattle.tm_machine.specs.Turns.{waited}
 use Rattle.tm_machine.specs.Victims.{all_gave_way, gave_way}
 use Rattle.tm_machine.proofs.Stepped.{moment_at, slot_is, trial_is}
@@ -42,7 +42,7 @@ module _ (system : System) (tables : TablesState) (states : List CodeState) (reg
   state_now = record { system = system; moment = moment_at system tables states regions region parts regions; databases = tables.databases }
 
   abbrev told_by : ℕ → Option Slot → List Record
-  told_by unit found = option_map_or (λ slot. option_map_or (slot_told state_now unit region slot) (job_of system slot.code) []) found []
+  told_by unit found = option_map_or (λ slot. option_map_or (next_call_told state_now unit region slot) (job_of system slot.code) []) found []
 
   abbrev slot_for : Busy → Slot
   slot_for busy = record { code = busy.code; taken = busy.taken; id = busy.id; calls = calls_made busy.unit }
@@ -50,19 +50,19 @@ module _ (system : System) (tables : TablesState) (states : List CodeState) (reg
   -- what holds of what its work tells next holds of what its turn tells
   pub next_of : (holds : List Record → Type 0) (unit : ℕ) (old : Option Busy) → slice_get regions (region - 1) ≡ Some old → NextTells system region unit tables holds old → holds (changes_told state_now unit region)
   next_of holds unit None e h = subst holds (sym (ap (told_by unit) (slot_is system tables states regions region parts None e))) h
-  next_of holds unit (Some busy) e h = by (message_at busy.id tables.queues.queued) refl h
+  next_of holds unit (Some busy) e h = by (queued_message busy.id tables.queues.queued) refl h
     where
-      one : (message : Message) → message_at busy.id tables.queues.queued ≡ Some message → HasNext system region unit tables.databases (given_in tables.conversations message) busy holds
+      one : (message : Message) → queued_message busy.id tables.queues.queued ≡ Some message → HasNext system region unit tables.databases (given_in tables.conversations message) busy holds
           → holds (changes_told state_now unit region)
       one message found n =
           let trial = trial_is system tables states regions region parts (slot_for busy) message n.job n.trial found n.serves n.made in
           let is : changes_told state_now unit region ≡ next_told unit region tables.databases n.job n.trial =
           ap (told_by unit) (slot_is system tables states regions region parts (Some busy) e)
-          ∙ (ap (λ o. option_map_or (slot_told state_now unit region (slot_for busy)) o []) n.serves
+          ∙ (ap (λ o. option_map_or (next_call_told state_now unit region (slot_for busy)) o []) n.serves
           ∙ ap (λ o. option_map_or (next_told unit region tables.databases n.job) o []) trial) in
           subst holds (sym is) n.is
 
-      by : (found : Option Message) → message_at busy.id tables.queues.queued ≡ found → IsSomeAnd found (λ message. HasNext system region unit tables.databases (given_in tables.conversations message) busy holds)
+      by : (found : Option Message) → queued_message busy.id tables.queues.queued ≡ found → IsSomeAnd found (λ message. HasNext system region unit tables.databases (given_in tables.conversations message) busy holds)
           → holds (changes_told state_now unit region)
       by (Some message) f g = one message f g
       by None f g = absurd g
@@ -70,87 +70,87 @@ module _ (system : System) (tables : TablesState) (states : List CodeState) (reg
 -- ---- records and bytes
 
 -- records that are spelled in no bytes are none
-spelled_none : (records : List Record) → length (spelled records) ≡ 0 → records ≡ []
+spelled_none : (records : List Record) → length (spelled_records records) ≡ 0 → records ≡ []
 spelled_none [] e = refl
 spelled_none (r ∷ records) e =
-    let whole : length (spelling r ++ spelled records) ≡ length (spelling r) + length (spelled records) = length-append (spelling r) (spelled records) in
-    let one : length (spelling r) ≡ length (number2 (record_length r)) + length (content r) = length-append (number2 (record_length r)) (content r) in
+    let whole : length (record_spelling r ++ spelled_records records) ≡ length (record_spelling r) + length (spelled_records records) = length-append (record_spelling r) (spelled_records records) in
+    let one : length (record_spelling r) ≡ length (number2 (record_length r)) + length (record_content r) = length-append (number2 (record_length r)) (record_content r) in
     let two : length (number2 (record_length r)) ≡ 2 = number2_length (record_length r) in
     absurd (omega (arith, e, whole, one, two))
 
 -- where nothing was added, nothing was told
 pub none_added : (records : List Record) (room : ℕ) (told now : List ℕ) → now ≡ told → RowsTell records room told now → records ≡ []
 none_added records room told now same t =
-    spelled_none records (omega (arith, ap length (sym same ∙ t.told), length-append told (spelled records)))
+    spelled_none records (omega (arith, ap length (sym same ∙ t.told), length-append told (spelled_records records)))
 
 pub none_told : (records : List Record) (room : ℕ) (told now : List ℕ) → records ≡ [] → RowsTell records room told now → now ≡ told
-none_told records room told now none t = t.told ∙ (ap (λ rs. told ++ spelled rs) none ∙ append-nil told)
+none_told records room told now none t = t.told ∙ (ap (λ rs. told ++ spelled_records rs) none ∙ append-nil told)
 
-flat_two : (a b : List Record) → flat_map spelling (a ++ b) ≡ flat_map spelling a ++ flat_map spelling b
+flat_two : (a b : List Record) → flat_map record_spelling (a ++ b) ≡ flat_map record_spelling a ++ flat_map record_spelling b
 flat_two [] b = refl
-flat_two (r ∷ a) b = ap (λ bs. spelling r ++ bs) (flat_two a b) ∙ sym (append_assoc (spelling r) (flat_map spelling a) (flat_map spelling b))
+flat_two (r ∷ a) b = ap (λ bs. record_spelling r ++ bs) (flat_two a b) ∙ sym (append_assoc (record_spelling r) (flat_map record_spelling a) (flat_map record_spelling b))
 
 -- ---- what a turn tells
 module _ (state : PartsState) (unit room region : ℕ) where
   -- its call tells what it changes, and it ends no work
-  pub tells_call : (told now : List ℕ) → RowsTell (changes_told state unit region) room told now → Tells state.system state.moment unit room (Turn region) now now → TurnTells state unit room region told now
+  pub tells_call : (told now : List ℕ) → RowsTell (changes_told state unit region) room told now → TellsLastingStep state.system state.moment unit room (Turn region) now now → TurnTells state unit room region told now
   tells_call told now t quiet =
-      let none : length (bytes_of state.system state.moment unit (Turn region)) ≡ 0 =
-      omega (arith, ap length quiet.told, length-append now (bytes_of state.system state.moment unit (Turn region))) in
-      let records : records_of state.system state.moment unit (Turn region) ≡ [] = spelled_none (records_of state.system state.moment unit (Turn region)) none in
+      let none : length (told_bytes_of state.system state.moment unit (Turn region)) ≡ 0 =
+      omega (arith, ap length quiet.told, length-append now (told_bytes_of state.system state.moment unit (Turn region))) in
+      let records : told_records_of state.system state.moment unit (Turn region) ≡ [] = spelled_none (told_records_of state.system state.moment unit (Turn region)) none in
       let all : turn_records state unit region ≡ changes_told state unit region = ap (λ rs. changes_told state unit region ++ rs) records ∙ append-nil (changes_told state unit region) in
       record {
-        told = t.told ∙ ap (λ rs. told ++ flat_map spelling rs) (sym all);
+        told = t.told ∙ ap (λ rs. told ++ flat_map record_spelling rs) (sym all);
         changes = t.valid;
         steps = quiet.valid;
-        fits = subst (λ rs. length (flat_map spelling rs) ≤ room) (sym all) t.fits;
+        fits = subst (λ rs. length (flat_map record_spelling rs) ≤ room) (sym all) t.fits;
       }
 
   -- it makes no call
-  pub tells_end : (told now later : List ℕ) → changes_told state unit region ≡ [] → now ≡ told → Tells state.system state.moment unit room (Turn region) now later → TurnTells state unit room region told later
+  pub tells_end : (told now later : List ℕ) → changes_told state unit region ≡ [] → now ≡ told → TellsLastingStep state.system state.moment unit room (Turn region) now later → TurnTells state unit room region told later
   tells_end told now later none same t =
-      let all : turn_records state unit region ≡ records_of state.system state.moment unit (Turn region) = ap (λ rs. rs ++ records_of state.system state.moment unit (Turn region)) none in
+      let all : turn_records state unit region ≡ told_records_of state.system state.moment unit (Turn region) = ap (λ rs. rs ++ told_records_of state.system state.moment unit (Turn region)) none in
       record {
-        told = t.told ∙ (ap (λ bs. bs ++ bytes_of state.system state.moment unit (Turn region)) same ∙ ap (λ rs. told ++ flat_map spelling rs) (sym all));
-        changes = subst (λ rs. AllByRecursion IsRecord rs) (sym none) tt;
+        told = t.told ∙ (ap (λ bs. bs ++ told_bytes_of state.system state.moment unit (Turn region)) same ∙ ap (λ rs. told ++ flat_map record_spelling rs) (sym all));
+        changes = subst (λ rs. AllByRecursion IsLogRecord rs) (sym none) tt;
         steps = t.valid;
-        fits = subst (λ rs. length (flat_map spelling rs) ≤ room) (sym all) t.fits;
+        fits = subst (λ rs. length (flat_map record_spelling rs) ≤ room) (sym all) t.fits;
       }
 
-  pub longer_call : room < length (spelled (changes_told state unit region)) → IsTurnLonger state unit room region
+  pub longer_call : room < length (spelled_records (changes_told state unit region)) → IsTurnLonger state unit room region
   longer_call h =
       omega (
         arith,
         h,
-        ap length (flat_two (changes_told state unit region) (records_of state.system state.moment unit (Turn region))),
-        length-append (flat_map spelling (changes_told state unit region)) (flat_map spelling (records_of state.system state.moment unit (Turn region))),
+        ap length (flat_two (changes_told state unit region) (told_records_of state.system state.moment unit (Turn region))),
+        length-append (flat_map record_spelling (changes_told state unit region)) (flat_map record_spelling (told_records_of state.system state.moment unit (Turn region))),
       )
 
-  pub longer_end : IsLonger state.system state.moment unit room (Turn region) → IsTurnLonger state unit room region
+  pub longer_end : IsCallLonger state.system state.moment unit room (Turn region) → IsTurnLonger state unit room region
   longer_end h =
       omega (
         arith,
         h,
-        ap length (flat_two (changes_told state unit region) (records_of state.system state.moment unit (Turn region))),
-        length-append (flat_map spelling (changes_told state unit region)) (flat_map spelling (records_of state.system state.moment unit (Turn region))),
+        ap length (flat_two (changes_told state unit region) (told_records_of state.system state.moment unit (Turn region))),
+        length-append (flat_map record_spelling (changes_told state unit region)) (flat_map record_spelling (told_records_of state.system state.moment unit (Turn region))),
       )
 
 -- the same of a turn that began behind a step which left all as it was
 pub tells_later : (old middle : PartsState) (unit room region : ℕ) (told now later : List ℕ) → middle ≡ old → changes_told old unit region ≡ [] → now ≡ told
-    → Tells middle.system middle.moment unit room (Turn region) now later → TurnTells old unit room region told later
+    → TellsLastingStep middle.system middle.moment unit room (Turn region) now later → TurnTells old unit room region told later
 tells_later old middle unit room region told now later same none quiet t =
-    tells_end old unit room region told now later none quiet (subst (λ (s : PartsState). Tells s.system s.moment unit room (Turn region) now later) same t)
+    tells_end old unit room region told now later none quiet (subst (λ (s : PartsState). TellsLastingStep s.system s.moment unit room (Turn region) now later) same t)
 
-pub longer_later : (old middle : PartsState) (unit room region : ℕ) → middle ≡ old → IsLonger middle.system middle.moment unit room (Turn region) → IsTurnLonger old unit room region
+pub longer_later : (old middle : PartsState) (unit room region : ℕ) → middle ≡ old → IsCallLonger middle.system middle.moment unit room (Turn region) → IsTurnLonger old unit room region
 longer_later old middle unit room region same h =
-    longer_end old unit room region (subst (λ (s : PartsState). IsLonger s.system s.moment unit room (Turn region)) same h)
+    longer_end old unit room region (subst (λ (s : PartsState). IsCallLonger s.system s.moment unit room (Turn region)) same h)
 
 pub turns_later : (old middle new : PartsState) (unit region : ℕ) (turned : Turned) → middle ≡ old → TurnsSo middle new unit region turned → TurnsSo old new unit region turned
 turns_later old middle new unit region turned same h = subst (λ (s : PartsState). TurnsSo s new unit region turned) same h
 
 -- an empty region tells nothing
 pub empty_tells : (state : PartsState) (unit region : ℕ) → slot_at state.moment region ≡ None → changes_told state unit region ≡ []
-empty_tells state unit region e = ap (λ (found : Option Slot). option_map_or (λ slot. option_map_or (slot_told state unit region slot) (job_of state.system slot.code) []) found []) e
+empty_tells state unit region e = ap (λ (found : Option Slot). option_map_or (λ slot. option_map_or (next_call_told state unit region slot) (job_of state.system slot.code) []) found []) e
 
 -- where nothing is told of slots
 pub by_call : (changes : List Record) (turned : Turned) → changes ≡ [] → TellByCall changes turned
@@ -209,20 +209,20 @@ waits_so old middle new unit region resource by (v ∷ victims) system slots sam
 
 -- a call that waits leaves the slots
 pub table_alone : (old new : PartsState) → new.databases ≡ record old.databases { table = new.databases.table } → slots_now new ≡ slots_now old
-table_alone old new e = ap slots_in e
+table_alone old new e = ap slots_state_of e
 
 -- ---- what always holds
 
-pub have_by : (system : System) (databases : DatabasesState) → AreDatabases system databases → AreOnSlots databases → HaveSlots system.databases (length system.regions) (slots_in databases)
+pub have_by : (system : System) (databases : DatabasesState) → AreDatabases system databases → AreOnSlots databases → HaveSlots system.databases (length system.regions) (slots_state_of databases)
 have_by system databases are on =
-    subst (λ n. HaveSlots system.databases n (slots_in databases)) are.regions (subst (λ dbds. HaveSlots dbds (length databases.regions) (slots_in databases)) are.stores on.have)
+    subst (λ n. HaveSlots system.databases n (slots_state_of databases)) are.regions (subst (λ dbds. HaveSlots dbds (length databases.regions) (slots_state_of databases)) are.stores on.have)
 
 sector_each : (dbds : List Dbd) → ((i : ℕ) (d : Dbd) → slice_get dbds i ≡ Some d → IsDatabase d) → AllByRecursion (λ dbd. dbd.sectors ≤ 1) dbds
 sector_each [] h = tt
 sector_each (d ∷ dbds) h = (let one : d.sectors ≡ 1 = (h 0 d refl).sectors in omega (arith, one), sector_each dbds (λ i x q. h (suc i) x q))
 
 pub has_slots : (system : System) (tables : TablesState) (states : List CodeState) (regions : List (Option Busy)) → AreParts system tables states regions → AreOnSlots tables.databases
-    → HasSlots (record { system = system; moment = record { lasting = lasting_of (settings_of states) tables; slots = slots_of regions; enqueues = tables.databases.table; raised = flags_of states }; databases = tables.databases })
+    → HasSlots (record { system = system; moment = record { lasting = lasting_of (settings_of states) tables; slots = work_slots regions; enqueues = tables.databases.table; raised = flags_of states }; databases = tables.databases })
 has_slots system tables states regions parts on = record {
   have = have_by system tables.databases parts.databases on;
   one_sector = sector_each system.databases (λ i d q. all_at IsDatabase system.databases i d parts.valid.databases q);

@@ -13,22 +13,22 @@ use Rattle.model_system.specs.declared.code_state.CodeState.{CodeState}
 use Rattle.model_system.specs.Lists.{change_at}
 use Rattle.model_system.specs.System.{System}
 use Rattle.system_types.specs.Codes as codes
-use Rattle.system_types.specs.Valid.{IsSystem}
+use Rattle.system_types.specs.ValidSystem.{IsSystem}
 use Rattle.model_machine.specs.declared.entry.Taken.{Taken}
 use Rattle.model_machine.specs.declared.entry.Taken.TheVariants.{New}
 use Rattle.model_machine.specs.declared.entry.InputRefused.{InputRefused}
 use Rattle.model_machine.specs.declared.entry.ControlCall.TheVariants.{Input}
 use Rattle.model_machine.specs.declared.lasting.TerminalState.{TerminalState}
 use Rattle.model_machine.specs.Machine.{LastingState, Moment, terminal_place, fresh_terminal_state, first_setting, raised_now, moment_with, empty_state, start_of}
-use Rattle.model_machine.specs.Lasting.{KeptInput, input_message, kept_input, with_begun, with_last, applied}
-use Rattle.model_machine.specs.Lasting.LastingStep.{Accepts}
-use Rattle.model_machine.specs.Steps.{accepts, input_answer, After}
+use Rattle.model_machine.specs.LastingSteps.{KeptInput, input_message, kept_input, with_begun, with_last_number, applied}
+use Rattle.model_machine.specs.LastingSteps.LastingStep.{Accepts}
+use Rattle.model_machine.specs.MachineCalls.{accepted_step, input_answer, After}
 use Rattle.model_machine.specs.Flags.{all_followed}
 use Rattle.model_data.specs.Table.{empty_table, wait_of}
-use Rattle.program_rows.specs.State.{DatabasesState, RegionRows, AreRowsOf, IsClean, clean_region, committed_rows, dbds_of, no_rows, region_at}
+use Rattle.program_rows.specs.DatabasesState.{DatabasesState, RegionRows, AreRowsOf, IsClean, clean_region, committed_rows, dbds_of, no_rows, region_at}
 use Rattle.lasting_state.specs.Tables.{TablesState, lasting_of, enqueued}
 use Rattle.region_work.specs.declared.region.Busy.{Busy}
-use Rattle.tm_machine.specs.Parts.{slots_of, settings_of, flags_of, IsTold, AreConversations, AreParts, IsConversation}
+use Rattle.tm_machine.specs.Parts.{work_slots, settings_of, flags_of, AreHoldersTold, AreConversations, AreParts, IsConversationOf}
 use Rattle.tm_machine.proofs.Joining.{Joined}
 use Rattle.lasting_state.proofs.Finished.{messages_both}
 use Rattle.tm_machine.proofs.Free.{count_added, or_none}
@@ -41,7 +41,7 @@ none_busy zero place busy e = cc
 none_busy (suc n) zero busy e = cc
 none_busy (suc n) (suc place) busy e = none_busy n place busy e
 
-pub none_slots : (n : ℕ) → slots_of (replicate n None) ≡ replicate n None
+pub none_slots : (n : ℕ) → work_slots (replicate n None) ≡ replicate n None
 none_slots zero = refl
 none_slots (suc n) = ap (λ ss. None ∷ ss) (none_slots n)
 
@@ -98,7 +98,7 @@ conversing_names : (terminals : List (List ℕ)) → map (λ t. t.terminal) (map
 conversing_names [] = refl
 conversing_names (name ∷ terminals) = ap (λ ns. name ∷ ns) (conversing_names terminals)
 
-no_pads : (system : System) (terminals : List (List ℕ)) → AllByRecursion (λ t. IfSome t.conversation (IsConversation system)) (map without_conversation terminals)
+no_pads : (system : System) (terminals : List (List ℕ)) → AllByRecursion (λ t. IfSome t.conversation (IsConversationOf system)) (map without_conversation terminals)
 no_pads system [] = tt
 no_pads system (name ∷ terminals) = (tt, no_pads system terminals)
 
@@ -119,7 +119,7 @@ parts_start system tables states regions valid queues lasting empty first dbds c
   at_work = λ place busy e. absurd (none_busy (length system.regions) place busy (sym (ap (λ rs. slice_get rs place) empty) ∙ e));
   conversations = record {
     names = ap (λ l. map (λ t. t.terminal) l.conversations) lasting ∙ conversing_names system.terminals;
-    pads = subst (AllByRecursion (λ t. IfSome t.conversation (IsConversation system))) (sym (ap (λ l. l.conversations) lasting)) (no_pads system system.terminals);
+    pads = subst (AllByRecursion (λ t. IfSome t.conversation (IsConversationOf system))) (sym (ap (λ l. l.conversations) lasting)) (no_pads system system.terminals);
     belong = rw (ap (λ q. q.queued) queues) tt;
     alone = rw (ap (λ q. q.queued) queues) tt;
   };
@@ -133,26 +133,26 @@ parts_start system tables states regions valid queues lasting empty first dbds c
 pub moment_start : (system : System) (tables : TablesState) (states : List CodeState) (regions : List (Option Busy)) → AreParts system tables states regions
     → lasting_of (map first_setting system.codes) tables ≡ empty_state system → regions ≡ replicate (length system.regions) None → states ≡ map codes.first_state system.codes
     → tables.databases.table ≡ empty_table (length system.regions)
-    → record { lasting = lasting_of (settings_of states) tables; slots = slots_of regions; enqueues = tables.databases.table; raised = flags_of states } ≡ start_of system (empty_state system)
+    → record { lasting = lasting_of (settings_of states) tables; slots = work_slots regions; enqueues = tables.databases.table; raised = flags_of states } ≡ start_of system (empty_state system)
 moment_start system tables states regions parts lasting empty first table =
     moment_stays system tables states regions parts
-    ∙ ap (λ l. moment_with system l (slots_of regions) tables.databases.table (flags_of states)) (ap (λ ss. lasting_of ss tables) (ap settings_of first ∙ first_settings system.codes) ∙ lasting)
-    ∙ ap (λ ss. moment_with system (empty_state system) ss tables.databases.table (flags_of states)) (ap slots_of empty ∙ none_slots (length system.regions))
+    ∙ ap (λ l. moment_with system l (work_slots regions) tables.databases.table (flags_of states)) (ap (λ ss. lasting_of ss tables) (ap settings_of first ∙ first_settings system.codes) ∙ lasting)
+    ∙ ap (λ ss. moment_with system (empty_state system) ss tables.databases.table (flags_of states)) (ap work_slots empty ∙ none_slots (length system.regions))
     ∙ ap (λ t. moment_with system (empty_state system) (replicate (length system.regions) None) t (flags_of states)) table
     ∙ ap (moment_with system (empty_state system) (replicate (length system.regions) None) (empty_table (length system.regions))) (ap flags_of first ∙ first_flags system.codes)
 
 -- ---- an input comes
-names_kept : (terminals : List TerminalState) (place : Option ℕ) (number : ℕ) → map (λ t. t.name) (change_at terminals place (with_last number)) ≡ map (λ t. t.name) terminals
+names_kept : (terminals : List TerminalState) (place : Option ℕ) (number : ℕ) → map (λ t. t.name) (change_at terminals place (with_last_number number)) ≡ map (λ t. t.name) terminals
 names_kept terminals None number = refl
 names_kept terminals (Some place) number = at terminals place
   where
-    at : (ts : List TerminalState) (p : ℕ) → map (λ t. t.name) (change_at ts (Some p) (with_last number)) ≡ map (λ t. t.name) ts
+    at : (ts : List TerminalState) (p : ℕ) → map (λ t. t.name) (change_at ts (Some p) (with_last_number number)) ≡ map (λ t. t.name) ts
     at [] p = refl
     at (t ∷ ts) zero = refl
     at (t ∷ ts) (suc p) = by (slice_get ts p) (at ts p)
       where
-        by : (found : Option TerminalState) → map (λ x. x.name) (option_map_or (λ f. slice_set ts p (with_last number f)) found ts) ≡ map (λ x. x.name) ts
-            → map (λ x. x.name) (option_map_or (λ f. slice_set (t ∷ ts) (suc p) (with_last number f)) found (t ∷ ts)) ≡ t.name ∷ map (λ x. x.name) ts
+        by : (found : Option TerminalState) → map (λ x. x.name) (option_map_or (λ f. slice_set ts p (with_last_number number f)) found ts) ≡ map (λ x. x.name) ts
+            → map (λ x. x.name) (option_map_or (λ f. slice_set (t ∷ ts) (suc p) (with_last_number number f)) found (t ∷ ts)) ≡ t.name ∷ map (λ x. x.name) ts
         by (Some f) rest = ap (λ ns. t.name ∷ ns) rest
         by None rest = refl
 
@@ -168,8 +168,8 @@ module _ (system : System) (tables : TablesState) (states : List CodeState) (reg
   abbrev pub IsJoined : Type 0
   IsJoined = Joined system tables.conversations conversations_then (messages_of tables.queues.queued) message_of
 
-  told_after : IsTold (slots_of regions) tables'.queues.queued
-  told_after = rw is (new_told tables.queues.queued (slots_of regions) message_of (new_free system tables.databases tables.conversations tables.next_id tables.queues.queued regions above parts.at_work) parts.told)
+  told_after : AreHoldersTold (work_slots regions) tables'.queues.queued
+  told_after = rw is (new_told tables.queues.queued (work_slots regions) message_of (new_free system tables.databases tables.conversations tables.next_id tables.queues.queued regions above parts.at_work) parts.told)
 
   pub follows_enqueued : (states' : List CodeState) (name : List ℕ) → name ≡ kept.code
       → states' ≡ all_followed system.codes (λ n. free_count n tables'.queues.queued) (name ∷ []) states → IsFollowed system (λ n. free_count n tables'.queues.queued) states states'
@@ -197,26 +197,26 @@ module _ (system : System) (tables : TablesState) (states : List CodeState) (reg
   lasting_now = lasting_of (settings_of states) tables
 
   abbrev now : Moment
-  now = record { lasting = lasting_now; slots = slots_of regions; enqueues = tables.databases.table; raised = flags_of states }
+  now = record { lasting = lasting_now; slots = work_slots regions; enqueues = tables.databases.table; raised = flags_of states }
 
   pub moment_enqueued : (segments : List (List ℕ)) (states' : List CodeState) (id : ℕ) → kept ≡ kept_input system lasting_now terminal segments
       → IsFollowed system (λ n. free_count n tables'.queues.queued) states states'
       → lasting_of (settings_of states) tables' ≡ applied (Accepts terminal number kept) lasting_now
       → Ok (New id) ≡ input_answer system now terminal number segments
-      → record { lasting = lasting_of (settings_of states') tables'; slots = slots_of regions; enqueues = tables'.databases.table; raised = flags_of states' }
+      → record { lasting = lasting_of (settings_of states') tables'; slots = work_slots regions; enqueues = tables'.databases.table; raised = flags_of states' }
       ≡ After system now (Input terminal number segments) []
   moment_enqueued segments states' id kept_is follows applies answer =
-      moment_is system (applied (Accepts terminal number kept) lasting_now) (slots_of regions) tables' states states' regions tables.databases.table follows told_after applies refl (ap (λ t. t.databases.table) is)
-      ∙ ap (λ a. moment_with system (option_map_or (λ s. applied s lasting_now) (accepts terminal number kept a) lasting_now) (slots_of regions) tables.databases.table (flags_of states)) answer
-      ∙ ap (λ k. moment_with system (option_map_or (λ s. applied s lasting_now) (accepts terminal number k (input_answer system now terminal number segments)) lasting_now) (slots_of regions) tables.databases.table (flags_of states)) kept_is
+      moment_is system (applied (Accepts terminal number kept) lasting_now) (work_slots regions) tables' states states' regions tables.databases.table follows told_after applies refl (ap (λ t. t.databases.table) is)
+      ∙ ap (λ a. moment_with system (option_map_or (λ s. applied s lasting_now) (accepted_step terminal number kept a) lasting_now) (work_slots regions) tables.databases.table (flags_of states)) answer
+      ∙ ap (λ k. moment_with system (option_map_or (λ s. applied s lasting_now) (accepted_step terminal number k (input_answer system now terminal number segments)) lasting_now) (work_slots regions) tables.databases.table (flags_of states)) kept_is
 
 -- an input that isn't new leaves the moment
 pub moment_refused : (system : System) (tables : TablesState) (states : List CodeState) (regions : List (Option Busy)) (terminal : List ℕ) (number : ℕ) (segments : List (List ℕ))
-    (answer : Result Taken InputRefused) → AreParts system tables states regions → accepts terminal number (kept_input system (lasting_of (settings_of states) tables) terminal segments) answer ≡ None
-    → answer ≡ input_answer system (record { lasting = lasting_of (settings_of states) tables; slots = slots_of regions; enqueues = tables.databases.table; raised = flags_of states }) terminal number segments
-    → record { lasting = lasting_of (settings_of states) tables; slots = slots_of regions; enqueues = tables.databases.table; raised = flags_of states }
-    ≡ After system (record { lasting = lasting_of (settings_of states) tables; slots = slots_of regions; enqueues = tables.databases.table; raised = flags_of states }) (Input terminal number segments) []
+    (answer : Result Taken InputRefused) → AreParts system tables states regions → accepted_step terminal number (kept_input system (lasting_of (settings_of states) tables) terminal segments) answer ≡ None
+    → answer ≡ input_answer system (record { lasting = lasting_of (settings_of states) tables; slots = work_slots regions; enqueues = tables.databases.table; raised = flags_of states }) terminal number segments
+    → record { lasting = lasting_of (settings_of states) tables; slots = work_slots regions; enqueues = tables.databases.table; raised = flags_of states }
+    ≡ After system (record { lasting = lasting_of (settings_of states) tables; slots = work_slots regions; enqueues = tables.databases.table; raised = flags_of states }) (Input terminal number segments) []
 moment_refused system tables states regions terminal number segments answer parts none says =
     moment_stays system tables states regions parts
-    ∙ ap (λ o. moment_with system (option_map_or (λ s. applied s (lasting_of (settings_of states) tables)) o (lasting_of (settings_of states) tables)) (slots_of regions) tables.databases.table (flags_of states))
-    (sym none ∙ ap (accepts terminal number (kept_input system (lasting_of (settings_of states) tables) terminal segments)) says)
+    ∙ ap (λ o. moment_with system (option_map_or (λ s. applied s (lasting_of (settings_of states) tables)) o (lasting_of (settings_of states) tables)) (work_slots regions) tables.databases.table (flags_of states))
+    (sym none ∙ ap (accepted_step terminal number (kept_input system (lasting_of (settings_of states) tables) terminal segments)) says)

@@ -3,7 +3,7 @@ use Rattle.std.proofs.Common.{◌≡◌, ℕ, zero, suc, ◌+◌, ◌-◌, ◌�
 use Rattle.std.specs.Prelude.{Option, Some, None, IsSomeAnd, IfSome, slice_get, slice_set, unwrap_or}
 use Rattle.std.specs.Option.{option_map, option_and_then}
 use Rattle.tm_types.specs.declared.message.Message.{Message}
-use Rattle.model_messages.specs.Queue.{message_at, messages_of}
+use Rattle.model_messages.specs.Queue.{queued_message, messages_of}
 use Rattle.model_messages.proofs.Laws.{message_found}
 use Rattle.model_system.specs.declared.code_state.CodeState.{CodeState}
 use Rattle.model_system.specs.System.{System}
@@ -11,16 +11,16 @@ use Rattle.model_system.specs.Jobs.{Job, job_of}
 use Rattle.model_machine.specs.Trial.{Given, Trial, trial_of}
 use Rattle.model_machine.specs.Machine.{message_at as message_in, Moment, Slot}
 use Rattle.model_machine.specs.Requests.{requests_of}
-use Rattle.model_machine.specs.Work.{slot_trial}
-use Rattle.model_machine.specs.Steps.{slot_work, work_by}
+use Rattle.model_machine.specs.WorkSoFar.{slot_trial}
+use Rattle.model_machine.specs.MachineCalls.{slot_work, work_by}
 use Rattle.message_run.specs.declared.run.Advanced.{Advanced}
 use Rattle.message_run.specs.declared.run.Advanced.TheVariants.{Called, Ended, Waits}
-use Rattle.message_run.specs.Ahead.{IsAhead, Advances, StayOthers, StaysUnlessCalled}
-use Rattle.program_rows.specs.State.{DatabasesState, dbds_of, rows_of}
+use Rattle.message_run.specs.WorkAhead.{IsAhead, Advances, StayOthers, StaysUnlessCalled}
+use Rattle.program_rows.specs.DatabasesState.{DatabasesState, dbds_of, rows_of_stores}
 use Rattle.lasting_state.specs.Tables.{TablesState, lasting_of}
 use Rattle.region_work.specs.declared.region.Busy.{Busy}
-use Rattle.region_work.specs.Region.{given_in, IsWork, IsQueuedWork, SameMessage, StepsOn, Steps, SameWork}
-use Rattle.tm_machine.specs.Parts.{slot_of, slots_of, settings_of, flags_of, AreParts}
+use Rattle.region_work.specs.RegionWork.{given_in, IsWork, IsQueuedWork, SameMessage, WorkStepsOn, RegionSteps, SameWork}
+use Rattle.tm_machine.specs.Parts.{work_slot, work_slots, settings_of, flags_of, AreParts}
 use Rattle.tm_machine.proofs.Linked.{step_told, step_at_work, set_length, get_slots}
 use Rattle.tm_machine.proofs.Others.{IsKeptBeside, are_beside, beside_same, beside_step, idle_at_work, own_requests, rows_stay, stay_at_work}
 use Rattle.message_run.specs.RunState.{RunState}
@@ -34,7 +34,7 @@ found_all P None h m e = cc
 abbrev pub Keeps : System → ℕ → TablesState → DatabasesState → Option Busy → Option Busy → Type 0
 Keeps system region tables left None new = (new ≡ None) × (left ≡ tables.databases)
 Keeps system region tables left (Some old) (Some new) =
-    SameMessage old new × ((message : Message) → message_at old.id tables.queues.queued ≡ Some message → IsWork system left region (given_in tables.conversations message) new)
+    SameMessage old new × ((message : Message) → queued_message old.id tables.queues.queued ≡ Some message → IsWork system left region (given_in tables.conversations message) new)
     × IsKeptBeside region tables.databases left
 Keeps system region tables left (Some old) None = ⊥
 
@@ -55,23 +55,23 @@ advanced_beside job given region databases left trial old new (Waits resource by
 
 pub steps_keep : (system : System) (region : ℕ) (tables : TablesState) (left : DatabasesState) (old new : Option Busy) (advanced : Option Advanced) → 1 ≤ region
     → StayOthers region tables.databases left → IfSome advanced (StaysUnlessCalled tables.databases left)
-    → Steps system region tables left old new advanced → Keeps system region tables left old new
+    → RegionSteps system region tables left old new advanced → Keeps system region tables left old new
 steps_keep system region tables left None new None positive others stays h = h
 steps_keep system region tables left None new (Some advanced) positive others stays h = absurd h
 steps_keep system region tables left (Some old) None None positive others stays h = absurd h
 steps_keep system region tables left (Some old) None (Some advanced) positive others stays h = absurd h
 steps_keep system region tables left (Some old) (Some new) None positive others stays h = absurd h
 steps_keep system region tables left (Some old) (Some new) (Some advanced) positive others stays h =
-    by (message_at old.id tables.queues.queued) h
+    by (queued_message old.id tables.queues.queued) h
   where
-    work : (given : Given) → StepsOn system region tables.databases left given old new advanced → IsWork system left region given new
+    work : (given : Given) → WorkStepsOn system region tables.databases left given old new advanced → IsWork system left region given new
     work given s = record {
       job = s.steps.job;
       serves = ap (job_of system) s.same.code ∙ s.steps.serves;
       unit = rw s.is (advanced_ahead s.steps.job given region tables.databases left s.steps.ahead.trial s.before s.after advanced s.steps.advances);
     }
 
-    by : (found : Option Message) → IsSomeAnd found (λ message. StepsOn system region tables.databases left (given_in tables.conversations message) old new advanced)
+    by : (found : Option Message) → IsSomeAnd found (λ message. WorkStepsOn system region tables.databases left (given_in tables.conversations message) old new advanced)
         → SameMessage old new × ((message : Message) → found ≡ Some message → IsWork system left region (given_in tables.conversations message) new) × IsKeptBeside region tables.databases left
     by (Some m) s = (
       s.same,
@@ -85,7 +85,7 @@ same_keep system region tables left None new is h = absurd h
 same_keep system region tables left (Some old) None is h = absurd h
 same_keep system region tables left (Some old) (Some new) is h = (
   h.0,
-  λ message e. subst (λ d. IsWork system d region (given_in tables.conversations message) new) (sym is) (found_all (λ m. IsWork system tables.databases region (given_in tables.conversations m) new) (message_at new.id tables.queues.queued) h.2 message (ap (λ id. message_at id tables.queues.queued) h.0.id ∙ e)),
+  λ message e. subst (λ d. IsWork system d region (given_in tables.conversations message) new) (sym is) (found_all (λ m. IsWork system tables.databases region (given_in tables.conversations m) new) (queued_message new.id tables.queues.queued) h.2 message (ap (λ id. queued_message id tables.queues.queued) h.0.id ∙ e)),
   beside_same region tables.databases left is,
 )
 
@@ -134,22 +134,22 @@ module _ (system : System) (tables : TablesState) (states : List CodeState) (reg
       count = parts.databases.regions ∙ sym parts.regions_are
 
   abbrev pub moment_at : List (Option Busy) → Moment
-  moment_at rs = record { lasting = lasting_of (settings_of states) tables; slots = slots_of rs; enqueues = tables.databases.table; raised = flags_of states }
+  moment_at rs = record { lasting = lasting_of (settings_of states) tables; slots = work_slots rs; enqueues = tables.databases.table; raised = flags_of states }
 
-  pub slot_is : (old : Option Busy) → slice_get regions (region - 1) ≡ Some old → unwrap_or (slice_get (slots_of regions) (region - 1)) None ≡ slot_of old
-  slot_is old e = ap (λ s. unwrap_or s None) (get_slots regions (region - 1) ∙ ap (option_map slot_of) e)
+  pub slot_is : (old : Option Busy) → slice_get regions (region - 1) ≡ Some old → unwrap_or (slice_get (work_slots regions) (region - 1)) None ≡ work_slot old
+  slot_is old e = ap (λ s. unwrap_or s None) (get_slots regions (region - 1) ∙ ap (option_map work_slot) e)
 
   -- what a region's calls give, by its message, and what comes behind them
-  pub trial_is : (slot : Slot) (message : Message) (job : Job) (trial : Trial) → message_at slot.id tables.queues.queued ≡ Some message → job_of system slot.code ≡ Some job
-      → trial_of job (rows_of tables.databases.committed) (given_in tables.conversations message) slot.calls ≡ Some trial
+  pub trial_is : (slot : Slot) (message : Message) (job : Job) (trial : Trial) → queued_message slot.id tables.queues.queued ≡ Some message → job_of system slot.code ≡ Some job
+      → trial_of job (rows_of_stores tables.databases.committed) (given_in tables.conversations message) slot.calls ≡ Some trial
       → slot_trial system (lasting_of (settings_of states) tables) slot ≡ Some trial
   trial_is slot message job trial found serves made =
-      ap (option_and_then (λ j. option_and_then (λ m. trial_of j (rows_of tables.databases.committed) (given_in tables.conversations m) slot.calls) (message_in (messages_of tables.queues.queued) slot.id))) serves
-      ∙ ap (option_and_then (λ m. trial_of job (rows_of tables.databases.committed) (given_in tables.conversations m) slot.calls)) (message_found slot.id tables.queues.queued ∙ found)
+      ap (option_and_then (λ j. option_and_then (λ m. trial_of j (rows_of_stores tables.databases.committed) (given_in tables.conversations m) slot.calls) (message_in (messages_of tables.queues.queued) slot.id))) serves
+      ∙ ap (option_and_then (λ m. trial_of job (rows_of_stores tables.databases.committed) (given_in tables.conversations m) slot.calls)) (message_found slot.id tables.queues.queued ∙ found)
       ∙ made
 
-  pub work_is : (slot : Slot) (message : Message) (job : Job) (trial : Trial) → message_at slot.id tables.queues.queued ≡ Some message → job_of system slot.code ≡ Some job
-      → trial_of job (rows_of tables.databases.committed) (given_in tables.conversations message) slot.calls ≡ Some trial
+  pub work_is : (slot : Slot) (message : Message) (job : Job) (trial : Trial) → queued_message slot.id tables.queues.queued ≡ Some message → job_of system slot.code ≡ Some job
+      → trial_of job (rows_of_stores tables.databases.committed) (given_in tables.conversations message) slot.calls ≡ Some trial
       → slot_work system (lasting_of (settings_of states) tables) slot ≡ Some (work_by job (lasting_of (settings_of states) tables) trial)
   work_is slot message job trial found serves made =
       ap (option_and_then (λ j. option_and_then (λ t. Some (work_by j (lasting_of (settings_of states) tables) t)) (slot_trial system (lasting_of (settings_of states) tables) slot))) serves

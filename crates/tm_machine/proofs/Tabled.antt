@@ -12,11 +12,11 @@ use Rattle.std.proofs.lemmas.Bool.{ne_eqb, eq-eqb}
 use Rattle.tm_types.specs.declared.resource.Mode.{Mode}
 use Rattle.model_data.specs.declared.request.Holder.{Holder}
 use Rattle.model_data.specs.declared.request.Request.{Request}
-use Rattle.model_data.specs.Modes.{same_resource, serves, holder_cmp}
+use Rattle.model_data.specs.Modes.{same_resource, mode_serves, holder_cmp}
 use Rattle.model_data.specs.Table.{EnqueueTable, holds_of, is_asker, is_own, is_upgrade, blocked_by, wait_of}
-use Rattle.model_data.specs.Ask.{asker, granted, granted_mode, without_wait, placed, waiting, waits_only_for, waits_for_nothing, after_asks, first_blocked, released}
-use Rattle.message_run.specs.Ahead.{IsHeld}
-use Rattle.message_run.proofs.Holders.{holder_exact}
+use Rattle.model_data.specs.EnqueueRequests.{asker, granted, granted_mode, without_wait, placed_request, with_waiter, waits_only_for, waits_for_nothing, after_asks, first_blocked, released}
+use Rattle.message_run.specs.WorkAhead.{IsHeld}
+use Rattle.model_data.proofs.Holders.{holder_exact}
 
 -- all these requests are of this region
 abbrev pub AreOwn : ℕ → List Request → Type 0
@@ -65,12 +65,12 @@ and_right : (a b : Bool) → a && b ≡ true → b ≡ true
 and_right true b h = h
 and_right false b h = absurd (cc)
 
-find_placed : (p : Request → Bool) (request : Request) (xs : List Request) → ((x : Request) → x.region ≡ request.region → p x ≡ false) → find p (placed request xs) ≡ find p xs
+find_placed : (p : Request → Bool) (request : Request) (xs : List Request) → ((x : Request) → x.region ≡ request.region → p x ≡ false) → find p (placed_request request xs) ≡ find p xs
 find_placed p request [] others = ap (λ b. if b then Some request else None) (others request refl)
 find_placed p request (x ∷ xs) others = by (is_own request x) refl (find_placed p request xs others)
   where
-    by : (b : Bool) → is_own request x ≡ b → find p (placed request xs) ≡ find p xs
-        → find p (if b then request ∷ xs else x ∷ placed request xs) ≡ (if p x then Some x else find p xs)
+    by : (b : Bool) → is_own request x ≡ b → find p (placed_request request xs) ≡ find p xs
+        → find p (if b then request ∷ xs else x ∷ placed_request request xs) ≡ (if p x then Some x else find p xs)
     by true e rest =
         let here : x.region ≡ request.region = eqb-true x.region request.region (and_right (same_resource x.resource request.resource) (x.region == request.region) e) in
         ap (λ b. if b then Some request else find p xs) (others request refl)
@@ -118,12 +118,12 @@ wait_only other request table apart =
     kept xs = find_kept (of other) (λ waiter. not ((waiter.region == request.region) && not (is_own request waiter))) xs
         (λ x e. not_left (x.region == request.region) (not (is_own request x)) (other_apart other request apart x e))
 
-wait_waiting : (other : ℕ) (request : Request) (table : EnqueueTable) → (other ≡ request.region → ⊥) → wait_of other (waiting request table) ≡ wait_of other table
+wait_waiting : (other : ℕ) (request : Request) (table : EnqueueTable) → (other ≡ request.region → ⊥) → wait_of other (with_waiter request table) ≡ wait_of other table
 wait_waiting other request table apart = by (is_upgrade request table.holds)
   where
-    by : (b : Bool) → wait_of other (if b then record table { upgrades = placed request table.upgrades } else record table { waits = placed request table.waits }) ≡ wait_of other table
-    by true = wait_by other table (record table { upgrades = placed request table.upgrades }) (find_placed (of other) request table.upgrades (of_apart other request apart)) refl
-    by false = wait_by other table (record table { waits = placed request table.waits }) refl (find_placed (of other) request table.waits (of_apart other request apart))
+    by : (b : Bool) → wait_of other (if b then record table { upgrades = placed_request request table.upgrades } else record table { waits = placed_request request table.waits }) ≡ wait_of other table
+    by true = wait_by other table (record table { upgrades = placed_request request table.upgrades }) (find_placed (of other) request table.upgrades (of_apart other request apart)) refl
+    by false = wait_by other table (record table { waits = placed_request request table.waits }) refl (find_placed (of other) request table.waits (of_apart other request apart))
 
 wait_nothing : (other region : ℕ) (table : EnqueueTable) → (other ≡ region → ⊥) → wait_of other (waits_for_nothing region table) ≡ wait_of other table
 wait_nothing other region table apart =
@@ -139,7 +139,7 @@ wait_asks other region (q ∷ requests) table own apart =
     apart_here e = apart (e ∙ own.0)
 
     by : (found : Option ℕ) → wait_of other (after_asks region requests (granted q table)) ≡ wait_of other (granted q table)
-        → wait_of other (option_map_or (λ (blocker : ℕ). waiting q (waits_only_for q table)) found (after_asks region requests (granted q table))) ≡ wait_of other table
+        → wait_of other (option_map_or (λ (blocker : ℕ). with_waiter q (waits_only_for q table)) found (after_asks region requests (granted q table))) ≡ wait_of other table
     by None rest = rest ∙ wait_granted other q table apart_here
     by (Some blocker) rest = wait_waiting other q (waits_only_for q table) apart_here ∙ wait_only other q table apart_here
 
@@ -165,12 +165,12 @@ pub regions_asks : (region : ℕ) (requests : List Request) (table : EnqueueTabl
 regions_asks region [] table = refl
 regions_asks region (q ∷ requests) table = by (blocked_by q table) (regions_asks region requests (granted q table))
   where
-    at : (b : Bool) → (if b then record (waits_only_for q table) { upgrades = placed q (waits_only_for q table).upgrades } else record (waits_only_for q table) { waits = placed q (waits_only_for q table).waits }).regions ≡ table.regions
+    at : (b : Bool) → (if b then record (waits_only_for q table) { upgrades = placed_request q (waits_only_for q table).upgrades } else record (waits_only_for q table) { waits = placed_request q (waits_only_for q table).waits }).regions ≡ table.regions
     at true = refl
     at false = refl
 
     by : (found : Option ℕ) → (after_asks region requests (granted q table)).regions ≡ table.regions
-        → (option_map_or (λ (blocker : ℕ). waiting q (waits_only_for q table)) found (after_asks region requests (granted q table))).regions ≡ table.regions
+        → (option_map_or (λ (blocker : ℕ). with_waiter q (waits_only_for q table)) found (after_asks region requests (granted q table))).regions ≡ table.regions
     by None rest = rest
     by (Some blocker) rest = at (is_upgrade q (waits_only_for q table).holds)
 
@@ -192,7 +192,7 @@ look_kept p q (e ∷ es) keeps = by (p e.0) refl (q e.0) refl (look_kept p q es 
 -- a region goes on to hold what it held when another one released all
 pub held_released : (region : ℕ) (table : EnqueueTable) (q : Request) → (q.region ≡ region → ⊥) → IsHeld table q → IsHeld (released region table) q
 held_released region table q apart held =
-    ap (λ m. option_map_or (λ mode. serves mode q.mode) m false)
+    ap (λ m. option_map_or (λ mode. mode_serves mode q.mode) m false)
     (look_kept (is_asker q) (λ h. not (h.region == region)) table.holds
     (λ h e. ap not (ne_eqb h.region region (λ s. apart (sym (eqb-true h.region q.region (and_right (holds_of q.resource h) (h.region == q.region) e)) ∙ s)))))
     ∙ held
@@ -271,6 +271,6 @@ released_asks region (q ∷ requests) table own free =
 
     by : (found : Option ℕ) → option_map_or (λ by. Some (q, by)) found (first_blocked requests (granted q table)) ≡ None
         → (first_blocked requests (granted q table) ≡ None → released region (after_asks region requests (granted q table)) ≡ released region (granted q table))
-        → released region (option_map_or (λ (blocker : ℕ). waiting q (waits_only_for q table)) found (after_asks region requests (granted q table))) ≡ released region table
+        → released region (option_map_or (λ (blocker : ℕ). with_waiter q (waits_only_for q table)) found (after_asks region requests (granted q table))) ≡ released region table
     by None f rest = rest f ∙ here
     by (Some blocker) f rest = absurd (cc)

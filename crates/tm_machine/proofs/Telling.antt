@@ -20,44 +20,44 @@ use Rattle.model_machine.specs.Trial.WorkEnd.{Ends, Syncs, Abends}
 use Rattle.model_machine.specs.Trial.Advance.{Goes, Stops}
 use Rattle.model_machine.specs.Machine.{Moment, Slot, slot_at}
 use Rattle.model_machine.specs.declared.lasting.CodeSetting.{CodeSetting}
-use Rattle.model_machine.specs.Lasting.{LastingStep, applied}
-use Rattle.model_machine.specs.Lasting.LastingStep.{Accepts}
+use Rattle.model_machine.specs.LastingSteps.{LastingStep, applied}
+use Rattle.model_machine.specs.LastingSteps.LastingStep.{Accepts}
 use Rattle.model_machine.specs.Requests.{blocked_now}
-use Rattle.model_machine.specs.Steps.{AtWork, accepts, blocked_answer, ended_step, ending_step, input_answer, lasting_step, next_message, slot_answer, slot_work, step_in_turn, sync_answer, turn_by, turn_step, unless_blocked, work_answer}
-use Rattle.model_machine.specs.Lasting.{KeptInput, kept_input}
+use Rattle.model_machine.specs.MachineCalls.{AtWork, accepted_step, blocked_answer, ended_step, ending_step, input_answer, lasting_step, next_message, slot_answer, slot_work, step_in_turn, sync_answer, turn_by, turn_step, unless_blocked, work_answer}
+use Rattle.model_machine.specs.LastingSteps.{KeptInput, kept_input}
 use Rattle.model_messages.specs.declared.conversation.Conversation.{Conversation as PadConversation}
 use Rattle.model_messages.specs.declared.conversation.PadChange.{PadChange}
 use Rattle.model_messages.specs.declared.conversation.PadChange.TheVariants.{Stays, New, Ends as PadEnds}
 use Rattle.io_pcb.specs.Pads.{Suits}
 use Rattle.message_run.specs.RunState.{RunState}
-use Rattle.lasting_state.specs.Ranges.{HasShortPad}
-use Rattle.region_work.specs.Region.{SuitsUnit, pad_by}
+use Rattle.lasting_state.specs.RecordRanges.{HasShortPad}
+use Rattle.region_work.specs.RegionWork.{SuitsUnit, pad_by}
 use Rattle.log_records.specs.declared.record.Record.{Record}
-use Rattle.log_records.specs.Spelling.{spelling, IsRecord}
-use Rattle.model_image.specs.Records.{step_records, step_bytes}
+use Rattle.log_records.specs.RecordSpelling.{record_spelling, IsLogRecord}
+use Rattle.model_image.specs.StepRecords.{step_records, step_bytes}
 use Rattle.lasting_state.specs.Tables.{TablesState, lasting_of}
-use Rattle.lasting_state.specs.Telling.{Tells as TablesTell, IsLonger as IsLongerStep}
-use Rattle.tm_machine.specs.Inputs.{IsRefusal}
+use Rattle.lasting_state.specs.ToldSteps.{TellsStep as TablesTell, AreRecordsLonger as IsLongerStep}
+use Rattle.tm_machine.specs.Inputs.{IsInputRefusal}
 use Rattle.tm_machine.specs.Parts.{PartsState}
-use Rattle.tm_machine.specs.Told.{bytes_of, ends_work, records_of, IsLonger, Tells}
-use Rattle.tm_machine.specs.Turns.{IsTurned}
+use Rattle.tm_machine.specs.ToldByCall.{told_bytes_of, ends_work, told_records_of, IsCallLonger, TellsLastingStep}
+use Rattle.tm_machine.specs.Turns.{IsRegionTurned}
 
 -- ---- by the step that lasts
-step_none : (system : System) (moment : Moment) (unit : ℕ) (call : ControlCall) → lasting_step system moment call ≡ None → records_of system moment unit call ≡ []
+step_none : (system : System) (moment : Moment) (unit : ℕ) (call : ControlCall) → lasting_step system moment call ≡ None → told_records_of system moment unit call ≡ []
 step_none system moment unit call none = ap (λ s. option_map_or (λ step. step_records unit step moment.lasting) s []) none
 
 pub step_some : (system : System) (moment : Moment) (unit : ℕ) (call : ControlCall) (step : LastingStep) → lasting_step system moment call ≡ Some step
-    → bytes_of system moment unit call ≡ step_bytes unit step moment.lasting
-step_some system moment unit call step some = ap (λ s. flat_map spelling (option_map_or (λ step. step_records unit step moment.lasting) s [])) some
+    → told_bytes_of system moment unit call ≡ step_bytes unit step moment.lasting
+step_some system moment unit call step some = ap (λ s. flat_map record_spelling (option_map_or (λ step. step_records unit step moment.lasting) s [])) some
 
-tells_none : (system : System) (moment : Moment) (unit room : ℕ) (call : ControlCall) (told : List ℕ) → records_of system moment unit call ≡ [] → Tells system moment unit room call told told
+tells_none : (system : System) (moment : Moment) (unit room : ℕ) (call : ControlCall) (told : List ℕ) → told_records_of system moment unit call ≡ [] → TellsLastingStep system moment unit room call told told
 tells_none system moment unit room call told none = record {
-  told = sym (append-nil told) ∙ ap (λ (rs : List Record). told ++ flat_map spelling rs) (sym none);
-  valid = subst (λ (rs : List Record). AllByRecursion IsRecord rs) (sym none) tt;
-  fits = subst (λ (rs : List Record). length (flat_map spelling rs) ≤ room) (sym none) (omega arith);
+  told = sym (append-nil told) ∙ ap (λ (rs : List Record). told ++ flat_map record_spelling rs) (sym none);
+  valid = subst (λ (rs : List Record). AllByRecursion IsLogRecord rs) (sym none) tt;
+  fits = subst (λ (rs : List Record). length (flat_map record_spelling rs) ≤ room) (sym none) (omega arith);
 }
 
-pub unlasting_tells : (system : System) (moment : Moment) (unit room : ℕ) (call : ControlCall) (told : List ℕ) → lasting_step system moment call ≡ None → Tells system moment unit room call told told
+pub unlasting_tells : (system : System) (moment : Moment) (unit room : ℕ) (call : ControlCall) (told : List ℕ) → lasting_step system moment call ≡ None → TellsLastingStep system moment unit room call told told
 unlasting_tells system moment unit room call told none = tells_none system moment unit room call told (step_none system moment unit call none)
 
 -- ---- turns
@@ -92,37 +92,37 @@ module _ (system : System) (moment : Moment) (region : ℕ) (victims : List Vict
   turn_ends (Some slot) quiet = blocked_ends slot (blocked_now system moment region slot) quiet
 
 -- a turn that ends no work tells nothing
-pub quiet_tells : (old new : PartsState) (region unit room : ℕ) (turned : Turned) (told : List ℕ) → IsTurned old new region turned → ends_work turned ≡ false
-    → Tells old.system old.moment unit room (Turn region) told told
+pub quiet_tells : (old new : PartsState) (region unit room : ℕ) (turned : Turned) (told : List ℕ) → IsRegionTurned old new region turned → ends_work turned ≡ false
+    → TellsLastingStep old.system old.moment unit room (Turn region) told told
 quiet_tells old new region unit room turned told is quiet =
     tells_none old.system old.moment unit room (Turn region) told
     (step_none old.system old.moment unit (Turn region)
     (turn_ends old.system old.moment region _ (slot_at old.moment region) (ap ends_work (sym is.answer) ∙ quiet)))
 
 -- also where it began behind a step that left all as it was
-pub later_tells : (old middle new : PartsState) (region unit room : ℕ) (turned : Turned) (told : List ℕ) → middle ≡ old → IsTurned middle new region turned → ends_work turned ≡ false
-    → Tells old.system old.moment unit room (Turn region) told told
+pub later_tells : (old middle new : PartsState) (region unit room : ℕ) (turned : Turned) (told : List ℕ) → middle ≡ old → IsRegionTurned middle new region turned → ends_work turned ≡ false
+    → TellsLastingStep old.system old.moment unit room (Turn region) told told
 later_tells old middle new region unit room turned told same is quiet =
-    subst (λ (s : PartsState). Tells s.system s.moment unit room (Turn region) told told) same (quiet_tells middle new region unit room turned told is quiet)
+    subst (λ (s : PartsState). TellsLastingStep s.system s.moment unit room (Turn region) told told) same (quiet_tells middle new region unit room turned told is quiet)
 
 pub ruleset quiet_rules = (quiet_tells, later_tells)
 
 -- ---- inputs
-refusal_none : (terminal : List ℕ) (number : ℕ) (kept : KeptInput) (answer : Result Taken InputRefused) → ((id : ℕ) → answer ≡ Ok (NewInput id) → ⊥) → accepts terminal number kept answer ≡ None
+refusal_none : (terminal : List ℕ) (number : ℕ) (kept : KeptInput) (answer : Result Taken InputRefused) → ((id : ℕ) → answer ≡ Ok (NewInput id) → ⊥) → accepted_step terminal number kept answer ≡ None
 refusal_none terminal number kept (Ok (NewInput id)) other = absurd (other id refl)
 refusal_none terminal number kept (Ok Already) other = refl
 refusal_none terminal number kept (Err refused) other = refl
 
 module _ (system : System) (moment : Moment) (room : ℕ) (terminal : List ℕ) (number : ℕ) (segments : List (List ℕ)) (told : List ℕ) where
-  refused_so : ((id : ℕ) → input_answer system moment terminal number segments ≡ Ok (NewInput id) → ⊥) → Tells system moment 0 room (Input terminal number segments) told told
+  refused_so : ((id : ℕ) → input_answer system moment terminal number segments ≡ Ok (NewInput id) → ⊥) → TellsLastingStep system moment 0 room (Input terminal number segments) told told
   refused_so other =
       tells_none system moment 0 room (Input terminal number segments) told
       (step_none system moment 0 (Input terminal number segments)
       (refusal_none terminal number (kept_input system moment.lasting terminal segments) (input_answer system moment terminal number segments) other))
 
   -- an input that isn't kept tells nothing
-  pub refused_tells : (answer : Result Taken InputRefused) → IsRefusal (input_answer system moment terminal number segments) answer
-      → Tells system moment 0 room (Input terminal number segments) told told
+  pub refused_tells : (answer : Result Taken InputRefused) → IsInputRefusal (input_answer system moment terminal number segments) answer
+      → TellsLastingStep system moment 0 room (Input terminal number segments) told told
   refused_tells (Ok (NewInput id)) h = absurd h
   refused_tells (Ok Already) h = refused_so (λ id e. let clash : Ok Already ≡ Ok (NewInput id) = h ∙ e in cc)
   refused_tells (Err Terminal) h = refused_so (λ id e. let clash : Err Terminal ≡ Ok (NewInput id) = h ∙ e in cc)
@@ -138,20 +138,20 @@ module _ (system : System) (moment : Moment) (room : ℕ) (terminal : List ℕ) 
 -- ---- by what the tables tell
 module _ (system : System) (moment : Moment) (unit room : ℕ) (call : ControlCall) (step : LastingStep) (tables : TablesState) (settings : List CodeSetting)
     (lasts : moment.lasting ≡ lasting_of settings tables) (does : lasting_step system moment call ≡ Some step) where
-  bytes_are : bytes_of system moment unit call ≡ step_bytes unit step (lasting_of settings tables)
+  bytes_are : told_bytes_of system moment unit call ≡ step_bytes unit step (lasting_of settings tables)
   bytes_are = step_some system moment unit call step does ∙ ap (step_bytes unit step) lasts
 
-  records_are : records_of system moment unit call ≡ step_records unit step (lasting_of settings tables)
+  records_are : told_records_of system moment unit call ≡ step_records unit step (lasting_of settings tables)
   records_are = ap (λ s. option_map_or (λ step. step_records unit step moment.lasting) s []) does ∙ ap (step_records unit step) lasts
 
-  pub tells_step : (before after : List ℕ) → TablesTell unit room step tables before after → Tells system moment unit room call before after
+  pub tells_step : (before after : List ℕ) → TablesTell unit room step tables before after → TellsLastingStep system moment unit room call before after
   tells_step before after h = record {
     told = h.told settings ∙ ap (λ bs. before ++ bs) (sym bytes_are);
-    valid = subst (λ (rs : List Record). AllByRecursion IsRecord rs) (sym records_are) (h.valid settings);
+    valid = subst (λ (rs : List Record). AllByRecursion IsLogRecord rs) (sym records_are) (h.valid settings);
     fits = subst (λ bs. length bs ≤ room) (sym bytes_are) (h.fits settings);
   }
 
-  pub longer_step : IsLongerStep unit room step tables → IsLonger system moment unit room call
+  pub longer_step : IsLongerStep unit room step tables → IsCallLonger system moment unit room call
   longer_step h = subst (λ bs. room < length bs) (sym bytes_are) (h settings)
 
 -- an input that is new is the step that lasts
@@ -159,7 +159,7 @@ pub accepts_step : (system : System) (moment : Moment) (terminal : List ℕ) (nu
     → kept ≡ kept_input system moment.lasting terminal segments → Ok (NewInput id) ≡ input_answer system moment terminal number segments
     → lasting_step system moment (Input terminal number segments) ≡ Some (Accepts terminal number kept)
 accepts_step system moment terminal number segments kept id kept_is says =
-    ap (accepts terminal number (kept_input system moment.lasting terminal segments)) (sym says) ∙ ap (λ k. Some (Accepts terminal number k)) (sym kept_is)
+    ap (accepted_step terminal number (kept_input system moment.lasting terminal segments)) (sym says) ∙ ap (λ k. Some (Accepts terminal number k)) (sym kept_is)
 
 -- ---- pads
 -- what becomes of a pad has a record: a new one is a segment's text

@@ -9,9 +9,9 @@ use Rattle.model_machine.specs.Machine.{terminal_place}
 use Rattle.tm_types.specs.Name.{IsName}
 use Rattle.model_system.specs.Codes.{code_place}
 use Rattle.model_messages.specs.Pads.{begun}
-use Rattle.model_machine.specs.Lasting.{KeptInput, code_word, kept_input, without_word}
-use Rattle.lasting_state.specs.Kept.{kept_as}
-use Rattle.model_machine.specs.Steps.{busy_conversation, no_room, input_answer}
+use Rattle.model_machine.specs.LastingSteps.{KeptInput, code_word, kept_input, without_word}
+use Rattle.lasting_state.specs.KeptInputs.{kept_as}
+use Rattle.model_machine.specs.MachineCalls.{busy_conversation, no_room, input_answer}
 use Rattle.tm_machine.specs.declared.input.NewInput.{NewInput}
 use Rattle.tm_machine.specs.declared.input.Way.{Way}
 use Rattle.tm_machine.specs.declared.input.Way.TheVariants.{Alone, GoesOn, Begins}
@@ -47,18 +47,18 @@ pub record IsNewInput (parts : PartsState) (terminal : List ℕ) (number : ℕ) 
   pub few : length segments ≤ 16
 
 -- the right answer, which is neither that the input is new nor a fault
-abbrev pub IsRefusal : Result Taken InputRefused → Result Taken InputRefused → Type 0
-IsRefusal right (Ok (New id)) = ⊥
-IsRefusal right (Ok Already) = Ok Already ≡ right
-IsRefusal right (Err Terminal) = Err Terminal ≡ right
-IsRefusal right (Err StoppedTerminal) = Err StoppedTerminal ≡ right
-IsRefusal right (Err (StoppedCode code)) = Err (StoppedCode code) ≡ right
-IsRefusal right (Err (Expected next)) = Err (Expected next) ≡ right
-IsRefusal right (Err (Conversation id)) = Err (Conversation id) ≡ right
-IsRefusal right (Err Code) = Err Code ≡ right
-IsRefusal right (Err (SegmentsOver count most)) = Err (SegmentsOver count most) ≡ right
-IsRefusal right (Err (QueueFull need limit)) = Err (QueueFull need limit) ≡ right
-IsRefusal right (Err (Fault fault)) = ⊥
+abbrev pub IsInputRefusal : Result Taken InputRefused → Result Taken InputRefused → Type 0
+IsInputRefusal right (Ok (New id)) = ⊥
+IsInputRefusal right (Ok Already) = Ok Already ≡ right
+IsInputRefusal right (Err Terminal) = Err Terminal ≡ right
+IsInputRefusal right (Err StoppedTerminal) = Err StoppedTerminal ≡ right
+IsInputRefusal right (Err (StoppedCode code)) = Err (StoppedCode code) ≡ right
+IsInputRefusal right (Err (Expected next)) = Err (Expected next) ≡ right
+IsInputRefusal right (Err (Conversation id)) = Err (Conversation id) ≡ right
+IsInputRefusal right (Err Code) = Err Code ≡ right
+IsInputRefusal right (Err (SegmentsOver count most)) = Err (SegmentsOver count most) ≡ right
+IsInputRefusal right (Err (QueueFull need limit)) = Err (QueueFull need limit) ≡ right
+IsInputRefusal right (Err (Fault fault)) = ⊥
 
 -- an input met a fault
 abbrev pub is_input_fault : Result Taken InputRefused → Bool

@@ -4,10 +4,10 @@ pub mod Answers
 pub mod Inputs
 pub mod Victims
 pub mod Turns
-pub mod Ends
-pub mod Told
-pub mod OnSlots
-pub mod Commands
-pub mod Lookups
-pub mod Opening
-pub mod Work
+pub mod WorkEnds
+pub mod ToldByCall
+pub mod SlotChanges
+pub mod LastingCommands
+pub mod RegionMessage
+pub mod MachineOpening
+pub mod WaitingWork

@@ -14,12 +14,12 @@ use Rattle.model_system.specs.declared.code_state.CodeState.{CodeState}
 use Rattle.model_system.specs.System.{System}
 use Rattle.model_machine.specs.declared.lasting.CodeSetting.{CodeSetting}
 use Rattle.model_machine.specs.Machine.{Moment, Slot, is_held, setting_of, raised_now}
-use Rattle.system_types.specs.Valid.{IsSystem}
+use Rattle.system_types.specs.ValidSystem.{IsSystem}
 use Rattle.model_data.specs.Table.{wait_of}
-use Rattle.program_rows.specs.State.{DatabasesState, AreRowsOf, IsClean, committed_rows, dbds_of}
+use Rattle.program_rows.specs.DatabasesState.{DatabasesState, AreRowsOf, IsClean, committed_rows, dbds_of}
 use Rattle.lasting_state.specs.Tables.{TablesState}
 use Rattle.region_work.specs.declared.region.Busy.{Busy}
-use Rattle.region_work.specs.Region.{IsWork, calls_made, given_in}
+use Rattle.region_work.specs.RegionWork.{IsWork, calls_made, given_in}
 
 -- the system, the moment that its machine has come to, and the databases, with what each region has changed
 pub record PartsState : Type 0 where
@@ -28,12 +28,12 @@ pub record PartsState : Type 0 where
   pub databases : DatabasesState
 
 -- the slot that a region's work stands for
-abbrev pub slot_of : Option Busy → Option Slot
-slot_of (Some busy) = Some (record { code = busy.code; taken = busy.taken; id = busy.id; calls = calls_made busy.unit })
-slot_of None = None
+abbrev pub work_slot : Option Busy → Option Slot
+work_slot (Some busy) = Some (record { code = busy.code; taken = busy.taken; id = busy.id; calls = calls_made busy.unit })
+work_slot None = None
 
-abbrev pub slots_of : List (Option Busy) → List (Option Slot)
-slots_of regions = map slot_of regions
+abbrev pub work_slots : List (Option Busy) → List (Option Slot)
+work_slots regions = map work_slot regions
 
 -- what lasts of the codes, and their flags
 abbrev pub settings_of : List CodeState → List CodeSetting
@@ -50,8 +50,8 @@ pub record IsAtWork (system : System) (databases : DatabasesState) (conversation
   pub work : IsWork system databases region (given_in conversations message) busy
 
 -- a message has a holder exactly where a slot has it
-abbrev pub IsTold : List (Option Slot) → List Queued → Type 0
-IsTold slots queued = AllByRecursion (λ q. is_held slots q.message.id ≡ is_some q.holder) queued
+abbrev pub AreHoldersTold : List (Option Slot) → List Queued → Type 0
+AreHoldersTold slots queued = AllByRecursion (λ q. is_held slots q.message.id ≡ is_some q.holder) queued
 
 -- each region that has a message is at work on it; regions are numbered from 1
 abbrev pub AreAtWork : System → DatabasesState → List TerminalConversation → List Queued → List (Option Busy) → Type 0
@@ -60,7 +60,7 @@ AreAtWork system databases conversations queued regions =
 
 -- A conversation is of a code that has them. Its pad has the length of the code's, less 6, begins with the code, and
 -- has printable bytes alone.
-pub record IsConversation (system : System) (c : Conversation) : Type 0 where
+pub record IsConversationOf (system : System) (c : Conversation) : Type 0 where
   pub size : IsSomeAnd (code_at system.codes c.code) (λ code. (1 ≤ code.transaction.scratch_pad) × (length c.pad + 6 ≡ code.transaction.scratch_pad))
   pub front : take 8 c.pad ≡ code_field c.code
   pub prints : IsTrue (list_all is_printable c.pad)
@@ -70,18 +70,18 @@ abbrev pub IsOfConversation : List TerminalConversation → Message → Type 0
 IsOfConversation conversations message = message.conversation ≡ true → IsSomeAnd (given_in conversations message).conversation (λ c. c.code ≡ message.code)
 
 -- two messages don't both belong to a conversation of one terminal
-abbrev pub AreApart : Message → Message → Type 0
-AreApart a b = a.conversation ≡ true → b.conversation ≡ true → b.origin ≡ a.origin → ⊥
+abbrev pub AreOfOtherConversations : Message → Message → Type 0
+AreOfOtherConversations a b = a.conversation ≡ true → b.conversation ≡ true → b.origin ≡ a.origin → ⊥
 
 -- at each terminal at most one message belongs to the conversation
 abbrev pub AreAlone : List Message → Type 0
 AreAlone [] = ⊤
-AreAlone (message ∷ messages) = AllByRecursion (AreApart message) messages × AreAlone messages
+AreAlone (message ∷ messages) = AllByRecursion (AreOfOtherConversations message) messages × AreAlone messages
 
 -- The conversations of the system's terminals, with the messages that belong to them.
 pub record AreConversations (system : System) (conversations : List TerminalConversation) (messages : List Message) : Type 0 where
   pub names : map (λ t. t.terminal) conversations ≡ system.terminals
-  pub pads : AllByRecursion (λ t. IfSome t.conversation (IsConversation system)) conversations
+  pub pads : AllByRecursion (λ t. IfSome t.conversation (IsConversationOf system)) conversations
   pub belong : AllByRecursion (IsOfConversation conversations) messages
   pub alone : AreAlone messages
 
@@ -109,7 +109,7 @@ pub record AreParts (system : System) (tables : TablesState) (states : List Code
   pub regions_are : length regions ≡ length system.regions
   pub states_are : length states ≡ length system.codes
   pub settled : raised_now (λ name. free_count name tables.queues.queued) system.codes (flags_of states) ≡ flags_of states
-  pub told : IsTold (slots_of regions) tables.queues.queued
+  pub told : AreHoldersTold (work_slots regions) tables.queues.queued
   pub at_work : AreAtWork system tables.databases tables.conversations tables.queues.queued regions
   pub conversations : AreConversations system tables.conversations (messages_of tables.queues.queued)
   pub databases : AreDatabases system tables.databases

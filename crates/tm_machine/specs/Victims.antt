@@ -2,15 +2,15 @@
 use Rattle.std.specs.Prelude.{◌≡◌, ℕ, ◌-◌, None, IsSome, List, [], ◌∷◌, slice_set}
 use Rattle.model_system.specs.System.{System}
 use Rattle.model_data.specs.declared.victim.Victim.{Victim}
-use Rattle.model_data.specs.Ask.{released}
+use Rattle.model_data.specs.EnqueueRequests.{released}
 use Rattle.model_data.specs.Cycle.{Breaks, IsLeastCycle, victim_of}
 use Rattle.model_machine.specs.Machine.{Moment, IsRegion, slot_at, moment_with, raised_now, waiting_now}
 use Rattle.model_machine.specs.Requests.{changes_now}
 use Rattle.tm_machine.specs.Parts.{PartsState}
 
 -- each flag is as it would follow on itself now
-abbrev pub IsSettled : PartsState → Type 0
-IsSettled state = raised_now (waiting_now state.moment.lasting state.moment.slots) state.system.codes state.moment.raised ≡ state.moment.raised
+abbrev pub AreFlagsSettled : PartsState → Type 0
+AreFlagsSettled state = raised_now (waiting_now state.moment.lasting state.moment.slots) state.system.codes state.moment.raised ≡ state.moment.raised
 
 -- A region gives way: it has no message any more, which keeps its place, and holds and waits for nothing.
 abbrev pub gave_way : System → Moment → ℕ → Moment

@@ -2,11 +2,11 @@
 ghost use Rattle.std.specs.Prelude.{◌≡◌, ◌-◌, Ok, IfOk, slice_get};
 ghost use Rattle.model_machine.specs.declared.answer.Answer.TheVariants.{Active};
 ghost use Rattle.model_data.specs.Table.{wait_of, waits_by};
-ghost use Rattle.model_machine.specs.ModelMachineCommands as spec;
+ghost use Rattle.model_machine.specs.CommandAnswers as spec;
 ghost use Rattle.model_machine.specs.Machine.{IsRegion, slot_at};
 ghost use Rattle.std.specs.Option.{option_map};
-ghost use Rattle.tm_machine.specs.Lookups.{message_of};
-ghost use Rattle.tm_machine.specs.Work.{work_on, wait_on};
+ghost use Rattle.tm_machine.specs.RegionMessage.{region_message};
+ghost use Rattle.tm_machine.specs.WaitingWork.{work_on, wait_on};
 
 use crate::Parts;
 use model_machine::{ActiveRegion, ActiveRegions, Answer, CommandRefused, RegionWork};

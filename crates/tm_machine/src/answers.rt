@@ -1,10 +1,10 @@
 //! What commands are answered.
 ghost use Rattle.std.specs.Prelude.{◌≡◌, ◌-◌, Ok, IfOk, length, take};
-ghost use Rattle.conversation.specs.Refusals.{input_answer as conversation_answer};
-ghost use Rattle.model_messages.specs.Input.{busy_id};
+ghost use Rattle.conversation.specs.Refusals.{conversation_answer as conversation_answer};
+ghost use Rattle.model_messages.specs.ConversationInput.{busy_id};
 ghost use Rattle.model_messages.specs.Terminals.{conversation_at};
 ghost use Rattle.model_system.specs.Codes.{code_at};
-ghost use Rattle.model_machine.specs.ModelMachineCommands as spec;
+ghost use Rattle.model_machine.specs.CommandAnswers as spec;
 ghost use Rattle.model_machine.specs.Machine.{output_at, terminal_at, waiting_now};
 
 use crate::Parts;
@@ -149,7 +149,7 @@ fn exited(parts: &Parts, name: &Name) -> Result<Answer, CommandRefused>
     ended(parts, name)
 }
 
-#[tactic(auto, using(crate::proofs::CommandAnswersEnded::ended_answers))]
+#[tactic(auto, using(crate::proofs::ConversationEnd::ended_answers))]
 fn ended(parts: &Parts, name: &Name) -> Result<Answer, CommandRefused>
     ensures { result ≡ spec.exited name.now (conversation_at name.now parts.now.moment.lasting.conversations) (busy_id name.now parts.now.moment.lasting.messages) }
 {

@@ -1,6 +1,6 @@
 //! The region that a freeze waits for.
 ghost use Rattle.std.specs.Prelude.{◌≡◌};
-ghost use Rattle.model_machine.specs.ModelMachineCommands.{first_busy};
+ghost use Rattle.model_machine.specs.CommandAnswers.{first_busy};
 
 use crate::Parts;
 

@@ -2,10 +2,10 @@
 ghost use Rattle.std.specs.Prelude.{◌≡◌, Ok, IfErr, IfOk, OnErr, OnOk};
 ghost use Rattle.model_machine.specs.declared.entry.ControlCall.TheVariants.{Command as CommandCall};
 ghost use Rattle.model_machine.specs.declared.entry.Entry.TheVariants.{Commanded};
-ghost use Rattle.model_machine.specs.ModelMachineCommands.{IsServed, command_answer, lasting_command};
-ghost use Rattle.lasting_state.specs.Untold.{WhereFull};
+ghost use Rattle.model_machine.specs.CommandAnswers.{IsCommandServed, command_answer, lasting_command};
+ghost use Rattle.lasting_state.specs.UntoldSteps.{WhereFull};
 ghost use Rattle.tm_machine.specs.Answers.{IsAnswered};
-ghost use Rattle.tm_machine.specs.Told.{IsLonger, Tells};
+ghost use Rattle.tm_machine.specs.ToldByCall.{IsCallLonger, TellsLastingStep};
 
 use crate::Parts;
 use crate::answers::answer_to;
@@ -24,13 +24,13 @@ pub fn command(
     room: usize,
     told: &mut Vec<u8>,
 ) -> Result<Result<Answer, CommandRefused>, Untold>
-    requires { IsServed command.now }
+    requires { IsCommandServed command.now }
     ensures answer { IfOk result (λ answer. IsAnswered parts.old parts.new (Commanded command.now answer)) }
-    ensures told { OnOk result (Tells parts.old.system parts.old.moment 0 room (CommandCall command.now) told.old.items told.new.items) }
+    ensures told { OnOk result (TellsLastingStep parts.old.system parts.old.moment 0 room (CommandCall command.now) told.old.items told.new.items) }
     ensures databases { parts.new.databases ≡ parts.old.databases }
     ensures err { OnErr result (parts.new ≡ parts.old) }
     ensures untold { OnErr result (told.new.items ≡ told.old.items) }
-    ensures full { IfErr result (WhereFull (IsLonger parts.old.system parts.old.moment 0 room (CommandCall command.now))) }
+    ensures full { IfErr result (WhereFull (IsCallLonger parts.old.system parts.old.moment 0 room (CommandCall command.now))) }
 {
     match answer_to(alloc, parts, command) {
         Ok(Ok(answer)) => match perform(parts, command, answer, room, told) {
@@ -53,14 +53,14 @@ fn perform(
     room: usize,
     told: &mut Vec<u8>,
 ) -> Result<Answer, Untold>
-    requires served { IsServed command.now }
+    requires served { IsCommandServed command.now }
     requires answer { Ok answer ≡ command_answer parts.old.system parts.old.moment command.now }
     ensures answer { IfOk result (λ done. IsAnswered parts.old parts.new (Commanded command.now (Ok done))) }
-    ensures told { OnOk result (Tells parts.old.system parts.old.moment 0 room (CommandCall command.now) told.old.items told.new.items) }
+    ensures told { OnOk result (TellsLastingStep parts.old.system parts.old.moment 0 room (CommandCall command.now) told.old.items told.new.items) }
     ensures databases { parts.new.databases ≡ parts.old.databases }
     ensures err { OnErr result (parts.new ≡ parts.old) }
     ensures untold { OnErr result (told.new.items ≡ told.old.items) }
-    ensures full { IfErr result (WhereFull (IsLonger parts.old.system parts.old.moment 0 room (CommandCall command.now))) }
+    ensures full { IfErr result (WhereFull (IsCallLonger parts.old.system parts.old.moment 0 room (CommandCall command.now))) }
 {
     match lasting_command(command) {
         Some(lasting) => match parts.do_command(&lasting, room, told) {

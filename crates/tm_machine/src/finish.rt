@@ -3,19 +3,19 @@ ghost use Rattle.std.specs.Prelude.{◌≡◌, ◌≤◌, ◌-◌, ◌∷◌, No
 ghost use Rattle.std.specs.List.{list_all};
 ghost use Rattle.model_system.specs.Programs.{is_statement};
 ghost use Rattle.model_system.specs.Jobs.{job_of};
-ghost use Rattle.model_messages.specs.Queue.{message_at};
+ghost use Rattle.model_messages.specs.Queue.{queued_message};
 ghost use Rattle.model_machine.specs.declared.entry.ControlCall.TheVariants.{Turn};
 ghost use Rattle.model_machine.specs.Machine.{IsRegion};
 ghost use Rattle.model_machine.specs.Trial.WorkEnd.{Ends, Syncs, Abends};
-ghost use Rattle.message_run.specs.Ahead.{end_of};
-ghost use Rattle.lasting_state.specs.Telling.{IsLonger as IsLongerStep, Tells as TablesTell};
-ghost use Rattle.region_work.specs.Ends.{destinations};
-ghost use Rattle.region_work.specs.Region.{outputs_by};
-ghost use Rattle.tm_machine.specs.Ends.{EndsSo, IsCompleted, MayComplete, OfWork, completion_of};
-ghost use Rattle.lasting_state.specs.Untold.{WhereFull};
-ghost use Rattle.tm_machine.specs.OnSlots.{TurnsSo};
-ghost use Rattle.tm_machine.specs.Told.{IsLonger, Tells};
-ghost use Rattle.tm_machine.specs.Turns.{IsTurned};
+ghost use Rattle.message_run.specs.WorkAhead.{end_of};
+ghost use Rattle.lasting_state.specs.ToldSteps.{AreRecordsLonger as IsLongerStep, TellsStep as TablesTell};
+ghost use Rattle.region_work.specs.WorkEnds.{destinations};
+ghost use Rattle.region_work.specs.RegionWork.{outputs_by};
+ghost use Rattle.tm_machine.specs.WorkEnds.{EndsSo, IsCompleted, MayCompleteWork, OfWork, completion_of};
+ghost use Rattle.lasting_state.specs.UntoldSteps.{WhereFull};
+ghost use Rattle.tm_machine.specs.SlotChanges.{TurnsSo};
+ghost use Rattle.tm_machine.specs.ToldByCall.{IsCallLonger, TellsLastingStep};
+ghost use Rattle.tm_machine.specs.Turns.{IsRegionTurned};
 
 use crate::parts::Parts;
 use lasting_state::{COUNT_LIMIT, Tables, Untold};
@@ -42,12 +42,12 @@ impl Parts {
     ) -> Result<Turned, Untold>
         requires region { IsRegion self.old.system region }
         requires ends { EndsSo self.old region (end_of ending) }
-        ensures turned { IfOk result (IsTurned self.old self.new region) }
+        ensures turned { IfOk result (IsRegionTurned self.old self.new region) }
         ensures slots { IfOk result (TurnsSo self.old self.new unit region) }
-        ensures told { OnOk result (Tells self.old.system self.old.moment unit room (Turn region) told.old.items told.new.items) }
+        ensures told { OnOk result (TellsLastingStep self.old.system self.old.moment unit room (Turn region) told.old.items told.new.items) }
         ensures err { OnErr result (self.new ≡ self.old) }
         ensures untold { OnErr result (told.new.items ≡ told.old.items) }
-        ensures full { IfErr result (WhereFull (IsLonger self.old.system self.old.moment unit room (Turn region))) }
+        ensures full { IfErr result (WhereFull (IsCallLonger self.old.system self.old.moment unit room (Turn region))) }
     {
         match ending {
             Ending::End => self.complete(region, unit, room, told),
@@ -66,12 +66,12 @@ impl Parts {
     ) -> Result<Turned, Untold>
         requires region { IsRegion self.old.system region }
         requires ends { EndsSo self.old region Ends }
-        ensures turned { IfOk result (IsTurned self.old self.new region) }
+        ensures turned { IfOk result (IsRegionTurned self.old self.new region) }
         ensures slots { IfOk result (TurnsSo self.old self.new unit region) }
-        ensures told { OnOk result (Tells self.old.system self.old.moment unit room (Turn region) told.old.items told.new.items) }
+        ensures told { OnOk result (TellsLastingStep self.old.system self.old.moment unit room (Turn region) told.old.items told.new.items) }
         ensures err { OnErr result (self.new ≡ self.old) }
         ensures untold { OnErr result (told.new.items ≡ told.old.items) }
-        ensures full { IfErr result (WhereFull (IsLonger self.old.system self.old.moment unit room (Turn region))) }
+        ensures full { IfErr result (WhereFull (IsCallLonger self.old.system self.old.moment unit room (Turn region))) }
     {
         let busy = busy_at(&self.regions, region);
         let code = busy.code;
@@ -100,12 +100,12 @@ impl Parts {
     ) -> Result<Turned, Untold>
         requires region { IsRegion self.old.system region }
         requires ends { EndsSo self.old region Syncs }
-        ensures turned { IfOk result (IsTurned self.old self.new region) }
+        ensures turned { IfOk result (IsRegionTurned self.old self.new region) }
         ensures slots { IfOk result (TurnsSo self.old self.new unit region) }
-        ensures told { OnOk result (Tells self.old.system self.old.moment unit room (Turn region) told.old.items told.new.items) }
+        ensures told { OnOk result (TellsLastingStep self.old.system self.old.moment unit room (Turn region) told.old.items told.new.items) }
         ensures err { OnErr result (self.new ≡ self.old) }
         ensures untold { OnErr result (told.new.items ≡ told.old.items) }
-        ensures full { IfErr result (WhereFull (IsLonger self.old.system self.old.moment unit room (Turn region))) }
+        ensures full { IfErr result (WhereFull (IsCallLonger self.old.system self.old.moment unit room (Turn region))) }
     {
         let busy = busy_at(&self.regions, region);
         let code = busy.code;
@@ -151,12 +151,12 @@ impl Parts {
     ) -> Result<Turned, Untold>
         requires region { IsRegion self.old.system region }
         requires ends { EndsSo self.old region (Abends abend) }
-        ensures turned { IfOk result (IsTurned self.old self.new region) }
+        ensures turned { IfOk result (IsRegionTurned self.old self.new region) }
         ensures slots { IfOk result (TurnsSo self.old self.new unit region) }
-        ensures told { OnOk result (Tells self.old.system self.old.moment unit room (Turn region) told.old.items told.new.items) }
+        ensures told { OnOk result (TellsLastingStep self.old.system self.old.moment unit room (Turn region) told.old.items told.new.items) }
         ensures err { OnErr result (self.new ≡ self.old) }
         ensures untold { OnErr result (told.new.items ≡ told.old.items) }
-        ensures full { IfErr result (WhereFull (IsLonger self.old.system self.old.moment unit room (Turn region))) }
+        ensures full { IfErr result (WhereFull (IsCallLonger self.old.system self.old.moment unit room (Turn region))) }
     {
         let busy = busy_at(&self.regions, region);
         let code = busy.code;
@@ -193,7 +193,7 @@ fn end_work(
     told: &mut Vec<u8>,
 ) -> Result<Vec<Name>, Untold>
     requires positive { 1 ≤ region }
-    requires may { MayComplete tables.old regions.old.items region }
+    requires may { MayCompleteWork tables.old regions.old.items region }
     ensures names { IfOk result (λ names. OfWork regions.old.items region (λ busy. names.items ≡ busy.code ∷ destinations (outputs_by busy.unit))) }
     ensures completed { OnOk result (OfWork regions.old.items region (λ busy. IsCompleted region busy tables.old tables.new)) }
     ensures told { OnOk result (OfWork regions.old.items region (λ busy. TablesTell unit room (completion_of region tables.old busy) tables.old told.old.items told.new.items)) }
@@ -214,8 +214,8 @@ fn end_work(
 
 /// The terminal from which the message of this id comes.
 fn origin_of(tables: &Tables, id: u64) -> Name
-    requires { IsSome (message_at id tables.now.queues.queued) }
-    ensures { IsSomeAnd (message_at id tables.now.queues.queued) (λ message. result ≡ message.origin) }
+    requires { IsSome (queued_message id tables.now.queues.queued) }
+    ensures { IsSomeAnd (queued_message id tables.now.queues.queued) (λ message. result ≡ message.origin) }
 {
     let Some(message) = tables.queues().find(id) else {
         unreachable!()

@@ -5,17 +5,16 @@ ghost use Rattle.tm_types.specs.Name.{IsName};
 ghost use Rattle.model_system.specs.Codes.{code_place};
 ghost use Rattle.model_machine.specs.declared.entry.Entry.TheVariants.{Accept};
 ghost use Rattle.model_machine.specs.declared.entry.ControlCall.TheVariants.{Input};
-ghost use Rattle.model_machine.specs.Steps.{by_number, most_segments, input_answer};
-ghost use Rattle.lasting_state.specs.Untold.{WhereFull};
+ghost use Rattle.model_machine.specs.MachineCalls.{by_number, most_segments, input_answer};
+ghost use Rattle.lasting_state.specs.UntoldSteps.{WhereFull};
 ghost use Rattle.tm_machine.specs.Answers.{IsAnswered};
-ghost use Rattle.tm_machine.specs.Inputs.{IsNewInput, IsRefusal, code_for, is_input_fault, way_by, kept_so};
-ghost use Rattle.tm_machine.specs.Told.{IsLonger, Tells};
+ghost use Rattle.tm_machine.specs.Inputs.{IsNewInput, IsInputRefusal, code_for, is_input_fault, way_by, kept_so};
+ghost use Rattle.tm_machine.specs.ToldByCall.{IsCallLonger, TellsLastingStep};
 
-use crate::lookup::code_word;
 use crate::parts::Parts;
 use conversation::Busy;
 use lasting_state::{Enqueued, KeptInput, Untold, kept_first};
-use model_machine::{InputRefused, Taken};
+use model_machine::{InputRefused, Taken, code_word};
 use model_system::{Code, SegmentKind};
 use region_work::{count_busy, follow_at};
 use std::alloc::Global;
@@ -154,11 +153,11 @@ impl Parts {
         requires { 0 < length segments.now }
         ensures answer { IfOk result (λ answer. IsAnswered self.old self.new (Accept terminal.now number segments.now answer)) }
         ensures no_fault { IfOk result (λ answer. is_input_fault answer ≡ false) }
-        ensures told { OnOk result (Tells self.old.system self.old.moment 0 room (Input terminal.now number segments.now) told.old.items told.new.items) }
+        ensures told { OnOk result (TellsLastingStep self.old.system self.old.moment 0 room (Input terminal.now number segments.now) told.old.items told.new.items) }
         ensures databases { self.new.databases ≡ self.old.databases }
         ensures err { OnErr result (self.new ≡ self.old) }
         ensures untold { OnErr result (told.new.items ≡ told.old.items) }
-        ensures full { IfErr result (WhereFull (IsLonger self.old.system self.old.moment 0 room (Input terminal.now number segments.now))) }
+        ensures full { IfErr result (WhereFull (IsCallLonger self.old.system self.old.moment 0 room (Input terminal.now number segments.now))) }
     {
         let _ = &self.alloc;
         let Ok(count) = u32::try_from(segments.len()) else {
@@ -181,7 +180,7 @@ impl Parts {
         requires some { 0 < length segments.now }
         requires count { count ≡ length segments.now }
         ensures new { IfOk result (IsNewInput self.now terminal.now number segments.now) }
-        ensures refused { IfErr result (IsRefusal (input_answer self.now.system self.now.moment terminal.now number segments.now)) }
+        ensures refused { IfErr result (IsInputRefusal (input_answer self.now.system self.now.moment terminal.now number segments.now)) }
     {
         let Some(place) = self.system.terminal_place(terminal) else {
             return Err(Err(InputRefused::Terminal));
@@ -235,11 +234,11 @@ impl Parts {
         requires segment { 0 < length segments.now }
         ensures answer { IfOk result (λ answer. IsAnswered self.old self.new (Accept terminal.now number segments.now answer)) }
         ensures no_fault { IfOk result (λ answer. is_input_fault answer ≡ false) }
-        ensures told { OnOk result (Tells self.old.system self.old.moment 0 room (Input terminal.now number segments.now) told.old.items told.new.items) }
+        ensures told { OnOk result (TellsLastingStep self.old.system self.old.moment 0 room (Input terminal.now number segments.now) told.old.items told.new.items) }
         ensures databases { self.new.databases ≡ self.old.databases }
         ensures err { OnErr result (self.new ≡ self.old) }
         ensures untold { OnErr result (told.new.items ≡ told.old.items) }
-        ensures full { IfErr result (WhereFull (IsLonger self.old.system self.old.moment 0 room (Input terminal.now number segments.now))) }
+        ensures full { IfErr result (WhereFull (IsCallLonger self.old.system self.old.moment 0 room (Input terminal.now number segments.now))) }
     {
         let Ok(kept) = kept_so(self.alloc, &input, segments) else {
             return Err(Untold::Memory);

@@ -25,14 +25,13 @@ mod busy;
 mod commanding;
 mod finish;
 mod input;
+mod lasting_commands;
 mod lending;
-mod lookup;
 mod lookups;
 mod opening;
 mod output;
 mod parts;
 mod quiet;
-mod tm_machine_command;
 mod turn;
 mod victims;
 

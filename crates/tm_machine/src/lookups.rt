@@ -1,14 +1,14 @@
 //! What an operator is shown is looked up here.
 ghost use Rattle.std.specs.Prelude.{◌≡◌, ◌<◌, Some, length, slice_get};
 ghost use Rattle.std.specs.Option.{option_copied, option_map};
-ghost use Rattle.conversation.specs.Refusals.{input_answer as conversation_answer};
-ghost use Rattle.model_messages.specs.Input.{busy_id};
+ghost use Rattle.conversation.specs.Refusals.{conversation_answer as conversation_answer};
+ghost use Rattle.model_messages.specs.ConversationInput.{busy_id};
 ghost use Rattle.model_messages.specs.Terminals.{conversation_at};
 ghost use Rattle.model_data.specs.Table.{wait_of, waits_by};
-ghost use Rattle.model_machine.specs.ModelMachineCommands.{state_now};
+ghost use Rattle.model_machine.specs.CommandAnswers.{state_now};
 ghost use Rattle.model_machine.specs.Machine.{IsRegion, moment_with, output_at, slot_at, terminal_at, waiting_now};
-ghost use Rattle.tm_machine.specs.Lookups.{message_of};
-ghost use Rattle.tm_machine.specs.Parts.{slot_of};
+ghost use Rattle.tm_machine.specs.RegionMessage.{region_message};
+ghost use Rattle.tm_machine.specs.Parts.{work_slot};
 
 use crate::parts::Parts;
 use conversation::Busy;
@@ -74,7 +74,7 @@ impl Parts {
     /// The code and the id of the message that a region works on, if it does.
     pub fn work(&self, region: u32) -> Option<(Name, u64)>
         requires { IsRegion self.now.system region }
-        ensures { result ≡ message_of (slot_at self.now.moment region) }
+        ensures { result ≡ region_message (slot_at self.now.moment region) }
     {
         message_in(&self.regions[(region - 1) as usize])
     }
@@ -102,7 +102,7 @@ fn state_at(states: &[CodeState], place: usize) -> &CodeState
 }
 
 fn message_in(busy: &Option<BusyRegion>) -> Option<(Name, u64)>
-    ensures { result ≡ message_of (slot_of busy.now) }
+    ensures { result ≡ region_message (work_slot busy.now) }
 {
     match busy {
         Some(busy) => Some((busy.code, busy.id)),

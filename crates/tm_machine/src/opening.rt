@@ -1,8 +1,8 @@
 //! A control region that goes on with what lasts.
 ghost use Rattle.std.specs.Prelude.{◌≡◌, [], length, replicate};
 ghost use Rattle.model_machine.specs.Machine.{LastingState, empty_state, start_of};
-ghost use Rattle.tm_machine.specs.OnSlots.{slots_now};
-ghost use Rattle.tm_machine.specs.Opening.{IsOpenedWith};
+ghost use Rattle.tm_machine.specs.SlotChanges.{slots_now};
+ghost use Rattle.tm_machine.specs.MachineOpening.{IsOpenedWith};
 
 use crate::parts::Parts;
 

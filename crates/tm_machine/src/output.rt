@@ -3,11 +3,11 @@ ghost use Rattle.std.specs.Prelude.{◌≡◌, IfOk, IfErr, OnOk, OnErr};
 ghost use Rattle.model_machine.specs.declared.entry.ControlCall.TheVariants.{Acknowledge};
 ghost use Rattle.model_machine.specs.declared.entry.Entry.TheVariants.{Acked as AckedEntry, Show as ShowEntry};
 ghost use Rattle.model_machine.specs.Machine.{output_at, terminal_at};
-ghost use Rattle.model_machine.specs.Steps.{show_answer};
-ghost use Rattle.lasting_state.specs.Showing.{IsShownTo};
-ghost use Rattle.lasting_state.specs.Untold.{WhereFull};
+ghost use Rattle.model_machine.specs.MachineCalls.{show_answer};
+ghost use Rattle.lasting_state.specs.ShownTerminal.{IsShownTo};
+ghost use Rattle.lasting_state.specs.UntoldSteps.{WhereFull};
 ghost use Rattle.tm_machine.specs.Answers.{Answers, IsAnswered};
-ghost use Rattle.tm_machine.specs.Told.{IsLonger, Tells};
+ghost use Rattle.tm_machine.specs.ToldByCall.{IsCallLonger, TellsLastingStep};
 
 use crate::parts::Parts;
 use lasting_state::{Shown, Untold};
@@ -66,11 +66,11 @@ impl Parts {
         told: &mut Vec<u8>,
     ) -> Result<Result<Acked, AckRefused>, Untold>
         ensures answer { IfOk result (λ answer. IsAnswered self.old self.new (AckedEntry terminal.now number answer)) }
-        ensures told { OnOk result (Tells self.old.system self.old.moment 0 room (Acknowledge terminal.now number) told.old.items told.new.items) }
+        ensures told { OnOk result (TellsLastingStep self.old.system self.old.moment 0 room (Acknowledge terminal.now number) told.old.items told.new.items) }
         ensures databases { self.new.databases ≡ self.old.databases }
         ensures err { OnErr result (self.new ≡ self.old) }
         ensures untold { OnErr result (told.new.items ≡ told.old.items) }
-        ensures full { IfErr result (WhereFull (IsLonger self.old.system self.old.moment 0 room (Acknowledge terminal.now number))) }
+        ensures full { IfErr result (WhereFull (IsCallLonger self.old.system self.old.moment 0 room (Acknowledge terminal.now number))) }
     {
         self.tables.acknowledge(terminal, number, room, told)
     }

@@ -1,10 +1,10 @@
 //! The parts of a control region.
 ghost use Rattle.std.specs.Prelude.{◌≡◌, None, replicate, IfErr, IfOk};
 ghost use Rattle.model_machine.specs.Machine.{empty_state, start_of, IsRegion};
-ghost use Rattle.program_rows.specs.OnSlots.{all_stores, touched_in};
-ghost use Rattle.program_rows.specs.Making.{AreThere};
-ghost use Rattle.program_rows.specs.State.{settled, with_marks};
-ghost use Rattle.tm_machine.specs.OnSlots.{slots_now, HasSlots};
+ghost use Rattle.program_rows.specs.SlotsState.{slots_stores, touched_in};
+ghost use Rattle.program_rows.specs.PlannedChanges.{AreThere};
+ghost use Rattle.program_rows.specs.DatabasesState.{with_all_settled, with_marks};
+ghost use Rattle.tm_machine.specs.SlotChanges.{slots_now, HasSlots};
 
 use lasting_state::Tables;
 use region_work::Busy;
@@ -30,11 +30,11 @@ pub struct Parts {
 
 impl Model for Parts {
     ghost use Rattle.tm_machine.specs.Parts.{PartsState, AreParts};
-    ghost use Rattle.tm_machine.specs.PartsView.{moment_of};
+    ghost use Rattle.tm_machine.specs.PartsView.{parts_moment};
 
     ghost Value = { PartsState };
 
-    ghost view = { λ p. record { system = p.system; moment = moment_of p; databases = p.tables.databases } };
+    ghost view = { λ p. record { system = p.system; moment = parts_moment p; databases = p.tables.databases } };
 
     ghost invariant = { λ p. AreParts p.system p.tables p.codes p.regions.items };
 }
@@ -82,7 +82,7 @@ impl Parts {
 
     /// The stores of the databases, as they are, with the slots that were changed since they were written.
     pub fn stores(&self) -> &Stores
-        ensures value { result.now ≡ all_stores (slots_now self.now) }
+        ensures value { result.now ≡ slots_stores (slots_now self.now) }
         ensures has { HasSlots self.now }
     {
         self.tables.databases().stores()
@@ -98,7 +98,7 @@ impl Parts {
 
     /// No slot counts as changed any more: what stands in the sectors is the caller's.
     pub fn settle(&mut self)
-        ensures { self.new ≡ record self.old { databases = settled self.old.databases } }
+        ensures { self.new ≡ record self.old { databases = with_all_settled self.old.databases } }
     {
         self.tables.databases_mut().settle();
     }

@@ -1,7 +1,7 @@
 //! Whether anything is left to do.
 ghost use Rattle.std.specs.Prelude.{◌≡◌};
 ghost use Rattle.model_machine.specs.Machine.{IsRegion};
-ghost use Rattle.model_machine.specs.Steps.{rests, is_quiet};
+ghost use Rattle.model_machine.specs.MachineCalls.{rests, is_machine_quiet};
 
 use crate::parts::Parts;
 use tran_pick::pick;
@@ -9,7 +9,7 @@ use tran_pick::pick;
 impl Parts {
     /// Whether nothing is left to do: all regions are empty, and none has a message to take and the room for it.
     pub fn is_quiet(&self) -> bool
-        ensures { result ≡ is_quiet self.now.system self.now.moment }
+        ensures { result ≡ is_machine_quiet self.now.system self.now.moment }
     {
         for (place, _work) in self.regions.iter().enumerate() {
             if !self.rests(place as u32 + 1) {

@@ -2,14 +2,14 @@
 ghost use Rattle.std.specs.Prelude.{◌≡◌, ◌<◌, ℕ, length, false, Ok, IfOk, IfErr, IfSome, OnOk, OnErr, None};
 ghost use Rattle.model_machine.specs.declared.entry.Entry.TheVariants.{Turn as TurnEntry};
 ghost use Rattle.model_machine.specs.Machine.{IsRegion, slot_at};
-ghost use Rattle.model_machine.specs.Steps.{need_now};
-ghost use Rattle.lasting_state.specs.Untold.{WhereFull};
+ghost use Rattle.model_machine.specs.MachineCalls.{need_now};
+ghost use Rattle.lasting_state.specs.UntoldSteps.{WhereFull};
 ghost use Rattle.tm_machine.specs.Answers.{Answers};
-ghost use Rattle.message_run.specs.Telling.{TellsNext, IsQuietUnlessCalled};
-ghost use Rattle.log_records.specs.Telling.{spelled};
-ghost use Rattle.tm_machine.specs.OnSlots.{changes_told, IsTurnLonger, TellByCall, TurnTells, TurnsSo};
-ghost use Rattle.tm_machine.specs.Told.{ends_work};
-ghost use Rattle.tm_machine.specs.Turns.{Goes, IsTurned, waited};
+ghost use Rattle.message_run.specs.MessageChanges.{TellsNext, IsQuietUnlessCalled};
+ghost use Rattle.log_records.specs.ToldRecords.{spelled_records};
+ghost use Rattle.tm_machine.specs.SlotChanges.{changes_told, IsTurnLonger, TellByCall, TurnTells, TurnsSo};
+ghost use Rattle.tm_machine.specs.ToldByCall.{ends_work};
+ghost use Rattle.tm_machine.specs.Turns.{RegionGoes, IsRegionTurned, waited};
 
 use crate::parts::Parts;
 use lasting_state::Untold;
@@ -56,7 +56,7 @@ impl Parts {
         told: &mut Vec<u8>,
     ) -> Result<Turned, Untold>
         requires { IsRegion self.old.system region }
-        ensures turned { IfOk result (IsTurned self.old self.new region) }
+        ensures turned { IfOk result (IsRegionTurned self.old self.new region) }
         ensures told { OnOk result (TurnTells self.old unit room region told.old.items told.new.items) }
         ensures slots { IfOk result (TurnsSo self.old self.new unit region) }
         ensures calls { IfOk result (TellByCall (changes_told self.old unit region)) }
@@ -88,12 +88,12 @@ impl Parts {
         told: &mut Vec<u8>,
     ) -> Result<Option<Advanced>, Untold>
         requires { IsRegion self.old.system region }
-        ensures ok { IfOk result (Goes self.old self.new region) }
+        ensures ok { IfOk result (RegionGoes self.old self.new region) }
         ensures tells { OnOk result (TellsNext unit room region self.old.databases self.new.databases told.old.items told.new.items (changes_told self.old unit region)) }
         ensures quiet { IfOk result (λ advanced. IfSome advanced (IsQuietUnlessCalled told.old.items told.new.items)) }
         ensures err { OnErr result (self.new ≡ self.old) }
         ensures untold { OnErr result (told.new.items ≡ told.old.items) }
-        ensures full { IfErr result (WhereFull (room < length (spelled (changes_told self.old unit region)))) }
+        ensures full { IfErr result (WhereFull (room < length (spelled_records (changes_told self.old unit region)))) }
     {
         advance(
             self.alloc,
@@ -119,7 +119,7 @@ impl Parts {
     fn schedule(&mut self, region: u32) -> Turned
         requires region { IsRegion self.old.system region }
         requires empty { slot_at self.old.moment region ≡ None }
-        ensures turned { IsTurned self.old self.new region result }
+        ensures turned { IsRegionTurned self.old self.new region result }
         ensures quiet { ends_work result ≡ false }
         ensures slots { (unit : ℕ) → TurnsSo self.old self.new unit region result }
     {

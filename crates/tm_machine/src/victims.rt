@@ -3,8 +3,8 @@ ghost use Rattle.std.specs.Prelude.{◌≡◌, ◌≤◌, length, map, IsSome, M
 ghost use Rattle.model_data.specs.Cycle.{HasNoCycle};
 ghost use Rattle.model_machine.specs.Machine.{IsRegion, busy_slots, slot_at};
 ghost use Rattle.model_machine.specs.Requests.{changes_now};
-ghost use Rattle.program_rows.specs.OnSlots.{GivesUpSo, HaveSlots};
-ghost use Rattle.tm_machine.specs.OnSlots.{slots_now, VictimsGiveUp};
+ghost use Rattle.program_rows.specs.SlotsState.{GivesUpSo, HaveSlots};
+ghost use Rattle.tm_machine.specs.SlotChanges.{slots_now, VictimsGiveUp};
 ghost use Rattle.tm_machine.specs.Victims.{gave_way, BreaksRings, GivesWay};
 
 use crate::parts::Parts;

@@ -8,26 +8,26 @@ use Rattle.tm_disk.specs.Disk.{DiskState, IsDisk, FailedSince}
 use Rattle.model_system.specs.System.{System}
 use Rattle.model_session.specs.declared.asked.ImageRefused.{ImageRefused}
 use Rattle.model_session.specs.Blocks.{Block, blocks_of}
-use Rattle.model_session.specs.Standing.{Stop}
+use Rattle.model_session.specs.SessionState.{Stop}
 use Rattle.openings.specs.declared.life.Life.{Life}
 use Rattle.std.specs.Io.KnownBytes.{append_known}
 use Rattle.tm_edge.specs.Fault.{HasRisen, AppendsFront}
-use Rattle.tm_edge.specs.Lines.{CutLine, cut_lines, lines_of, is_short, line_size, line_text, behind_line, HasServed, IsTooLong}
+use Rattle.tm_edge.specs.Lines.{CutLine, cut_lines, lines_of, is_short_line, line_size, line_text, behind_line, HasServed, IsLineTooLong}
 use Rattle.tm_edge.proofs.ServedSoFar.{long_first}
 use Rattle.tm_edge.proofs.CutLines.{cut_first}
 use Rattle.tm_session.specs.declared.outcome.Ended.{Ended}
 use Rattle.tm_session.specs.declared.outcome.Ended.TheVariants.{Done, Words, BadLine, BadCross, Down, Read, Write, Image, Memory, Limit, Spent}
 use Rattle.tm_session.specs.Outcome.{IsLimit, HasCause}
-use Rattle.tm_session.specs.Source.{judged, definition_text}
-use Rattle.tm_session.specs.Headline.{HasSession, IsNeverOpened, IsSession, IsValidDisk, IsOpenedDisk, IsFoundDisk, AskNoColdStart, Defines, IsBroken}
+use Rattle.tm_session.specs.DefinedSystem.{judged_definition, text_of_definition}
+use Rattle.tm_session.specs.Headline.{HasSession, IsNeverOpened, IsSession, IsDiskValid, IsDiskOpened, IsFoundDisk, AskNoColdStart, Defines, IsDefinitionBroken}
 use Rattle.tm_session.proofs.Near.{near_session, near_never}
 use Rattle.tm_session.proofs.Opened.{all_served}
 use Rattle.tm_session.proofs.Complete.{no_stops, done_opened, done_found, not_down, not_refused, valid_opened}
-use Rattle.sysdef_text.specs.Ends.{definition_lines, lines_behind}
+use Rattle.sysdef_text.specs.DefinitionEnd.{definition_lines, lines_behind}
 use Rattle.tm_prog.specs.declared.words.Workload.{Workload}
 use Rattle.tm_prog.specs.Words.{WordFault, word_fault, workload_of}
-use Rattle.tm_prog.specs.Workload.{told_by, text_of as workload_bytes, summary_of, status_by, IsWritten, IsToldBy, IsTold, IsWorkload}
-use Rattle.tm_prog.specs.Status.{IsServed, IsByWords, IsRun, IsLastLine, IsWithinLimits, IsServedBy, IsServedWhole, is_by_disk, IsComplete, IsNearLimit, IsNear, status_text}
+use Rattle.tm_prog.specs.Workload.{bytes_served_by, workload_bytes_of as workload_bytes, summary_of, status_by, IsSummaryWritten, IsToldByWorkload, IsWorkloadTold, IsWorkload}
+use Rattle.tm_prog.specs.Status.{IsSessionServed, IsByWords, IsRun, IsLastLine, IsWithinLimits, IsServedBy, IsServedWhole, is_by_disk, IsComplete, IsNearLimit, IsNear, session_status_text}
 
 -- ---- statuses that aren't 0
 
@@ -49,15 +49,15 @@ image_isnt refusal e = cc
 long_is_not : (size : ℕ) (others : Bool) → 4096 < size → (nat_le size 4096 && others) ≡ true → ⊥
 long_is_not size others long h = let e : nat_le size 4096 ≡ false = grind (arith, nat_tests) in let f : false ≡ true = rw e at h in cc
 
-long_line : (bytes rest : List ℕ) (cut : List CutLine) → HasServed bytes cut rest → IsTooLong rest → IsWithinLimits (Some bytes) → ⊥
+long_line : (bytes rest : List ℕ) (cut : List CutLine) → HasServed bytes cut rest → IsLineTooLong rest → IsWithinLimits (Some bytes) → ⊥
 long_line bytes rest cut served long within =
-    let all : list_all is_short (cut_lines bytes) ≡ true = within.1 in
+    let all : list_all is_short_line (cut_lines bytes) ≡ true = within.1 in
     let parts : cut_lines bytes ≡ cut ++ record { text = line_text rest; size = line_size rest } ∷ cut_lines (behind_line rest) =
     served.cut ∙ ap (λ more. cut ++ more) (long_first rest long) in
-    let joined : (list_all is_short cut && (nat_le (line_size rest) 4096 && list_all is_short (cut_lines (behind_line rest)))) ≡ true =
-    sym (list_all-append is_short cut (record { text = line_text rest; size = line_size rest } ∷ cut_lines (behind_line rest))) ∙ sym (ap (list_all is_short) parts) ∙ all in
-    let short : (nat_le (line_size rest) 4096 && list_all is_short (cut_lines (behind_line rest))) ≡ true = sym (ap (λ s. s && (nat_le (line_size rest) 4096 && list_all is_short (cut_lines (behind_line rest)))) served.short) ∙ joined in
-    long_is_not (line_size rest) (list_all is_short (cut_lines (behind_line rest))) long short
+    let joined : (list_all is_short_line cut && (nat_le (line_size rest) 4096 && list_all is_short_line (cut_lines (behind_line rest)))) ≡ true =
+    sym (list_all-append is_short_line cut (record { text = line_text rest; size = line_size rest } ∷ cut_lines (behind_line rest))) ∙ sym (ap (list_all is_short_line) parts) ∙ all in
+    let short : (nat_le (line_size rest) 4096 && list_all is_short_line (cut_lines (behind_line rest))) ≡ true = sym (ap (λ s. s && (nat_le (line_size rest) 4096 && list_all is_short_line (cut_lines (behind_line rest)))) served.short) ∙ joined in
+    long_is_not (line_size rest) (list_all is_short_line (cut_lines (behind_line rest))) long short
 
 -- bytes that aren't empty have a line
 some_line : (rest : List ℕ) → rest ≢ [] → 0 < length (cut_lines rest)
@@ -98,7 +98,7 @@ module _ {D : Type 0} (state : D → DiskState) (is_disk : (disk : D) → IsDisk
   -- ---- by the status
 
   abbrev text_of : List ℕ → List ℕ
-  text_of bytes = definition_text (definition_lines (lines_of bytes))
+  text_of bytes = text_of_definition (definition_lines (lines_of bytes))
 
   abbrev blocks_in : List ℕ → List Block
   blocks_in bytes = blocks_of (lines_behind (lines_of bytes))
@@ -113,7 +113,7 @@ module _ {D : Type 0} (state : D → DiskState) (is_disk : (disk : D) → IsDisk
   by_system bytes system status defines whole =
       subst (λ (r : Result System Ended). IsServedBy r (text_of bytes) (blocks_in bytes) (state handed) (state disk) status stops) (sym defines) whole
 
-  by_break : (told : Option (List ℕ)) (status : Ended) → IfSome told (λ bytes. IsBroken bytes status) → Complete told status
+  by_break : (told : Option (List ℕ)) (status : Ended) → IfSome told (λ bytes. IsDefinitionBroken bytes status) → Complete told status
   by_break (Some bytes) status h = subst (λ (r : Result System Ended). IsServedBy r (text_of bytes) (blocks_in bytes) (state handed) (state disk) status stops) (sym h.broken) (inl refl)
   by_break None status h = tt
 
@@ -124,7 +124,7 @@ module _ {D : Type 0} (state : D → DiskState) (is_disk : (disk : D) → IsDisk
         calm = no_stop (Some bytes) (Some left) old new Done (inl h);
         valid = λ calm valid. inl refl;
         opened = λ none done.
-            subst (λ (t : List ℕ). IsOpenedDisk h.system t (state handed)) h.text_is (done_opened state handed disk (Some bytes) (Some left) old new lives stops h none);
+            subst (λ (t : List ℕ). IsDiskOpened h.system t (state handed)) h.text_is (done_opened state handed disk (Some bytes) (Some left) old new lives stops h none);
         found = λ warm done.
             subst (λ (t : List ℕ). IsFoundDisk h.system t (state handed)) h.text_is
             (done_found state handed disk (Some bytes) (Some left) old new lives stops h
@@ -152,7 +152,7 @@ module _ {D : Type 0} (state : D → DiskState) (is_disk : (disk : D) → IsDisk
 
   -- a status that isn't 0
   other_whole : (system : System) (text : List ℕ) (blocks : List Block) (status : Ended) → (status ≡ Done → ⊥) → (status ≡ Done) ⊎ ((status ≡ Memory) ⊎ (is_by_disk status ≡ true)) → (Calm → stops ≡ [])
-      → (Calm → IsValidDisk system text (state handed) → (status ≡ Done) ⊎ ((status ≡ Memory) ⊎ (status ≡ Spent))) → IsServedWhole system text blocks (state handed) (state disk) status stops
+      → (Calm → IsDiskValid system text (state handed) → (status ≡ Done) ⊎ ((status ≡ Memory) ⊎ (status ≡ Spent))) → IsServedWhole system text blocks (state handed) (state disk) status stops
   other_whole system text blocks status other is calm valid =
       record { status_is = is; calm = calm; valid = valid; opened = λ none done. absurd (other done); found = λ warm done. absurd (other done) }
 
@@ -162,7 +162,7 @@ module _ {D : Type 0} (state : D → DiskState) (is_disk : (disk : D) → IsDisk
 
   by_memory : (told left old new : Option (List ℕ)) → Session told left old new Memory → Complete told Memory
   by_memory (Some bytes) left old new session =
-      memory_of (judged (definition_lines (lines_of bytes))) (text_of bytes) (blocks_in bytes) (no_stop (Some bytes) left old new Memory session)
+      memory_of (judged_definition (definition_lines (lines_of bytes))) (text_of bytes) (blocks_in bytes) (no_stop (Some bytes) left old new Memory session)
   by_memory None left old new session = tt
 
   spent_whole : (system : System) (bytes : List ℕ) → (Calm → stops ≡ []) → Whole system bytes Spent
@@ -204,7 +204,7 @@ module _ {D : Type 0} (state : D → DiskState) (is_disk : (disk : D) → IsDisk
   by_image refusal told left old new (inr (inl begun, nothing)) = absurd begun.unbegun
 
   complete : (status : Ended) (told left old mid new : Option (List ℕ)) (r r' w w1 w2 : ℕ)
-      → Session told left old mid status → HasCause status r r' w w1 → IsLastLine mid new (status_text status) w1 w2
+      → Session told left old mid status → HasCause status r r' w w1 → IsLastLine mid new (session_status_text status) w1 w2
       → ¬ HasRisen r r' → ¬ HasRisen w w2 → IsWithinLimits told → Complete told status
   complete Done told left old mid new r r' w w1 w2 session cause last reads writes within = by_done told left old mid session
   complete Memory told left old mid new r r' w w1 w2 session cause last reads writes within = by_memory told left old mid session
@@ -227,7 +227,7 @@ module _ {D : Type 0} (state : D → DiskState) (is_disk : (disk : D) → IsDisk
   -- where the session of these bytes was served, and memory was wanting behind it
   memory_behind : (ended : Ended) (told left old new : Option (List ℕ)) → Session told left old new ended → Complete told Memory
   memory_behind ended (Some bytes) left old new session =
-      memory_of (judged (definition_lines (lines_of bytes))) (text_of bytes) (blocks_in bytes) (no_stop (Some bytes) left old new ended session)
+      memory_of (judged_definition (definition_lines (lines_of bytes))) (text_of bytes) (blocks_in bytes) (no_stop (Some bytes) left old new ended session)
   memory_behind ended None left old new session = tt
 
   complete_by : (ended : Ended) (told left old new : Option (List ℕ)) (writes : ℕ) → Session told left old new ended → HasCause ended 0 0 0 writes → IsWithinLimits told → Complete told (status_by ended)
@@ -245,28 +245,28 @@ module _ {D : Type 0} (state : D → DiskState) (is_disk : (disk : D) → IsDisk
 
   -- the sink failed
   risen : (status : Ended) (mid new : Option (List ℕ)) (summary : List ℕ) (r r' w w1 w2 : ℕ) → status ≡ Write → summary ≡ []
-      → HasCause status r r' w w1 → IsLastLine mid new (summary ++ status_text status) w1 w2 → HasRisen w w2
+      → HasCause status r r' w w1 → IsLastLine mid new (summary ++ session_status_text status) w1 w2 → HasRisen w w2
   risen status mid new summary r r' w w1 w2 is none cause last =
-      let calm : IsLastLine mid new [] w1 w2 = subst (λ (line : List ℕ). IsLastLine mid new line w1 w2) (ap (λ (l : List ℕ). l ++ status_text status) none ∙ ap status_text is) last in
+      let calm : IsLastLine mid new [] w1 w2 = subst (λ (line : List ℕ). IsLastLine mid new line w1 w2) (ap (λ (l : List ℕ). l ++ session_status_text status) none ∙ ap session_status_text is) last in
       let rose : HasCause Write r r' w w1 = subst (λ (s : Ended). HasCause s r r' w w1) is cause in
       subst (HasRisen w) (sym calm.1) rose.1
 
   module _ (text : List ℕ) (summed : List ℕ) (printed left : List ℕ) (old mid new : Option (List ℕ)) (summary : List ℕ) (status : Ended) (r r' w w1 w2 writes : ℕ)
-      (cause : HasCause status r r' w w1) (last : IsLastLine mid new (summary ++ status_text status) w1 w2) (calm : ¬ HasRisen w w2) (within : IsWithinLimits (Some text)) where
+      (cause : HasCause status r r' w w1) (last : IsLastLine mid new (summary ++ session_status_text status) w1 w2) (calm : ¬ HasRisen w w2) (within : IsWithinLimits (Some text)) where
     abbrev Told : Type 0
     Told = Complete (Some text) status
 
     as_ended : (ended : Ended) → Session (Some text) (Some left) (Some []) (Some printed) ended → HasCause ended 0 0 0 writes → status ≡ status_by ended → Told
     as_ended ended session why is = subst (λ (s : Ended). Complete (Some text) s) (sym is) (complete_by ended (Some text) (Some left) (Some []) (Some printed) writes session why within)
 
-    as_written : Session (Some text) (Some left) (Some []) (Some printed) Done → HasCause Done 0 0 0 writes → IsWritten summed status old mid summary → Told
+    as_written : Session (Some text) (Some left) (Some []) (Some printed) Done → HasCause Done 0 0 0 writes → IsSummaryWritten summed status old mid summary → Told
     as_written session why told = done_or told.written
       where
         done_or : ((status ≡ Done) × (mid ≡ append_known old summed)) ⊎ ((status ≡ Write) × AppendsFront old mid summed) → Told
         done_or (inl whole) = as_ended Done session why whole.0
         done_or (inr front) = absurd (calm (risen status mid new summary r r' w w1 w2 front.0 told.none cause last))
 
-    as_told : (ended : Ended) → Session (Some text) (Some left) (Some []) (Some printed) ended → HasCause ended 0 0 0 writes → IsToldBy ended summed status old mid summary → Told
+    as_told : (ended : Ended) → Session (Some text) (Some left) (Some []) (Some printed) ended → HasCause ended 0 0 0 writes → IsToldByWorkload ended summed status old mid summary → Told
     as_told Done session why told = as_written session why told
     as_told (Words word rule) session why told = as_ended (Words word rule) session why told.status_is
     as_told (BadLine line rule) session why told = as_ended (BadLine line rule) session why told.status_is
@@ -279,7 +279,7 @@ module _ {D : Type 0} (state : D → DiskState) (is_disk : (disk : D) → IsDisk
     as_told (Limit n) session why told = as_ended (Limit n) session why told.status_is
     as_told Spent session why told = as_ended Spent session why told.status_is
 
-    as_any : (ended : Ended) → Session (Some text) (Some left) (Some []) (Some printed) ended → HasCause ended 0 0 0 writes → IsTold ended summed status old mid summary → Told
+    as_any : (ended : Ended) → Session (Some text) (Some left) (Some []) (Some printed) ended → HasCause ended 0 0 0 writes → IsWorkloadTold ended summed status old mid summary → Told
     as_any ended session why (inl told) = as_told ended session why told
     as_any ended session why (inr untold) =
         subst (λ (s : Ended). Complete (Some text) s) (sym untold.status_is) (memory_behind ended (Some text) (Some left) (Some []) (Some printed) session)
@@ -287,27 +287,27 @@ module _ {D : Type 0} (state : D → DiskState) (is_disk : (disk : D) → IsDisk
   -- ---- by the words
 
   complete_served : (workload : Option Workload) (told left old mid new : Option (List ℕ)) (summary : List ℕ) (status : Ended) (r r' w w1 w2 : ℕ)
-      → IsServed state workload told left old mid summary handed disk status lives stops → HasCause status r r' w w1 → IsLastLine mid new (summary ++ status_text status) w1 w2
-      → ¬ HasRisen r r' → ¬ HasRisen w w2 → IsWithinLimits (told_by workload told) → Complete (told_by workload told) status
+      → IsSessionServed state workload told left old mid summary handed disk status lives stops → HasCause status r r' w w1 → IsLastLine mid new (summary ++ session_status_text status) w1 w2
+      → ¬ HasRisen r r' → ¬ HasRisen w w2 → IsWithinLimits (bytes_served_by workload told) → Complete (bytes_served_by workload told) status
   complete_served (Some workload) told left old mid new summary status r r' w w1 w2 served cause last reads writes within =
       let run : IsWorkload state workload old mid summary handed disk status lives stops = served.1 in
       as_any (workload_bytes workload) (summary_of workload lives run.printed) run.printed run.drilled.left old mid new summary status r r' w w1 w2 run.drilled.writes cause last writes within
       run.ended run.drilled.session run.drilled.cause run.told
   complete_served None told left old mid new summary status r r' w w1 w2 served cause last reads writes within =
       complete status told left old mid new r r' w w1 w2 served.1 cause
-      (subst (λ (line : List ℕ). IsLastLine mid new line w1 w2) (ap (λ (l : List ℕ). l ++ status_text status) served.0) last) reads writes within
+      (subst (λ (line : List ℕ). IsLastLine mid new line w1 w2) (ap (λ (l : List ℕ). l ++ session_status_text status) served.0) last) reads writes within
 
   never : true ≡ false → ⊥
   never e = cc
 
   served_of : (fault : Option WordFault) (workload : Option Workload) (told left old new : Option (List ℕ)) (summary : List ℕ) (status : Ended) → IsNone fault
-      → IsByWords state fault workload told left old new summary handed disk status lives stops → IsServed state workload told left old new summary handed disk status lives stops
+      → IsByWords state fault workload told left old new summary handed disk status lives stops → IsSessionServed state workload told left old new summary handed disk status lives stops
   served_of None workload told left old new summary status none served = served
   served_of (Some fault) workload told left old new summary status none served = absurd (never none)
 
   pub complete_run : (words : List (List ℕ)) (told left old new : Option (List ℕ)) (status : Ended) (r r' w w' : ℕ)
       → IsRun state words told left old new handed disk status lives stops r r' w w' → IsNone (word_fault words) → ¬ HasRisen r r' → ¬ HasRisen w w'
-      → IsWithinLimits (told_by (workload_of words) told) → IsComplete (told_by (workload_of words) told) (state handed) (state disk) status stops
+      → IsWithinLimits (bytes_served_by (workload_of words) told) → IsComplete (bytes_served_by (workload_of words) told) (state handed) (state disk) status stops
   complete_run words told left old new status r r' w w' run none reads writes within =
       complete_served (workload_of words) told left old run.before new run.summary status r r' w run.writes w'
       (served_of (word_fault words) (workload_of words) told left old run.before run.summary status none run.session) run.cause run.last reads writes within
@@ -339,14 +339,14 @@ module _ {D : Type 0} (state : D → DiskState) (is_disk : (disk : D) → IsDisk
     near_as : (other : Ended) → status ≡ other → Near other → Near status
     near_as other is near = subst (λ (s : Ended). Near s) (sym is) near
 
-    near_written : IsWritten summed status old mid summary → Near status
+    near_written : IsSummaryWritten summed status old mid summary → Near status
     near_written told = done_or told.written
       where
         done_or : ((status ≡ Done) × (mid ≡ append_known old summed)) ⊎ ((status ≡ Write) × AppendsFront old mid summed) → Near status
         done_or (inl whole) = near_as Done whole.0 tt
         done_or (inr front) = near_as Write front.0 tt
 
-    near_told : (ended : Ended) → Session (Some text) (Some left) (Some []) (Some printed) ended → IsToldBy ended summed status old mid summary → Near status
+    near_told : (ended : Ended) → Session (Some text) (Some left) (Some []) (Some printed) ended → IsToldByWorkload ended summed status old mid summary → Near status
     near_told Done session told = near_written told
     near_told (Words word rule) session told = near_as (Words word rule) told.status_is tt
     near_told (BadLine line rule) session told = near_as (BadLine line rule) told.status_is tt
@@ -359,27 +359,27 @@ module _ {D : Type 0} (state : D → DiskState) (is_disk : (disk : D) → IsDisk
     near_told (Limit n) session told = near_as (Limit n) told.status_is tt
     near_told Spent session told = near_as Spent told.status_is (spent_near (Some text) (Some left) (Some []) (Some printed) session)
 
-    near_any : (ended : Ended) → Session (Some text) (Some left) (Some []) (Some printed) ended → IsTold ended summed status old mid summary → Near status
+    near_any : (ended : Ended) → Session (Some text) (Some left) (Some []) (Some printed) ended → IsWorkloadTold ended summed status old mid summary → Near status
     near_any ended session (inl told) = near_told ended session told
     near_any ended session (inr untold) = near_as Memory untold.status_is tt
 
   near_served : (workload : Option Workload) (told left old mid : Option (List ℕ)) (summary : List ℕ) (status : Ended)
-      → IsServed state workload told left old mid summary handed disk status lives stops → IsNear (told_by workload told) (state handed) status
+      → IsSessionServed state workload told left old mid summary handed disk status lives stops → IsNear (bytes_served_by workload told) (state handed) status
   near_served (Some workload) told left old mid summary status served =
       let run : IsWorkload state workload old mid summary handed disk status lives stops = served.1 in
       near_any (workload_bytes workload) (summary_of workload lives run.printed) run.printed run.drilled.left old mid summary status run.ended run.drilled.session run.told
   near_served None told left old mid summary status served = session_near status told left old mid served.1
 
   near_words : (fault : Option WordFault) (workload : Option Workload) (told left old mid : Option (List ℕ)) (summary : List ℕ) (status : Ended)
-      → IsByWords state fault workload told left old mid summary handed disk status lives stops → IsNear (told_by workload told) (state handed) status
+      → IsByWords state fault workload told left old mid summary handed disk status lives stops → IsNear (bytes_served_by workload told) (state handed) status
   near_words None workload told left old mid summary status served = near_served workload told left old mid summary status served
   near_words (Some fault) workload told left old mid summary status refused = of refused.1.status_is
     where
-      of : (status ≡ Words fault.word fault.rule) ⊎ (status ≡ Memory) → IsNear (told_by workload told) (state handed) status
-      of (inl is) = subst (λ (s : Ended). IsNear (told_by workload told) (state handed) s) (sym is) tt
-      of (inr is) = subst (λ (s : Ended). IsNear (told_by workload told) (state handed) s) (sym is) tt
+      of : (status ≡ Words fault.word fault.rule) ⊎ (status ≡ Memory) → IsNear (bytes_served_by workload told) (state handed) status
+      of (inl is) = subst (λ (s : Ended). IsNear (bytes_served_by workload told) (state handed) s) (sym is) tt
+      of (inr is) = subst (λ (s : Ended). IsNear (bytes_served_by workload told) (state handed) s) (sym is) tt
 
   -- That a counter is spent is told of a disk alone that was near it.
   pub near_run : (words : List (List ℕ)) (told left old new : Option (List ℕ)) (status : Ended) (r r' w w' : ℕ)
-      → IsRun state words told left old new handed disk status lives stops r r' w w' → IsNear (told_by (workload_of words) told) (state handed) status
+      → IsRun state words told left old new handed disk status lives stops r r' w w' → IsNear (bytes_served_by (workload_of words) told) (state handed) status
   near_run words told left old new status r r' w w' run = near_words (word_fault words) (workload_of words) told left old run.before run.summary status run.session

@@ -3,7 +3,7 @@ use Rattle.std.proofs.Common.{◌≡◌, ℕ, List, [], ◌∷◌, ◌++◌, cod
 use Rattle.std.specs.Prelude.{Option, Some, None, IsSome}
 use Rattle.std.specs.Io.KnownBytes.{append_known}
 use Rattle.tm_disk.specs.Disk.{DiskState}
-use Rattle.model_session.specs.Standing.{Stop}
+use Rattle.model_session.specs.SessionState.{Stop}
 use Rattle.openings.specs.declared.life.Life.{Life}
 use Rattle.tm_edge.specs.Fault.{HasRisen, AppendsFront}
 use Rattle.tm_session.specs.declared.outcome.Ended.{Ended}
@@ -11,8 +11,8 @@ use Rattle.tm_session.specs.declared.outcome.Ended.TheVariants.{Memory}
 use Rattle.tm_prog.specs.declared.words.Workload.{Workload}
 use Rattle.tm_session.specs.Headline.{IsSession}
 use Rattle.tm_prog.specs.Words.{WordFault, FaultIs, word_fault, workload_of}
-use Rattle.tm_prog.specs.Workload.{text_of, IsDrilled, IsWorkload}
-use Rattle.tm_prog.specs.Status.{IsLastLine, IsServed, IsByWords, IsRun}
+use Rattle.tm_prog.specs.Workload.{workload_bytes_of, IsDrilled, IsWorkload}
+use Rattle.tm_prog.specs.Status.{IsLastLine, IsSessionServed, IsByWords, IsRun}
 
 -- ---- the last line
 
@@ -47,12 +47,12 @@ pub unbegun_workload : {D : Type 0} (state : D → DiskState) (workload : Worklo
 unbegun_workload state workload old summary handed disk status lives stops none is no_life no_stop same = record {
   ended = Memory;
   printed = [];
-  drilled = unbegun_drill state (text_of workload) handed disk lives stops no_life no_stop same;
+  drilled = unbegun_drill state (workload_bytes_of workload) handed disk lives stops no_life no_stop same;
   told = inr (record { status_is = is; nothing = refl; none = none });
 }
 
 never_served : {D : Type 0} (state : D → DiskState) (workload : Option Workload) (told old : Option (List ℕ)) (handed disk : D) (lives : List Life) (stops : List Stop) → lives ≡ [] → stops ≡ [] → disk ≡ handed
-    → IsServed state workload told told old old [] handed disk Memory lives stops
+    → IsSessionServed state workload told told old old [] handed disk Memory lives stops
 never_served state (Some workload) told old handed disk lives stops no_life no_stop same =
     (refl, unbegun_workload state workload old [] handed disk Memory lives stops refl refl no_life no_stop same)
 never_served state None told old handed disk lives stops no_life no_stop same =

@@ -5,36 +5,36 @@ use Rattle.std.specs.Io.KnownBytes.{append_known}
 use Rattle.model_system.specs.System.{System}
 use Rattle.openings.specs.declared.life.Life.{Life}
 use Rattle.tm_edge.specs.Fault.{HasRisen, AppendsFront}
-use Rattle.tm_edge.specs.Lines.{cut_lines, lines_of, is_short}
+use Rattle.tm_edge.specs.Lines.{cut_lines, lines_of, is_short_line}
 use Rattle.tm_session.specs.declared.outcome.Ended.{Ended}
 use Rattle.tm_session.specs.declared.outcome.Ended.TheVariants.{Done, Words, BadLine, BadCross, Down, Read, Write, Image, Memory, Limit, Spent}
 use Rattle.model_session.specs.declared.asked.ImageRefused.TheVariants.{Rule, Text, Size}
 use Rattle.model_session.specs.Blocks.{Block, blocks_of}
-use Rattle.model_session.specs.Standing.{Stop}
+use Rattle.model_session.specs.SessionState.{Stop}
 use Rattle.tm_disk.specs.Disk.{DiskState, FailedSince}
-use Rattle.sysdef_text.specs.Ends.{definition_lines, lines_behind}
-use Rattle.tm_session.specs.Source.{judged, definition_text}
+use Rattle.sysdef_text.specs.DefinitionEnd.{definition_lines, lines_behind}
+use Rattle.tm_session.specs.DefinedSystem.{judged_definition, text_of_definition}
 use Rattle.tm_session.specs.Outcome.{HasCause}
-use Rattle.tm_session.specs.Headline.{IsSession, CountsDisk, IsValidDisk, IsOpenedDisk, IsFoundDisk, AskNoColdStart, Defines}
+use Rattle.tm_session.specs.Headline.{IsSession, CountsDisk, IsDiskValid, IsDiskOpened, IsFoundDisk, AskNoColdStart, Defines}
 use Rattle.tm_prog.specs.declared.words.Workload.{Workload}
 use Rattle.tm_prog.specs.Words.{WordFault, word_fault, workload_of}
 use Rattle.tm_prog.specs.Workload.{IsWorkload}
 
 -- The line that a status ends with; 0 and 5 have none.
-abbrev pub status_text : Ended → List ℕ
-status_text Done = []
-status_text (Words word rule) = codes "STATUS 1 WORD " ++ decimal word ++ codes " RULE " ++ decimal rule ++ 10 ∷ []
-status_text (BadLine line rule) = codes "STATUS 2 LINE " ++ decimal line ++ codes " RULE " ++ decimal rule ++ 10 ∷ []
-status_text (BadCross line rule) = codes "STATUS 2 LINE " ++ decimal line ++ codes " CROSS " ++ decimal rule ++ 10 ∷ []
-status_text Down = codes "STATUS 3 DOWN" ++ 10 ∷ []
-status_text (Image (Rule rule sector)) = codes "STATUS 6 RULE " ++ decimal rule ++ codes " SECTOR " ++ decimal sector ++ 10 ∷ []
-status_text (Image (Text place)) = codes "STATUS 6 TEXT " ++ decimal place ++ 10 ∷ []
-status_text (Image (Size needed has)) = codes "STATUS 6 SIZE " ++ decimal needed ++ 32 ∷ [] ++ decimal has ++ 10 ∷ []
-status_text Read = codes "STATUS 4 READ" ++ 10 ∷ []
-status_text Write = []
-status_text Memory = codes "STATUS 7 MEMORY" ++ 10 ∷ []
-status_text (Limit n) = codes "STATUS 9 LIMIT " ++ decimal n ++ 10 ∷ []
-status_text Spent = codes "STATUS 9 LIMIT 1000000000000000000" ++ 10 ∷ []
+abbrev pub session_status_text : Ended → List ℕ
+session_status_text Done = []
+session_status_text (Words word rule) = codes "STATUS 1 WORD " ++ decimal word ++ codes " RULE " ++ decimal rule ++ 10 ∷ []
+session_status_text (BadLine line rule) = codes "STATUS 2 LINE " ++ decimal line ++ codes " RULE " ++ decimal rule ++ 10 ∷ []
+session_status_text (BadCross line rule) = codes "STATUS 2 LINE " ++ decimal line ++ codes " CROSS " ++ decimal rule ++ 10 ∷ []
+session_status_text Down = codes "STATUS 3 DOWN" ++ 10 ∷ []
+session_status_text (Image (Rule rule sector)) = codes "STATUS 6 RULE " ++ decimal rule ++ codes " SECTOR " ++ decimal sector ++ 10 ∷ []
+session_status_text (Image (Text place)) = codes "STATUS 6 TEXT " ++ decimal place ++ 10 ∷ []
+session_status_text (Image (Size needed has)) = codes "STATUS 6 SIZE " ++ decimal needed ++ 32 ∷ [] ++ decimal has ++ 10 ∷ []
+session_status_text Read = codes "STATUS 4 READ" ++ 10 ∷ []
+session_status_text Write = []
+session_status_text Memory = codes "STATUS 7 MEMORY" ++ 10 ∷ []
+session_status_text (Limit n) = codes "STATUS 9 LIMIT " ++ decimal n ++ 10 ∷ []
+session_status_text Spent = codes "STATUS 9 LIMIT 1000000000000000000" ++ 10 ∷ []
 
 -- The last line was written behind the others, and the sink met no fault; or writing it failed, and a
 -- front of it was written. A status without a line writes nothing.
@@ -45,7 +45,7 @@ IsLastLine old new (b ∷ line) faults_old faults_new =
     ⊎ (AppendsFront old new (b ∷ line) × HasRisen faults_old faults_new)
 
 -- Words that break a rule are told, unless memory is wanting, and nothing else is done.
-pub record IsRefused {D : Type 0} (fault : WordFault) (old new : Option (List ℕ)) (handed disk : D) (status : Ended) (lives : List Life) (stops : List Stop) : Type 0 where
+pub record AreWordsRefused {D : Type 0} (fault : WordFault) (old new : Option (List ℕ)) (handed disk : D) (status : Ended) (lives : List Life) (stops : List Stop) : Type 0 where
   pub status_is : (status ≡ Words fault.word fault.rule) ⊎ (status ≡ Memory)
   pub no_life : lives ≡ []
   pub no_stop : stops ≡ []
@@ -53,17 +53,17 @@ pub record IsRefused {D : Type 0} (fault : WordFault) (old new : Option (List �
   pub same : disk ≡ handed
 
 -- Otherwise the session is served: that of a workload, and then the source isn't touched; or that of the source.
-abbrev pub IsServed : {D : Type 0} → (D → DiskState) → Option Workload → Option (List ℕ) → Option (List ℕ) → Option (List ℕ) → Option (List ℕ) → List ℕ → D → D → Ended → List Life → List Stop → Type 0
-IsServed state (Some workload) told left old new summary handed disk status lives stops =
+abbrev pub IsSessionServed : {D : Type 0} → (D → DiskState) → Option Workload → Option (List ℕ) → Option (List ℕ) → Option (List ℕ) → Option (List ℕ) → List ℕ → D → D → Ended → List Life → List Stop → Type 0
+IsSessionServed state (Some workload) told left old new summary handed disk status lives stops =
     (left ≡ told) × IsWorkload state workload old new summary handed disk status lives stops
-IsServed state None told left old new summary handed disk status lives stops =
+IsSessionServed state None told left old new summary handed disk status lives stops =
     (summary ≡ []) × IsSession state told left old new handed disk status lives stops
 
 abbrev pub IsByWords : {D : Type 0} → (D → DiskState) → Option WordFault → Option Workload → Option (List ℕ) → Option (List ℕ) → Option (List ℕ) → Option (List ℕ) → List ℕ → D → D → Ended → List Life → List Stop → Type 0
 IsByWords state (Some fault) workload told left old new summary handed disk status lives stops =
-    (summary ≡ []) × IsRefused fault old new handed disk status lives stops
+    (summary ≡ []) × AreWordsRefused fault old new handed disk status lives stops
 IsByWords state None workload told left old new summary handed disk status lives stops =
-    IsServed state workload told left old new summary handed disk status lives stops
+    IsSessionServed state workload told left old new summary handed disk status lives stops
 
 -- A run: what the words ask for is done, which has its cause in the counts of faults; and then the status line is printed, where
 -- the status has one. Before it stands the summary of a workload whose session was not run to its end.
@@ -73,11 +73,11 @@ pub record IsRun {D : Type 0} (state : D → DiskState) (words : List (List ℕ)
   pub writes : ℕ
   pub session : IsByWords state (word_fault words) (workload_of words) told left old before summary handed disk status lives stops
   pub cause : HasCause status reads_old reads_new writes_old writes
-  pub last : IsLastLine before new (summary ++ status_text status) writes writes_new
+  pub last : IsLastLine before new (summary ++ session_status_text status) writes writes_new
 
 -- no limit is met in these bytes: at most a million lines, none of 4,097 bytes or more
 abbrev pub IsWithinLimits : Option (List ℕ) → Type 0
-IsWithinLimits (Some bytes) = (length (cut_lines bytes) ≤ 1000000) × (list_all is_short (cut_lines bytes) ≡ true)
+IsWithinLimits (Some bytes) = (length (cut_lines bytes) ≤ 1000000) × (list_all is_short_line (cut_lines bytes) ≡ true)
 IsWithinLimits None = ⊥
 
 -- a status that the disk decides: it can't be opened, a counter of it is spent, or it failed
@@ -94,8 +94,8 @@ is_by_disk _ = false
 pub record IsServedWhole (system : System) (text : List ℕ) (blocks : List Block) (handed disk : DiskState) (status : Ended) (stops : List Stop) : Type 0 where
   pub status_is : (status ≡ Done) ⊎ ((status ≡ Memory) ⊎ (is_by_disk status ≡ true))
   pub calm : ¬ FailedSince handed disk → stops ≡ []
-  pub valid : ¬ FailedSince handed disk → IsValidDisk system text handed → (status ≡ Done) ⊎ ((status ≡ Memory) ⊎ (status ≡ Spent))
-  pub opened : stops ≡ [] → status ≡ Done → IsOpenedDisk system text handed
+  pub valid : ¬ FailedSince handed disk → IsDiskValid system text handed → (status ≡ Done) ⊎ ((status ≡ Memory) ⊎ (status ≡ Spent))
+  pub opened : stops ≡ [] → status ≡ Done → IsDiskOpened system text handed
   pub found : AskNoColdStart system blocks → status ≡ Done → IsFoundDisk system text handed
 
 -- Where nothing else comes between, a definition that breaks a rule has the status of that rule, or memory was wanting.
@@ -105,7 +105,7 @@ IsServedBy (Err ended) text blocks handed disk status stops = (status ≡ ended)
 
 abbrev pub IsComplete : Option (List ℕ) → DiskState → DiskState → Ended → List Stop → Type 0
 IsComplete (Some bytes) handed disk status stops =
-    IsServedBy (judged (definition_lines (lines_of bytes))) (definition_text (definition_lines (lines_of bytes))) (blocks_of (lines_behind (lines_of bytes))) handed disk status stops
+    IsServedBy (judged_definition (definition_lines (lines_of bytes))) (text_of_definition (definition_lines (lines_of bytes))) (blocks_of (lines_behind (lines_of bytes))) handed disk status stops
 IsComplete None handed disk status stops = Unit {0}
 
 -- A counter stood at 900,000,000,000,000,000 or above in the disk that was handed in, for the system that the source defines; of a disk

@@ -81,13 +81,13 @@ workload_of _ = None
 
 -- ---- the disk
 
-abbrev pub sectors_of : List ℕ → ℕ
-sectors_of word = unwrap_or (sectors_in word) 0
+abbrev pub sectors_word : List ℕ → ℕ
+sectors_word word = unwrap_or (sectors_in word) 0
 
 -- one in memory with so many sectors, or the file that the third word names
 abbrev pub disk_in : List (List ℕ) → DiskWords
-disk_in (command ∷ kind ∷ size ∷ []) = InMemory (sectors_of size)
-disk_in (command ∷ kind ∷ path ∷ size ∷ words) = InFile (sectors_of size)
+disk_in (command ∷ kind ∷ size ∷ []) = InMemory (sectors_word size)
+disk_in (command ∷ kind ∷ path ∷ size ∷ words) = InFile (sectors_word size)
 disk_in _ = InMemory 0
 
 -- that of a workload has 16,384 sectors in memory

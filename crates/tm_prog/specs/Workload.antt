@@ -2,7 +2,7 @@
 use Rattle.std.specs.Prelude.{◌≡◌, ◌⊎◌, ℕ, List, [], Option, Some, None}
 use Rattle.std.specs.Io.KnownBytes.{append_known}
 use Rattle.tm_disk.specs.Disk.{DiskState}
-use Rattle.model_session.specs.Standing.{Stop}
+use Rattle.model_session.specs.SessionState.{Stop}
 use Rattle.openings.specs.declared.life.Life.{Life}
 use Rattle.tm_edge.specs.Fault.{HasRisen, AppendsFront}
 use Rattle.tm_session.specs.declared.outcome.Ended.{Ended}
@@ -11,18 +11,18 @@ use Rattle.tm_session.specs.Outcome.{HasCause, IsReadToEnd}
 use Rattle.tm_session.specs.Headline.{IsSession}
 use Rattle.workload.specs.Workload.{workload_text}
 use Rattle.workload.specs.Counts.{counts_of, entries_of}
-use Rattle.workload.specs.Shown.{last_reply}
+use Rattle.workload.specs.ShownReply.{last_reply}
 use Rattle.workload.specs.Summary.{summary_text}
 use Rattle.tm_prog.specs.declared.words.Workload.{Workload}
 
 -- the text of its definition and of its session
-abbrev pub text_of : Workload → List ℕ
-text_of workload = workload_text workload.seed workload.transfers
+abbrev pub workload_bytes_of : Workload → List ℕ
+workload_bytes_of workload = workload_text workload.seed workload.transfers
 
 -- the bytes that are served: those of the workload, where there is one, and else those that the source tells
-abbrev pub told_by : Option Workload → Option (List ℕ) → Option (List ℕ)
-told_by (Some workload) told = Some (text_of workload)
-told_by None told = told
+abbrev pub bytes_served_by : Option Workload → Option (List ℕ) → Option (List ℕ)
+bytes_served_by (Some workload) told = Some (workload_bytes_of workload)
+bytes_served_by None told = told
 
 -- The summary: the counts are those of the entries of the lives, and the last line is the text of the reply that is shown last in
 -- the transcript.
@@ -48,28 +48,28 @@ status_by Write = Memory
 status_by ended = ended
 
 -- The summary of a session that was run to its end is written; or a front of it, where the sink fails.
-pub record IsWritten (text : List ℕ) (status : Ended) (old new : Option (List ℕ)) (summary : List ℕ) : Type 0 where
+pub record IsSummaryWritten (text : List ℕ) (status : Ended) (old new : Option (List ℕ)) (summary : List ℕ) : Type 0 where
   pub written : ((status ≡ Done) × (new ≡ append_known old text)) ⊎ ((status ≡ Write) × AppendsFront old new text)
   pub none : summary ≡ []
 
 -- That of any other session is kept, to be written with the line of the status.
-pub record IsKept (ended : Ended) (text : List ℕ) (status : Ended) (old new : Option (List ℕ)) (summary : List ℕ) : Type 0 where
+pub record IsEndKept (ended : Ended) (text : List ℕ) (status : Ended) (old new : Option (List ℕ)) (summary : List ℕ) : Type 0 where
   pub status_is : status ≡ status_by ended
   pub nothing : new ≡ old
   pub kept : summary ≡ text
 
 -- There is no summary: memory was wanting for it.
-pub record IsUntold (status : Ended) (old new : Option (List ℕ)) (summary : List ℕ) : Type 0 where
+pub record IsSummaryUntold (status : Ended) (old new : Option (List ℕ)) (summary : List ℕ) : Type 0 where
   pub status_is : status ≡ Memory
   pub nothing : new ≡ old
   pub none : summary ≡ []
 
-abbrev pub IsToldBy : Ended → List ℕ → Ended → Option (List ℕ) → Option (List ℕ) → List ℕ → Type 0
-IsToldBy Done text status old new summary = IsWritten text status old new summary
-IsToldBy ended text status old new summary = IsKept ended text status old new summary
+abbrev pub IsToldByWorkload : Ended → List ℕ → Ended → Option (List ℕ) → Option (List ℕ) → List ℕ → Type 0
+IsToldByWorkload Done text status old new summary = IsSummaryWritten text status old new summary
+IsToldByWorkload ended text status old new summary = IsEndKept ended text status old new summary
 
-abbrev pub IsTold : Ended → List ℕ → Ended → Option (List ℕ) → Option (List ℕ) → List ℕ → Type 0
-IsTold ended text status old new summary = IsToldBy ended text status old new summary ⊎ IsUntold status old new summary
+abbrev pub IsWorkloadTold : Ended → List ℕ → Ended → Option (List ℕ) → Option (List ℕ) → List ℕ → Type 0
+IsWorkloadTold ended text status old new summary = IsToldByWorkload ended text status old new summary ⊎ IsSummaryUntold status old new summary
 
 -- whether the sink failed, by the status
 abbrev pub IsFaultedBy : Ended → ℕ → ℕ → Type 0
@@ -82,5 +82,5 @@ IsFaultedBy _ old new = new ≡ old
 pub record IsWorkload {D : Type 0} (state : D → DiskState) (workload : Workload) (old new : Option (List ℕ)) (summary : List ℕ) (handed disk : D) (status : Ended) (lives : List Life) (stops : List Stop) : Type 0 where
   pub ended : Ended
   pub printed : List ℕ
-  pub drilled : IsDrilled state (text_of workload) handed disk ended lives stops printed
-  pub told : IsTold ended (summary_of workload lives printed) status old new summary
+  pub drilled : IsDrilled state (workload_bytes_of workload) handed disk ended lives stops printed
+  pub told : IsWorkloadTold ended (summary_of workload lives printed) status old new summary

@@ -2,10 +2,10 @@
 ghost use Rattle.std.specs.Prelude.{◌≡◌, ◌≤◌, ◌++◌, ◌∷◌, decimal, [], length, map, string_bytes, IsNone, IsSome};
 ghost use Rattle.tm_disk.specs.Disk.{Only};
 ghost use Rattle.tm_edge.specs.Fault.{HasRisen};
-ghost use Rattle.tm_session.specs.Outcome.{HasCause, IsBack, IsReadToEnd};
+ghost use Rattle.tm_session.specs.Outcome.{HasCause, IsTextBack, IsReadToEnd};
 ghost use Rattle.tm_prog.specs.Words.{word_fault, workload_of};
-ghost use Rattle.tm_prog.specs.Workload.{told_by};
-ghost use Rattle.tm_prog.specs.Status.{status_text, IsLastLine, IsByWords, IsRun, IsWithinLimits, IsComplete, IsNear};
+ghost use Rattle.tm_prog.specs.Workload.{bytes_served_by};
+ghost use Rattle.tm_prog.specs.Status.{session_status_text, IsLastLine, IsByWords, IsRun, IsWithinLimits, IsComplete, IsNear};
 
 use crate::summed::run_workload;
 use crate::words::{find_word_fault, workload_of};
@@ -43,7 +43,7 @@ pub fn run<S: Source, K: Sink, D: Disk>(
     requires only { Only (D.state disk).shown (D.state disk) }
     ensures headline { IsRun D.state (map (λ word. string_bytes word) words.now) (S.left source.old) (S.left source.new) (K.written sink.old) (K.written sink.new) disk result.disk result.status result.lives result.stops
         (S.faults source.old) (S.faults source.new) (K.faults sink.old) (K.faults sink.new) }
-    ensures taken { IsBack (S.left source.old) (S.left source.new) }
+    ensures taken { IsTextBack (S.left source.old) (S.left source.new) }
     // The source of a drill is read to its end where the status says so; that of a workload isn't touched.
     ensures whole { IsNone (workload_of (map (λ word. string_bytes word) words.now)) → IsReadToEnd result.status (S.left source.new) }
     ensures untouched { IsSome (workload_of (map (λ word. string_bytes word) words.now)) → source.new ≡ source.old }
@@ -55,10 +55,10 @@ pub fn run<S: Source, K: Sink, D: Disk>(
     // but by a spent counter.
     ensures complete { IsNone (word_fault (map (λ word. string_bytes word) words.now)) →
         ¬ HasRisen (S.faults source.old) (S.faults source.new) → ¬ HasRisen (K.faults sink.old) (K.faults sink.new) →
-        IsWithinLimits (told_by (workload_of (map (λ word. string_bytes word) words.now)) (S.left source.old)) →
-        IsComplete (told_by (workload_of (map (λ word. string_bytes word) words.now)) (S.left source.old)) (D.state disk) (D.state result.disk) result.status result.stops }
+        IsWithinLimits (bytes_served_by (workload_of (map (λ word. string_bytes word) words.now)) (S.left source.old)) →
+        IsComplete (bytes_served_by (workload_of (map (λ word. string_bytes word) words.now)) (S.left source.old)) (D.state disk) (D.state result.disk) result.status result.stops }
     // That a counter is spent is told of a disk alone that was near it as it was handed in, where that tells its contents.
-    ensures near { IsNear (told_by (workload_of (map (λ word. string_bytes word) words.now)) (S.left source.old)) (D.state disk) result.status }
+    ensures near { IsNear (bytes_served_by (workload_of (map (λ word. string_bytes word) words.now)) (S.left source.old)) (D.state disk) result.status }
 {
     let mut line = Printed::new(alloc);
     if line.make_room(LAST_ROOM).is_err() {
@@ -86,7 +86,7 @@ fn serve<S: Source, K: Sink, D: Disk>(
     requires fresh { line.old.text ≡ [] }
     ensures session { IsByWords D.state (word_fault (map (λ word. string_bytes word) words.now)) (workload_of (map (λ word. string_bytes word) words.now)) (S.left source.old) (S.left source.new) (K.written sink.old) (K.written sink.new) line.new.text disk result.disk result.status result.lives result.stops }
     ensures cause { HasCause result.status (S.faults source.old) (S.faults source.new) (K.faults sink.old) (K.faults sink.new) }
-    ensures taken { IsBack (S.left source.old) (S.left source.new) }
+    ensures taken { IsTextBack (S.left source.old) (S.left source.new) }
     ensures whole { IsNone (workload_of (map (λ word. string_bytes word) words.now)) → IsReadToEnd result.status (S.left source.new) }
     ensures untouched { IsSome (workload_of (map (λ word. string_bytes word) words.now)) → source.new ≡ source.old }
     ensures unread { IsSome (word_fault (map (λ word. string_bytes word) words.now)) → source.new ≡ source.old }
@@ -137,7 +137,7 @@ pub fn print_last<K: Sink>(sink: &mut K, line: &[u8])
 /// Adds the last line of a status.
 fn status_line(out: &mut Printed, status: Ended)
     requires { LAST_ROOM ≤ out.old.room }
-    ensures { out.new.text ≡ out.old.text ++ status_text status }
+    ensures { out.new.text ≡ out.old.text ++ session_status_text status }
 {
     match status {
         Ended::Done | Ended::Write => {}
@@ -179,7 +179,7 @@ fn add_two(out: &mut Printed, word: &[u8], number: u64, other: &[u8], second: u6
 /// Adds the last line for a limit.
 fn add_limit(out: &mut Printed, n: u64)
     requires { LAST_ROOM ≤ out.old.room }
-    ensures { out.new.text ≡ out.old.text ++ status_text (Ended.Limit n) }
+    ensures { out.new.text ≡ out.old.text ++ session_status_text (Ended.Limit n) }
 {
     out.push(b"STATUS 9 LIMIT ");
     out.push_number(n);
@@ -189,7 +189,7 @@ fn add_limit(out: &mut Printed, n: u64)
 /// Adds the last line for a disk that can't be opened.
 fn image_status(out: &mut Printed, refusal: &ImageRefused)
     requires { LAST_ROOM ≤ out.old.room }
-    ensures { out.new.text ≡ out.old.text ++ status_text (Ended.Image refusal.now) }
+    ensures { out.new.text ≡ out.old.text ++ session_status_text (Ended.Image refusal.now) }
 {
     match refusal {
         ImageRefused::Rule(rule, sector) => {

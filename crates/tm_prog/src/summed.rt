@@ -5,7 +5,7 @@ ghost use Rattle.tm_disk.specs.Disk.{Only};
 ghost use Rattle.tm_edge.specs.Fault.{AppendsFront};
 ghost use Rattle.tm_session.specs.Outcome.{HasCause};
 ghost use Rattle.tm_session.specs.declared.outcome.Ended.TheVariants.{Done, Write, Memory};
-ghost use Rattle.tm_prog.specs.Workload.{IsWorkload, IsDrilled, IsTold, IsFaultedBy};
+ghost use Rattle.tm_prog.specs.Workload.{IsWorkload, IsDrilled, IsWorkloadTold, IsFaultedBy};
 ghost use Rattle.tm_prog.specs.Workload as spec;
 
 use crate::run::{LAST_ROOM, unbegun};
@@ -67,7 +67,7 @@ fn sum_up<K: Sink, D: Disk>(
 ) -> Outcome<D>
     requires room { LAST_ROOM ≤ line.old.room }
     requires fresh { line.old.text ≡ [] }
-    ensures told { IsTold outcome.status (spec.summary_of workload outcome.lives transcript.now.text) result.status (K.written sink.old) (K.written sink.new) line.new.text }
+    ensures told { IsWorkloadTold outcome.status (spec.summary_of workload outcome.lives transcript.now.text) result.status (K.written sink.old) (K.written sink.new) line.new.text }
     ensures disk { result.disk ≡ outcome.disk }
     ensures lives { result.lives ≡ outcome.lives }
     ensures stops { result.stops ≡ outcome.stops }
@@ -94,7 +94,7 @@ fn sum_up<K: Sink, D: Disk>(
 fn tell<K: Sink>(ended: Ended, text: &[u8], sink: &mut K, line: &mut Printed) -> Ended
     requires room { LAST_ROOM ≤ line.old.room }
     requires fresh { line.old.text ≡ [] }
-    ensures told { IsTold ended text.now result (K.written sink.old) (K.written sink.new) line.new.text }
+    ensures told { IsWorkloadTold ended text.now result (K.written sink.old) (K.written sink.new) line.new.text }
     ensures faults { IsFaultedBy result (K.faults sink.old) (K.faults sink.new) }
     ensures room { LAST_ROOM ≤ line.new.room }
 {

@@ -88,18 +88,23 @@ pub fn compare(shows: &'static str, report: &Report, wanted: (u8, &[u8])) -> Res
     }
 }
 
-/// Runs the lines of a session of the system of the worked rows over a new disk, and compares what it comes to.
+/// Runs the lines of a session of the system of the worked rows over a new disk.
+pub fn told_new(alloc: Global, lines: &[&[u8]]) -> Result<Report, Fail> {
+    let system = joined(alloc, SYSTEM)?;
+    let session = joined(alloc, lines)?;
+    let source = joined(alloc, &[&system, &session])?;
+    let disk = disk_of(alloc, 1517, &[])?;
+    told(alloc, DRILL, &source, (&[], &[]), disk)
+}
+
+/// Runs such lines, and compares what they come to.
 pub fn expect(
     alloc: Global,
     shows: &'static str,
     lines: &[&[u8]],
     wanted: (u8, &[&[u8]]),
 ) -> Result<(), Fail> {
-    let system = joined(alloc, SYSTEM)?;
-    let session = joined(alloc, lines)?;
-    let source = joined(alloc, &[&system, &session])?;
+    let report = told_new(alloc, lines)?;
     let printed = joined(alloc, wanted.1)?;
-    let disk = disk_of(alloc, 1517, &[])?;
-    let report = told(alloc, DRILL, &source, (&[], &[]), disk)?;
     compare(shows, &report, (wanted.0, &printed))
 }

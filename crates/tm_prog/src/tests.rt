@@ -4,14 +4,15 @@ use crate::test_faults::{
     ANSWERS, CALLS, ENDS, READS, RESTARTED, SHORT, SMALL, STOPPED, THERE, THERE_PRINTED, TURNS,
     TURNS_PRINTED,
 };
-use crate::test_runs::{DRILL, compare, disk_of, expect, joined, told};
+use crate::test_runs::{DRILL, compare, disk_of, expect, joined, told, told_new};
 use crate::test_system::{BEHIND_QUEUES, SYSTEM};
 use crate::worked_rows::{
-    ACCOUNT_ROWS, HALF, HALF_PRINTED, OPENED, OPENED_PRINTED, ROWS, TAKEN_BACK, TAKEN_BACK_PRINTED,
-    WORDS,
+    ACCOUNT_ROWS, BROKEN_COLD, COLD_STARTS, HALF, HALF_PRINTED, ONE_ECHO, OPENED, OPENED_PRINTED,
+    ROWS, TAKEN_BACK, TAKEN_BACK_PRINTED, WORDS,
 };
 use std::alloc::{AllocError, Global};
 use std::test::Fail;
+use tm_disk::{Disk, MemDisk, Sector};
 
 #[test]
 fn worked_rows(rt: HostRuntime) -> Result<(), Fail> {
@@ -80,9 +81,9 @@ fn long_input(
     Ok(lines)
 }
 
-/// A queue that is full to its last byte, a disk that is too small, one with another system's image, and a workload.
+/// A queue that is full to its last byte, a disk that is too small, and one with another system's image.
 #[test]
-fn rooms_and_sums(rt: HostRuntime) -> Result<(), Fail> {
+fn rooms(rt: HostRuntime) -> Result<(), Fail> {
     let alloc = rt.alloc();
     let behind = joined(alloc, BEHIND_QUEUES)?;
     let first = long_input(alloc, b"IN T1 1 ", 16, 1996)?;
@@ -128,8 +129,14 @@ fn rooms_and_sums(rt: HostRuntime) -> Result<(), Fail> {
     let line: &[u8] = b"IMSCTRL QBYTES=1048577,LOGS=256\n";
     let other = joined(alloc, &[line, &behind])?;
     let report = told(alloc, DRILL, &other, (&[], &[]), begun.disk)?;
-    compare("another text", &report, (6, b"STATUS 6 TEXT 21\n"))?;
+    compare("another text", &report, (6, b"STATUS 6 TEXT 21\n"))
+}
 
+/// The same words give the same summary: each input is accepted and completed, and no money comes or goes. How often a region gives way isn't
+/// told beforehand.
+#[test]
+fn workloads(rt: HostRuntime) -> Result<(), Fail> {
+    let alloc = rt.alloc();
     let words = &["workload", "7", "2000"];
     let sum = told(alloc, words, b"", (&[1], &[]), disk_of(alloc, 16384, &[])?)?;
     let front: &[u8] = b"WORKLOAD 7 2000\nACCEPTED 2101\nDONE 2101\nABENDED 0\nU0777 ";
@@ -147,38 +154,20 @@ fn lives(rt: HostRuntime) -> Result<(), Fail> {
     let alloc = rt.alloc();
     let report = told(alloc, DRILL, b"", (&[], &[]), disk_of(alloc, 1517, &[])?)?;
     assert!(rt; report.lives.is_empty());
-    let system = joined(alloc, SYSTEM)?;
-    let report = told(
-        alloc,
-        DRILL,
-        &system,
-        (&[], &[]),
-        disk_of(alloc, 1517, &[])?,
-    )?;
+    let report = told_new(alloc, &[])?;
     assert_eq!(rt; report.lives.len(), 1);
-    assert!(rt; report.lives.first().is_some_and(|life| *life == (0, 0)));
-    let there: &[u8] = b"LTERM T1 IN 1 OUT 1 KEPT 0 STARTED\n";
-    let empty: &[u8] = b"LTERM T1 IN 0 OUT 0 KEPT 0 STARTED\n";
-    let table: [(&[u8], &[u8]); 3] = [
-        (b"POWER IN 3 0\n", there),
-        (b"POWER IN 3 1\n", empty),
-        (b"POWER IN 4 0\n", empty),
-    ];
-    for (power, shown) in &table {
-        let before: &[u8] = b"IN T1 1 ECHO A\nQUIET 100\nRECV T1\nACK T1 1\n";
-        let behind: &[u8] =
-            b"/CHECKPOINT FREEZE\n/NRESTART CHECKPOINT 0\n/ERESTART\n/DISPLAY LTERM T1\n";
-        let source = joined(alloc, &[&system, before, power, behind])?;
-        let report = told(
-            alloc,
-            DRILL,
-            &source,
-            (&[], &[]),
-            disk_of(alloc, 1517, &[])?,
-        )?;
+    for (history, kept) in &report.lives {
+        assert_eq!(rt; *history, 0);
+        assert_eq!(rt; *kept, 0);
+    }
+    for (power, shown) in COLD_STARTS {
+        let report = told_new(alloc, &[ONE_ECHO, power, BROKEN_COLD])?;
         assert_eq!(rt; report.status, 0);
         assert!(rt; report.printed.ends_with(shown));
-        assert_eq!(rt; report.lives.first().map_or(0, |life| life.1), 3);
+        let Some((_, kept)) = report.lives.first() else {
+            return Err("no life is told".into());
+        };
+        assert_eq!(rt; *kept, 3);
         assert_eq!(rt; report.stops, 1);
     }
     Ok(())
@@ -215,6 +204,71 @@ fn failing_calls(rt: HostRuntime) -> Result<(), Fail> {
         }
     }
     Err("no session ends while it is down".into())
+}
+
+/// Whether three restarts behind a stop end so, over a disk of which these calls fail. An account was opened, and no checkpoint taken.
+fn restarts_so(alloc: Global, calls: &[u64], restarted: &[u8]) -> Result<bool, Fail> {
+    let lines =
+        b"IN T9 1 OPEN 0001 1000\nQUIET 100\nRECV T9\nACK T9 1\nPOWER 0\n/ERESTART\n/ERESTART\n/ERESTART\n";
+    let before = b"ACK T9 1\nQUIET 5\nOUT T9 1 OPENED 0001\nACKED T9 1\nPOWER\n";
+    let source = joined(alloc, &[SMALL, lines, THERE])?;
+    let wanted = joined(alloc, &[before, restarted, THERE_PRINTED])?;
+    let disk = disk_of(alloc, 455, calls)?;
+    let report = told(alloc, DRILL, &source, (&[], &[]), disk)?;
+    Ok(report.status == 0 && report.printed.as_slice() == wanted.as_slice())
+}
+
+/// A restart whose log names a slot writes and syncs the slot, the snapshot and the restart sector. Whichever of these six calls fails,
+/// and whichever of the next restart, what was acknowledged is there behind the third.
+#[test]
+fn failing_restarts(rt: HostRuntime) -> Result<(), Fail> {
+    let alloc = rt.alloc();
+    // The first opening makes 138 calls, and three steps make two each.
+    let mut end = 145u64;
+    while end < 1000 && restarts_so(alloc, &[end], b"STOPPED\nRESTARTED\nUP\n")? {
+        end = end.saturating_add(1);
+    }
+    assert!(rt; end > 145 + 128 + 6 && end < 1000);
+    for back in 1..7u64 {
+        let call = end.saturating_sub(back);
+        for again in 0..6u64 {
+            let second = call.saturating_add(end).saturating_sub(145 + again);
+            assert!(rt; restarts_so(alloc, &[call, second], b"STOPPED\nSTOPPED\nRESTARTED\n")?);
+        }
+    }
+    Ok(())
+}
+
+/// The first byte of a sector; 0 where there is none.
+fn first_byte(disk: &mut MemDisk, at: u32) -> u8 {
+    let mut sector = Sector::blank();
+    if at < disk.sectors() && disk.read(at, &mut sector).is_ok() {
+        sector.bytes().first().copied().unwrap_or(0)
+    } else {
+        0
+    }
+}
+
+/// No sync stands between the text and the snapshot of a first opening, and one stands between the snapshot and the restart sector: what
+/// is left of the text, of the snapshot and of the restart sector where this call fails.
+#[test]
+fn failing_openings(rt: HostRuntime) -> Result<(), Fail> {
+    let alloc = rt.alloc();
+    for (call, text, snapshot) in [
+        (135, 0, 0),
+        (136, 0, 0),
+        (137, b'I', b'I'),
+        (138u64, b'I', b'I'),
+    ] {
+        let disk = disk_of(alloc, 455, &[call])?;
+        let report = told(alloc, DRILL, SMALL, (&[], &[]), disk)?;
+        compare("an opening fails", &report, (3, b"STATUS 3 DOWN\n"))?;
+        let mut disk = report.disk;
+        assert_eq!(rt; first_byte(&mut disk, 0), 0);
+        assert_eq!(rt; first_byte(&mut disk, 1), text);
+        assert_eq!(rt; first_byte(&mut disk, 65), snapshot);
+    }
+    Ok(())
 }
 
 /// Sources and sinks that fail. Where an answer can't be written the program ends, and what it answered is there: sent again, all of it

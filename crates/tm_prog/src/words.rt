@@ -61,7 +61,7 @@ fn disk_in(words: &[String]) -> DiskWords
 }
 
 fn sectors_of(word: &String) -> u32
-    ensures { result ≡ spec.sectors_of (string_bytes word.now) }
+    ensures { result ≡ spec.sectors_word (string_bytes word.now) }
 {
     match sectors_in(word) {
         Some(sectors) => sectors,

@@ -140,6 +140,21 @@ pub const TAKEN_BACK: &[u8] =
 pub const TAKEN_BACK_PRINTED: &[u8] =
     b"STOPPED\nRESTARTED\nTRANSACTION XFER CLASS 1 PRIORITY 1 QUEUED 1 STARTED\nSTOPPED XFER\nACK T2 1\nQUIET 9\nOUT T2 1 0001 00001000\nSTARTED XFER\nR1 SCHEDULED XFER 3\n";
 
+/// Three lasting steps.
+pub const ONE_ECHO: &[u8] = b"IN T1 1 ECHO A\nQUIET 100\nRECV T1\nACK T1 1\n";
+
+/// A freeze of two writes, and a cold start that breaks off, behind which a restart opens.
+pub const BROKEN_COLD: &[u8] =
+    b"/CHECKPOINT FREEZE\n/NRESTART CHECKPOINT 0\n/ERESTART\n/DISPLAY LTERM T1\n";
+
+/// Where the cold start breaks off, and what is printed last. It makes sector 0 zeros first, which is left or not, and then writes what it
+/// begins with.
+pub const COLD_STARTS: &[(&[u8], &[u8])] = &[
+    (b"POWER IN 3 0\n", b"LTERM T1 IN 1 OUT 1 KEPT 0 STARTED\n"),
+    (b"POWER IN 3 1\n", b"LTERM T1 IN 0 OUT 0 KEPT 0 STARTED\n"),
+    (b"POWER IN 4 0\n", b"LTERM T1 IN 0 OUT 0 KEPT 0 STARTED\n"),
+];
+
 /// Words that break a rule.
 pub const WORDS: &[(&[&str], &[u8])] = &[
     (&["drill"], b"STATUS 1 WORD 2 RULE 2\n"),

@@ -11,22 +11,22 @@ use Rattle.model_system.specs.System.{System}
 use Rattle.model_image.specs.Areas.{data_first}
 use Rattle.model_image.proofs.Places.{slots_before}
 use Rattle.seg_store.specs.DataSectors.{data_sector, IsGivenAt, given_at, MayPut, HasPut}
-use Rattle.image_loading.specs.Loading.{given_to}
+use Rattle.image_loading.specs.LoadedStore.{given_to}
 use Rattle.checkpointing.proofs.Slots.{given_is}
-use Rattle.tm_restart.specs.Given.{Given, AreGiven, IsGiven, MayPutAll, HasPutFront}
-use Rattle.tm_restart.proofs.RenewalFinding.{to_within, to_at, none_at, far_below}
+use Rattle.tm_restart.specs.GivenSlots.{GivenSlots, AreGiven, IsGiven, MayPutAll, HasPutFront}
+use Rattle.tm_restart.proofs.GivenSectors.{to_within, to_at, none_at, far_below}
 
-pub may_none : (system : System) (given : Given) (image : Image) → MayPutAll system given image image
+pub may_none : (system : System) (given : GivenSlots) (image : Image) → MayPutAll system given image image
 may_none system given image = record { size = refl; each = λ k. inl refl }
 
-pub front_none : (system : System) (given : Given) (image : Image) → HasPutFront system given 0 image image
+pub front_none : (system : System) (given : GivenSlots) (image : Image) → HasPutFront system given 0 image image
 front_none system given image = record { may = may_none system given image; holds = λ place number slots bytes lt found to. absurd (omega (arith, lt)) }
 
 -- a database of a place
 pub has_dbd : (dbds : List Dbd) (place i : ℕ) (dbd : Dbd) → slice_get dbds i ≡ Some dbd → place < length dbds → slice_get dbds place ≡ Some (get_or dbds place dbd)
 has_dbd dbds place i dbd found lt = slice_get-get_or dbds place dbd lt
 
-module _ (system : System) (given : Given) (i : ℕ) (slots : List (ℕ × List ℕ)) (there : slice_get given i ≡ Some slots) where
+module _ (system : System) (given : GivenSlots) (i : ℕ) (slots : List (ℕ × List ℕ)) (there : slice_get given i ≡ Some slots) where
   pub may_step : (a b c : Image) → MayPutAll system given a b → MayPut (data_first system i) slots b c → MayPutAll system given a c
   may_step a b c one two = record {
     size = two.size ∙ one.size;

@@ -9,14 +9,14 @@ use Rattle.model_system.specs.System.{System}
 use Rattle.model_data.specs.declared.row.Row.{Row}
 use Rattle.model_machine.specs.Machine.{LastingState}
 use Rattle.log_records.specs.declared.record.Record.{Record}
-use Rattle.log_records.specs.Reading.{◌>>=◌}
+use Rattle.log_records.specs.RecordReader.{◌>>=◌}
 use Rattle.restart_data.specs.declared.restart.RestartSector.{RestartSector}
 use Rattle.restart_data.specs.Fields.{bytes_at, number8_at}
 use Rattle.restart_data.specs.Restart.{restart_in}
 use Rattle.model_image.specs.Areas.{snapshot_area}
 use Rattle.model_image.specs.Faults.{Fault, in_sector, unless_fault}
-use Rattle.model_image.specs.Slots.{rows_from}
-use Rattle.model_image.specs.Recovered.{snapshot_from, log_in, log_from, state_from, is_later, later_sector, state_with, state_by, Recovers}
+use Rattle.model_image.specs.Slots.{image_rows_from}
+use Rattle.model_image.specs.RecoveredState.{snapshot_from, log_in, log_from, state_from, is_later, later_sector, state_with, state_by_restart, Recovers}
 use Rattle.model_image.proofs.Later.{bound}
 
 by_value : (o : Option Fault) (value end : LastingState) → unless_fault o value ≡ Ok end → value ≡ end
@@ -32,20 +32,20 @@ same_rows lasting end rows e = ap (λ (s : LastingState). s.rows) e
 
 -- The rows are those of the slots, by the snapshot and the records of the log.
 pub rows_found : (system : System) (image : Image) (r : RestartSector) (snapshot : List Record) (state : LastingState) → restart_in (snapshot_area system) image ≡ Ok (Some r) → snapshot_from system image r ≡ Ok snapshot → Recovers system image (Ok state)
-    → rows_from system image snapshot (log_in system image r).records ≡ Ok state.rows
+    → image_rows_from system image snapshot (log_in system image r).records ≡ Ok state.rows
 rows_found system image r snapshot state is has recovers =
     let whole : state_with system image recovers.is_cut_off r ≡ Ok state =
-    sym (ap (λ (read : Result (Option RestartSector) ℕ). in_sector 0 read >>= λ restart. state_by system image recovers.is_cut_off restart) is) ∙ recovers.is in
+    sym (ap (λ (read : Result (Option RestartSector) ℕ). in_sector 0 read >>= λ restart. state_by_restart system image recovers.is_cut_off restart) is) ∙ recovers.is in
     let one = bound (snapshot_from system image r) _ state whole in
     let two = bound (log_from system image r recovers.is_cut_off) _ state one.gives in
     let three = bound (state_from system r one.value two.value) _ state two.gives in
-    let four = bound (rows_from system image one.value two.value) _ state three.gives in
+    let four = bound (image_rows_from system image one.value two.value) _ state three.gives in
     let both : Ok one.value ≡ Ok snapshot = sym one.is ∙ has in
     let first : one.value ≡ snapshot = cc in
     let second : two.value ≡ (log_in system image r).records = log_is system image r recovers.is_cut_off two.value two.is in
     let rows : four.value ≡ state.rows = same_rows three.value state four.value (by_value (later_sector system image r) (record three.value { rows = four.value }) state four.gives) in
-    subst (λ (l : List Record). rows_from system image snapshot l ≡ Ok state.rows) second
-    (subst (λ (l : List Record). rows_from system image l two.value ≡ Ok state.rows) first (four.is ∙ ap (λ (x : List (List Row)). Ok x) rows))
+    subst (λ (l : List Record). image_rows_from system image snapshot l ≡ Ok state.rows) second
+    (subst (λ (l : List Record). image_rows_from system image l two.value ≡ Ok state.rows) first (four.is ∙ ap (λ (x : List (List Row)). Ok x) rows))
 
 -- A sector that isn't later than an epoch isn't later than a greater one.
 later_by : (old new n : ℕ) (b : Bool) → old ≤ new → b && nat_lt old n ≡ false → b && nat_lt new n ≡ false

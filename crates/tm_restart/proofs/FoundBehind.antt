@@ -5,7 +5,7 @@ use Rattle.tm_disk.specs.Disk.{DiskState, IsDisk, Keeps}
 use Rattle.model_system.specs.System.{System}
 use Rattle.openings.specs.declared.refusals.OpenError.{OpenError}
 use Rattle.openings.proofs.Reading.{read_cause}
-use Rattle.tm_restart.specs.Found.{SizeKnown, FoundCause}
+use Rattle.tm_restart.specs.FoundImage.{SizeKnown, FoundCause}
 
 pub found_cause : {A : Type 0} (old mid new : DiskState) (result : Result A OpenError) → IsDisk old → Keeps old mid → mid.faults ≡ old.faults → FoundCause result mid new → FoundCause result old new
 found_cause old mid new (Ok found) is_disk keeps faults cause = cause ∙ faults

@@ -10,15 +10,15 @@ use Rattle.tm_types.specs.declared.dbd.Dbd.{Dbd}
 use Rattle.model_data.specs.Record.{record_limit}
 use Rattle.model_system.specs.System.{System}
 use Rattle.model_image.specs.Slots.{is_image, rows_by, rows_of_bytes}
-use Rattle.system_types.specs.Valid.{IsSystem, IsDatabase}
-use Rattle.image_loading.specs.Loading.{given_to}
+use Rattle.system_types.specs.ValidSystem.{IsSystem, IsDatabase}
+use Rattle.image_loading.specs.LoadedStore.{given_to}
 use Rattle.image_records.specs.declared.slots.NamedSlot.{NamedSlot}
-use Rattle.image_records.specs.NamedSlots.{is_slot_of, Ascend}
-use Rattle.image_reading.specs.Giving.{of_database, AreNamedBytes}
+use Rattle.image_records.specs.NamedSlots.{is_slot_of, NamedSlotsAscend}
+use Rattle.image_reading.specs.NamedBytes.{of_database, AreNamedBytes}
 use Rattle.image_reading.proofs.Right.{IsRightSlot, in_order, right_slots}
 use Rattle.tm_restart.proofs.NamedSlots.{given_images}
-use Rattle.tm_restart.specs.Given.{Given, AreOf, AreGiven}
-use Rattle.tm_restart.proofs.RenewalFinding.{to_all}
+use Rattle.tm_restart.specs.GivenSlots.{GivenSlots, AreSlotsOf, AreGiven}
+use Rattle.tm_restart.proofs.GivenSectors.{to_all}
 
 pub database_at : (dbds : List Dbd) (place : ℕ) (dbd : Dbd) → All IsDatabase dbds → slice_get dbds place ≡ Some dbd → IsDatabase dbd
 database_at [] place dbd all found = absurd cc
@@ -45,7 +45,7 @@ all_fit dbd (s ∷ slots) one are = (fits, all_fit dbd slots one are.1) where
   fits : length s.1 ≤ 4000
   fits = subst (λ n. length s.1 ≤ n) limit (short_image dbd s.1 are.0.image)
 
-are_of : (system : System) (named : List NamedSlot) (place : ℕ) (dbd : Dbd) → IsSystem system → Ascend named → list_all (is_slot_of system) named ≡ true → slice_get system.databases place ≡ Some dbd → AreOf dbd (of_database (place + 1) named)
+are_of : (system : System) (named : List NamedSlot) (place : ℕ) (dbd : Dbd) → IsSystem system → NamedSlotsAscend named → list_all (is_slot_of system) named ≡ true → slice_get system.databases place ≡ Some dbd → AreSlotsOf dbd (of_database (place + 1) named)
 are_of system named place dbd defined ascending are found =
     let right = right_slots system place dbd named found are in
     let database = database_at system.databases place dbd defined.databases found in
@@ -55,14 +55,14 @@ are_of system named place dbd defined ascending are found =
       fits = all_fit dbd (of_database (place + 1) named) database.sectors right;
     }
 
-pub are_given : (system : System) (named : List NamedSlot) (given : Given) → IsSystem system → Ascend named → list_all (is_slot_of system) named ≡ true → AreNamedBytes (length system.databases) named given → AreGiven system given
+pub are_given : (system : System) (named : List NamedSlot) (given : GivenSlots) → IsSystem system → NamedSlotsAscend named → list_all (is_slot_of system) named ≡ true → AreNamedBytes (length system.databases) named given → AreGiven system given
 are_given system named given defined ascending are bytes = record {
   count = bytes.count_is;
-  each = λ place dbd slots found there. subst (AreOf dbd) (sym (bytes.each place slots there)) (are_of system named place dbd defined ascending are found);
+  each = λ place dbd slots found there. subst (AreSlotsOf dbd) (sym (bytes.each place slots there)) (are_of system named place dbd defined ascending are found);
 }
 
 -- each spells a record or none
-pub are_images : (system : System) (named : List NamedSlot) (given : Given) → list_all (is_slot_of system) named ≡ true → AreNamedBytes (length system.databases) named given
+pub are_images : (system : System) (named : List NamedSlot) (given : GivenSlots) → list_all (is_slot_of system) named ≡ true → AreNamedBytes (length system.databases) named given
     → (place number : ℕ) (dbd : Dbd) (slots : List (ℕ × List ℕ)) (bytes : List ℕ) → slice_get system.databases place ≡ Some dbd → slice_get given place ≡ Some slots → given_to number slots ≡ Some bytes → is_image dbd bytes ≡ true
 are_images system named given are of place number dbd slots bytes found there is =
     to_all (λ (b : List ℕ). IsTrue (is_image dbd b)) number slots bytes (given_images system (length system.databases) named given are of place dbd slots found there) is

@@ -6,24 +6,24 @@ use Rattle.model_system.specs.System.{System}
 use Rattle.model_data.specs.declared.row.Row.{Row}
 use Rattle.model_machine.specs.Machine.{LastingState}
 use Rattle.log_records.specs.declared.record.Record.{Record}
-use Rattle.log_records.specs.Reading.{◌>>=◌}
+use Rattle.log_records.specs.RecordReader.{◌>>=◌}
 use Rattle.restart_data.specs.declared.restart.RestartSector.{RestartSector}
 use Rattle.restart_data.specs.Restart.{restart_in}
 use Rattle.model_image.specs.Areas.{snapshot_area, log_first}
-use Rattle.model_image.specs.Cut.{IsCutOff}
+use Rattle.model_image.specs.CutRecords.{IsRecordCutOff}
 use Rattle.model_image.specs.Faults.{Fault, in_sector, or_fault, unless_fault}
 use Rattle.model_image.specs.Replay.{replay_of}
-use Rattle.model_image.specs.Slots.{rows_from}
+use Rattle.model_image.specs.Slots.{image_rows_from}
 use Rattle.model_image.specs.Snapshot.{snapshot_state}
-use Rattle.model_image.specs.Recovered.{snapshot_from, log_in, log_from, state_from, later_sector, state_with, state_by, rest_by, log_rest, Recovers}
+use Rattle.model_image.specs.RecoveredState.{snapshot_from, log_in, log_from, state_from, later_sector, state_with, state_by_restart, rest_by, log_rest, Recovers}
 use Rattle.model_image.proofs.Answers.{nothing_cut_off}
 
 -- the restart sector breaks a rule
 pub bad_restart : (system : System) (image : Image) (rule : ℕ) → restart_in (snapshot_area system) image ≡ Err rule → Recovers system image (Err (rule, 0))
 bad_restart system image rule is = record {
   is_cut_off = true;
-  decides = (λ _. subst (λ (l : List ℕ). IsCutOff l) (sym (ap (rest_by system image) is)) nothing_cut_off, λ _. refl);
-  is = ap (λ (read : Result (Option RestartSector) ℕ). in_sector 0 read >>= λ restart. state_by system image true restart) is;
+  decides = (λ _. subst (λ (l : List ℕ). IsRecordCutOff l) (sym (ap (rest_by system image) is)) nothing_cut_off, λ _. refl);
+  is = ap (λ (read : Result (Option RestartSector) ℕ). in_sector 0 read >>= λ restart. state_by_restart system image true restart) is;
 }
 
 bind_err : {A B : Type 0} (a : Result A Fault) (f : A → Result B Fault) (fault : Fault) → a ≡ Err fault → (a >>= f) ≡ Err fault
@@ -36,7 +36,7 @@ abbrev of_rows : System → Image → RestartSector → LastingState → List (L
 of_rows system image r lasting rows = unless_fault (later_sector system image r) (record lasting { rows = rows })
 
 abbrev of_state : System → Image → RestartSector → List Record → List Record → LastingState → Result LastingState Fault
-of_state system image r snapshot log lasting = rows_from system image snapshot log >>= λ rows. of_rows system image r lasting rows
+of_state system image r snapshot log lasting = image_rows_from system image snapshot log >>= λ rows. of_rows system image r lasting rows
 
 abbrev of_log : System → Image → RestartSector → List Record → List Record → Result LastingState Fault
 of_log system image r snapshot log = state_from system r snapshot log >>= λ lasting. of_state system image r snapshot log lasting
@@ -44,15 +44,15 @@ of_log system image r snapshot log = state_from system r snapshot log >>= λ las
 abbrev of_snapshot : System → Image → RestartSector → Bool → List Record → Result LastingState Fault
 of_snapshot system image r cut_off snapshot = log_from system image r cut_off >>= λ log. of_log system image r snapshot log
 
-module _ (system : System) (image : Image) (r : RestartSector) (is : restart_in (snapshot_area system) image ≡ Ok (Some r)) (cut_off : Bool) (decides : Decides cut_off (IsCutOff (log_in system image r).rest)) where
+module _ (system : System) (image : Image) (r : RestartSector) (is : restart_in (snapshot_area system) image ≡ Ok (Some r)) (cut_off : Bool) (decides : Decides cut_off (IsRecordCutOff (log_in system image r).rest)) where
   rest_is : log_rest system image ≡ (log_in system image r).rest
   rest_is = ap (rest_by system image) is
 
   by_steps : (answer : Result LastingState Fault) → state_with system image cut_off r ≡ answer → Recovers system image answer
   by_steps answer whole = record {
     is_cut_off = cut_off;
-    decides = subst (λ (l : List ℕ). Decides cut_off (IsCutOff l)) (sym rest_is) decides;
-    is = ap (λ (read : Result (Option RestartSector) ℕ). in_sector 0 read >>= λ restart. state_by system image cut_off restart) is ∙ whole;
+    decides = subst (λ (l : List ℕ). Decides cut_off (IsRecordCutOff l)) (sym rest_is) decides;
+    is = ap (λ (read : Result (Option RestartSector) ℕ). in_sector 0 read >>= λ restart. state_by_restart system image cut_off restart) is ∙ whole;
   }
 
   -- its snapshot breaks a rule
@@ -84,12 +84,12 @@ module _ (system : System) (image : Image) (r : RestartSector) (is : restart_in 
             from_log ∙ bind_ok (state_from system r snapshot (log_in system image r).records) (of_state system image r snapshot (log_in system image r).records) lasting (ap (or_fault (19, log_first system r.log)) replayed)
 
         -- a slot breaks a rule
-        pub bad_slot : (fault : Fault) → rows_from system image snapshot (log_in system image r).records ≡ Err fault → Recovers system image (Err fault)
-        bad_slot fault bad = by_steps (Err fault) (from_state ∙ bind_err (rows_from system image snapshot (log_in system image r).records) (of_rows system image r lasting) fault bad)
+        pub bad_slot : (fault : Fault) → image_rows_from system image snapshot (log_in system image r).records ≡ Err fault → Recovers system image (Err fault)
+        bad_slot fault bad = by_steps (Err fault) (from_state ∙ bind_err (image_rows_from system image snapshot (log_in system image r).records) (of_rows system image r lasting) fault bad)
 
-        module _ (rows : List (List Row)) (slots : rows_from system image snapshot (log_in system image r).records ≡ Ok rows) where
+        module _ (rows : List (List Row)) (slots : image_rows_from system image snapshot (log_in system image r).records ≡ Ok rows) where
           from_rows : state_with system image cut_off r ≡ of_rows system image r lasting rows
-          from_rows = from_state ∙ bind_ok (rows_from system image snapshot (log_in system image r).records) (of_rows system image r lasting) rows slots
+          from_rows = from_state ∙ bind_ok (image_rows_from system image snapshot (log_in system image r).records) (of_rows system image r lasting) rows slots
 
           -- a log sector is of a later epoch
           pub bad_later : (fault : Fault) → later_sector system image r ≡ Some fault → Recovers system image (Err fault)

@@ -8,26 +8,26 @@ use Rattle.model_machine.specs.Machine.{LastingState}
 use Rattle.restart_data.specs.declared.restart.RestartSector.{RestartSector}
 use Rattle.model_image.specs.Text.{text_in}
 use Rattle.model_image.specs.Areas.{snapshot_area}
-use Rattle.model_image.specs.Holding.{HoldsStores}
-use Rattle.checkpointing.specs.Records.{snapshot_records}
-use Rattle.tm_restart.specs.Given.{Given}
-use Rattle.tm_restart.specs.Writing.{IsRewritten, Rewrites}
+use Rattle.model_image.specs.HeldStores.{HoldsStores}
+use Rattle.checkpointing.specs.SnapshotRecords.{snapshot_records}
+use Rattle.tm_restart.specs.GivenSlots.{GivenSlots}
+use Rattle.tm_restart.specs.LifeWrites.{IsRewritten, Rewrites}
 use Rattle.tm_restart.proofs.Behind.{rows_found}
 use Rattle.tm_restart.proofs.Recovering.{IsNextLife}
 use Rattle.tm_restart.proofs.Stored.{stores_held}
-use Rattle.openings.specs.Parts.{OpeningParts}
-use Rattle.checkpointing.specs.Texts.{HasText}
+use Rattle.openings.specs.OpeningParts.{OpeningParts}
+use Rattle.checkpointing.specs.DefinitionText.{HasText}
 use Rattle.checkpointing.specs.Counts.{RaisesCounts}
 use Rattle.checkpointing.proofs.Counted.{alike_raises}
 use Rattle.openings.proofs.Counted.{reopened_raises}
 use Rattle.tm_restart.proofs.Unreading.{unread_images}
-use Rattle.openings.specs.Keeping.{KeepsImage}
+use Rattle.openings.specs.KeptImage.{KeepsImage}
 use Rattle.openings.specs.Renewal.{IsRenewed}
-use Rattle.tm_restart.specs.Prepared.{IsPrepared, IsMadeOf}
+use Rattle.tm_restart.specs.PreparedLife.{IsPrepared, IsMadeOf}
 use Rattle.tm_restart.proofs.Reopened.{is_renewed, names_none, rewrites_recover, unread_text}
 use Rattle.tm_restart.proofs.Renewed.{same_restart}
 
-module _ (system : System) (text : List ℕ) (given : Given) (parts : OpeningParts) (state : LastingState) (bytes : List ℕ) (now : RestartSector) (prepared : IsPrepared system text given parts state bytes now) where
+module _ (system : System) (text : List ℕ) (given : GivenSlots) (parts : OpeningParts) (state : LastingState) (bytes : List ℕ) (now : RestartSector) (prepared : IsPrepared system text given parts state bytes now) where
   has : (P : RestartSector → Type 0) → P parts.now → P now
   has P is = subst P prepared.has_sector is
 

@@ -1,11 +1,11 @@
 pub mod Replayed
-pub mod RenewalFinding
+pub mod GivenSectors
 pub mod AllPut
 pub mod Unreading
 pub mod Rewriting
 pub mod Same
 pub mod Behind
-pub mod RenewalFound
+pub mod SlotsAnew
 pub mod Recovering
 pub mod Stored
 pub mod Judged
@@ -23,4 +23,4 @@ pub mod MadeReady
 pub mod Renewed
 pub mod Reopened
 pub mod Laid
-pub mod TmRestartRecovering
+pub mod OpenedOrCold

@@ -5,7 +5,7 @@ use Rattle.std.specs.Option.{option_map}
 use Rattle.std.specs.List.{AllByRecursion}
 use Rattle.std.proofs.lemmas.Bool.{leb-false}
 use Rattle.model_machine.specs.declared.counts.Counter.{Counter}
-use Rattle.openings.specs.Opening.{first_spent}
+use Rattle.openings.specs.OpenedImage.{first_spent}
 
 by_test : (x : Counter × ℕ) (rest : List (Counter × ℕ)) (b : Bool) → option_map (λ (c : Counter × ℕ). c.0) (if b then Some x else find (λ (c : Counter × ℕ). nat_le 1000000000000000000 c.1) rest) ≡ None → (b ≡ false) × (first_spent rest ≡ None)
 by_test x rest true e = absurd cc

@@ -4,7 +4,7 @@ use Rattle.std.specs.Prelude.{Option}
 use Rattle.tm_disk.specs.Disk.{Image}
 use Rattle.model_system.specs.System.{System}
 use Rattle.model_image.specs.Areas.{log_first}
-use Rattle.model_image.specs.Recovered.{first_later}
+use Rattle.model_image.specs.RecoveredState.{first_later}
 use Rattle.image_reading.proofs.Sectors.{in_both, later_in_both}
 
 both_areas : (system : System) (image : Image) (epoch : ℕ) → first_later (2 * system.logs) image (log_first system 0) epoch ≡ in_both (first_later system.logs image (log_first system 0) epoch) (first_later system.logs image (log_first system 1) epoch)

@@ -7,22 +7,22 @@ use Rattle.model_system.specs.System.{System}
 use Rattle.restart_data.specs.declared.restart.RestartSector.{RestartSector}
 use Rattle.restart_data.specs.Restart.{restart_in}
 use Rattle.seg_store.specs.Slots.{rows_of_slots}
-use Rattle.seg_store.specs.Changed.{stored}
+use Rattle.seg_store.specs.ChangedSlots.{stored}
 use Rattle.model_image.specs.Areas.{snapshot_area, log_first}
-use Rattle.model_image.specs.Cut.{IsCutOff}
+use Rattle.model_image.specs.CutRecords.{IsRecordCutOff}
 use Rattle.model_image.specs.Faults.{Fault, unless_fault}
-use Rattle.model_image.specs.Slots.{all_slots, slot_fault, rows_of}
-use Rattle.model_image.specs.Recovered.{log_in, first_later, Recovers}
-use Rattle.image_loading.specs.ImageLoadingLoading.{AreAllMade, AreSlotted}
+use Rattle.model_image.specs.Slots.{all_slots, slot_fault, rows_of_databases}
+use Rattle.model_image.specs.RecoveredState.{log_in, first_later, Recovers}
+use Rattle.image_loading.specs.LoadedStores.{AreAllMade, AreSlotted}
 use Rattle.tm_restart.specs.declared.looking.Looked.{Looked}
 use Rattle.tm_restart.specs.declared.replaying.Reread.{Reread}
-use Rattle.tm_restart.specs.Looked.{IsLooked}
-use Rattle.tm_restart.specs.Replayed.{IsReplayed}
+use Rattle.tm_restart.specs.LookedImage.{IsLooked}
+use Rattle.tm_restart.specs.ReplayedImage.{IsReplayed}
 use Rattle.tm_restart.proofs.Judged.{bad_slot, bad_later, good_image}
 use Rattle.tm_restart.proofs.Stores.{stores_loaded, rows_found}
 
 module _ (system : System) (image : Image) (r : RestartSector) (is : restart_in (snapshot_area system) image ≡ Ok (Some r)) (looked : Looked) (rp : IsReplayed system image r looked.reread) where
-  decides : Decides true (IsCutOff (log_in system image r).rest)
+  decides : Decides true (IsRecordCutOff (log_in system image r).rest)
   decides = (λ _. rp.cut_off, λ _. refl)
 
   pub look_good : AreAllMade system.databases looked.named.loaded.stores → AreSlotted (all_slots system image rp.snapshot (log_in system image r).records 0 system.databases) looked.named.loaded.stores
@@ -43,4 +43,4 @@ module _ (system : System) (image : Image) (r : RestartSector) (is : restart_in 
 pub look_bad : (system : System) (image : Image) (r : RestartSector) → restart_in (snapshot_area system) image ≡ Ok (Some r) → (reread : Reread) (rp : IsReplayed system image r reread) (fault : Fault) → slot_fault (all_slots system image rp.snapshot (log_in system image r).records 0 system.databases) ≡ Some fault → Recovers system image (Err fault)
 look_bad system image r is reread rp fault bad =
     bad_slot system image r is true (λ _. rp.cut_off, λ _. refl) rp.snapshot rp.has refl rp.lasting rp.replays fault
-    (ap (λ (o : Option Fault). unless_fault o (rows_of (all_slots system image rp.snapshot (log_in system image r).records 0 system.databases))) bad)
+    (ap (λ (o : Option Fault). unless_fault o (rows_of_databases (all_slots system image rp.snapshot (log_in system image r).records 0 system.databases))) bad)

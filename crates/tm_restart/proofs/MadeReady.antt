@@ -9,32 +9,32 @@ use Rattle.model_machine.specs.Machine.{LastingState}
 use Rattle.restart_data.specs.declared.restart.RestartSector.{RestartSector}
 use Rattle.restart_data.specs.Restart.{IsRestart}
 use Rattle.seg_store.specs.Slots.{Stored, rows_of_slots}
-use Rattle.seg_store.specs.Changed.{Kept, AllStores, stored, all_stores}
-use Rattle.system_types.specs.Valid.{IsSystem}
+use Rattle.seg_store.specs.ChangedSlots.{Kept, AllStores, stored, all_stores}
+use Rattle.system_types.specs.ValidSystem.{IsSystem}
 use Rattle.model_image.specs.Areas.{snapshot_area}
 use Rattle.model_image.specs.Counters.{next_sequence}
-use Rattle.model_image.specs.Recovered.{log_in, Recovers}
-use Rattle.image_law.specs.Counted.{IsCounted}
-use Rattle.checkpointing.specs.Records.{snapshot_records, IsOfSystem}
-use Rattle.checkpointing.specs.Spelled.{Adds, IsWritable}
+use Rattle.model_image.specs.RecoveredState.{log_in, Recovers}
+use Rattle.image_law.specs.SegmentCounts.{AreSegmentsCounted}
+use Rattle.checkpointing.specs.SnapshotRecords.{snapshot_records, IsOfSystem}
+use Rattle.checkpointing.specs.SpelledRecords.{AddsSpelled, IsWritable}
 use Rattle.checkpointing.specs.Touches.{HasOneSector}
 use Rattle.checkpointing.proofs.Fits.{writable}
 use Rattle.checkpointing.proofs.Judged.{AreCounts}
 use Rattle.checkpointing.proofs.Read.{no_changes}
 use Rattle.checkpointing.proofs.Whole.{IsWhole, whole}
-use Rattle.image_records.specs.Kept.{KeptState, Keeps, kept_of}
+use Rattle.image_records.specs.KeptState.{KeptState, KeepsState, kept_of}
 use Rattle.tm_restart.proofs.NamedSlots.{given_named}
-use Rattle.tm_restart.specs.Given.{AreGiven}
-use Rattle.tm_restart.specs.Before.{IsBefore}
-use Rattle.tm_restart.specs.Loaded.{AreLoaded}
+use Rattle.tm_restart.specs.GivenSlots.{AreGiven}
+use Rattle.tm_restart.specs.UnpreparedImage.{IsUnprepared}
+use Rattle.tm_restart.specs.LoadedStores.{AreStoresLoaded}
 use Rattle.tm_restart.proofs.Rewriting.{sectors_fit}
-use Rattle.openings.specs.Parts.{OpeningParts, AreOpeningParts}
-use Rattle.openings.specs.Shown.{shown}
-use Rattle.openings.proofs.OpeningPartsMade.{shown_back, kept_again, rows_stored}
-use Rattle.openings.specs.Opening.{counters, first_spent, IsFound, IsReopened, MayBegin}
+use Rattle.openings.specs.OpeningParts.{OpeningParts, AreOpeningParts}
+use Rattle.openings.specs.OpeningState.{shown_state}
+use Rattle.openings.proofs.StoresMade.{shown_back, kept_again, rows_stored}
+use Rattle.openings.specs.OpenedImage.{counters, first_spent, IsFound, IsReopened, MayBegin}
 use Rattle.tm_restart.specs.declared.finding.Found.{Found}
-use Rattle.tm_restart.specs.Found.{IsJudged, IsSeen}
-use Rattle.tm_restart.specs.Prepared.{state_in, sector_behind, IsPrepared, IsMadeOf}
+use Rattle.tm_restart.specs.FoundImage.{IsFoundJudged, IsSeen}
+use Rattle.tm_restart.specs.PreparedLife.{state_in, sector_behind, IsPrepared, IsMadeOf}
 use Rattle.tm_restart.proofs.Limits.{all_below}
 use Rattle.tm_restart.proofs.GivenSlots.{are_given, are_images}
 use Rattle.tm_restart.proofs.ShownIn.{shown_in, writable_in, one_sector_in}
@@ -43,15 +43,15 @@ use Rattle.tm_restart.proofs.ShownIn.{shown_in, writable_in, one_sector_in}
 abbrev pub rows_with : LastingState → List Kept → LastingState
 rows_with lasting stores = record lasting { rows = map (λ (store : Stored). rows_of_slots store.slots) (map stored stores) }
 
-pub state_with : (system : System) (kept : KeptState) (lasting state : LastingState) (stores : List Kept) → kept ≡ kept_of system lasting → state ≡ shown kept (map (λ (store : Kept). rows_of_slots store.slots) stores) → state ≡ rows_with lasting stores
+pub state_with : (system : System) (kept : KeptState) (lasting state : LastingState) (stores : List Kept) → kept ≡ kept_of system lasting → state ≡ shown_state kept (map (λ (store : Kept). rows_of_slots store.slots) stores) → state ≡ rows_with lasting stores
 state_with system kept lasting state stores kept_is is =
     is
-    ∙ ap (shown kept) (sym (rows_stored stores))
+    ∙ ap (shown_state kept) (sym (rows_stored stores))
     ∙ shown_back system kept lasting (map (λ (store : Stored). rows_of_slots store.slots) (map stored stores)) kept_is
 
 -- ---- on every disk
 
-module _ (system : System) (text : List ℕ) (found : Found) (judged : IsJudged system text found) where
+module _ (system : System) (text : List ℕ) (found : Found) (judged : IsFoundJudged system text found) where
   abbrev restart : RestartSector
   restart = found.restart
 
@@ -70,7 +70,7 @@ module _ (system : System) (text : List ℕ) (found : Found) (judged : IsJudged 
   abbrev state : LastingState
   state = rows_with judged.behind.lasting stores
 
-  keeps : Keeps system state kept
+  keeps : KeepsState system state kept
   keeps = kept_again system judged.behind.lasting state.rows kept judged.behind.behind.kept
 
   of_system : IsOfSystem system state
@@ -78,7 +78,7 @@ module _ (system : System) (text : List ℕ) (found : Found) (judged : IsJudged 
       let named = judged.behind.named in
       record { terminals = named.terminals; outputs = named.outputs; conversations = named.conversations; codes = named.codes }
 
-  counted : IsCounted state
+  counted : AreSegmentsCounted state
   counted = record { messages = judged.behind.counted.messages; replies = judged.behind.counted.replies }
 
   -- no counter is spent
@@ -141,14 +141,14 @@ module _ (system : System) (text : List ℕ) (found : Found) (judged : IsJudged 
         are_given system found.looked.reread.replayed.slots found.looked.named.given.items defined judged.behind.behind.slots.ascending judged.behind.behind.images judged.given
 
     module _ (short : length text ≤ 262144) (parts : OpeningParts) (are : AreOpeningParts system state parts) (unit_is : parts.next_unit ≡ unit) (bytes : List ℕ)
-        (adds : Adds (snapshot_records (restart.checkpoint + 1) parts.next_unit (state_in parts) []) [] bytes) where
+        (adds : AddsSpelled (snapshot_records (restart.checkpoint + 1) parts.next_unit (state_in parts) []) [] bytes) where
       abbrev now : RestartSector
       now = sector_behind restart sequence (length bytes) (length text)
 
-      its_own : Adds (snapshot_records (restart.checkpoint + 1) unit state []) [] bytes
+      its_own : AddsSpelled (snapshot_records (restart.checkpoint + 1) unit state []) [] bytes
       its_own =
-          subst (λ (n : ℕ). Adds (snapshot_records (restart.checkpoint + 1) n state []) [] bytes) unit_is
-          (subst (λ (s : LastingState). Adds (snapshot_records (restart.checkpoint + 1) parts.next_unit s []) [] bytes) (shown_in system state parts are of_system) adds)
+          subst (λ (n : ℕ). AddsSpelled (snapshot_records (restart.checkpoint + 1) n state []) [] bytes) unit_is
+          (subst (λ (s : LastingState). AddsSpelled (snapshot_records (restart.checkpoint + 1) parts.next_unit s []) [] bytes) (shown_in system state parts are of_system) adds)
 
       is_whole : IsWhole system (restart.checkpoint + 1) unit state [] bytes
       is_whole = whole system (restart.checkpoint + 1) unit state [] bytes defined of_system counts keeps.sound (no_changes system) (omega arith) its_own
@@ -202,7 +202,7 @@ module _ (system : System) (text : List ℕ) (found : Found) (judged : IsJudged 
       }
 
       -- with the state, the parts and the sector that were made
-      module _ (lasting : LastingState) (lasting_is : lasting ≡ shown kept (map (λ (store : Kept). rows_of_slots store.slots) stores)) (all : OpeningParts) (all_is : all ≡ opened) (last : RestartSector) (last_is : last ≡ now) where
+      module _ (lasting : LastingState) (lasting_is : lasting ≡ shown_state kept (map (λ (store : Kept). rows_of_slots store.slots) stores)) (all : OpeningParts) (all_is : all ≡ opened) (last : RestartSector) (last_is : last ≡ now) where
         pub prepared : IsPrepared system text found.looked.named.given.items all lasting bytes last
         prepared =
             let lasting_with : lasting ≡ state = state_with system kept judged.behind.lasting lasting stores judged.behind.behind.kept.is lasting_is in
@@ -212,7 +212,7 @@ module _ (system : System) (text : List ℕ) (found : Found) (judged : IsJudged 
 
   -- ---- of an image
 
-  module _ (defined : IsSystem system) (parts : OpeningParts) (unit_is : parts.next_unit ≡ unit) (stores_are : parts.stores ≡ all_stores stores) (size : ℕ) (lasting : LastingState) (lasting_is : lasting ≡ shown kept (map (λ (store : Kept). rows_of_slots store.slots) stores)) (image : Image) (seen : IsSeen system text image found) where
+  module _ (defined : IsSystem system) (parts : OpeningParts) (unit_is : parts.next_unit ≡ unit) (stores_are : parts.stores ≡ all_stores stores) (size : ℕ) (lasting : LastingState) (lasting_is : lasting ≡ shown_state kept (map (λ (store : Kept). rows_of_slots store.slots) stores)) (image : Image) (seen : IsSeen system text image found) where
     abbrev its_now : RestartSector
     its_now = sector_behind restart sequence size (length text)
 
@@ -224,7 +224,7 @@ module _ (system : System) (text : List ℕ) (found : Found) (judged : IsJudged 
         let replayed = seen.looked.replayed in
         subst (λ (s : LastingState). Recovers system image (Ok s)) (sym (state_with system kept replayed.lasting lasting stores replayed.behind.kept.is lasting_is)) seen.looked.recovers
 
-    is_before : IsBefore system restart seen.looked.replayed.snapshot found.looked.named.given.items its_now image
+    is_before : IsUnprepared system restart seen.looked.replayed.snapshot found.looked.named.given.items its_now image
     is_before = record {
       restart = seen.has_restart;
       has_snapshot = seen.looked.replayed.has;
@@ -266,7 +266,7 @@ module _ (system : System) (text : List ℕ) (found : Found) (judged : IsJudged 
       has_text = seen.has_text;
       same_text = judged.text_size;
       epoch = refl;
-      loaded = subst (λ (l : List Stored). AreLoaded system image seen.looked.replayed.snapshot (log_in system image restart).records l) (sym (ap (λ (a : AllStores). a.stores) stores_are)) seen.looked.loaded;
+      loaded = subst (λ (l : List Stored). AreStoresLoaded system image seen.looked.replayed.snapshot (log_in system image restart).records l) (sym (ap (λ (a : AllStores). a.stores) stores_are)) seen.looked.loaded;
       reopened = is_reopened;
     }
 

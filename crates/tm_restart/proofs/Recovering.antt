@@ -3,63 +3,43 @@ use Rattle.std.proofs.Common.{◌≡◌, ℕ, ◌+◌, ◌*◌, ◌≤◌, true,
 use Rattle.std.specs.Prelude.{Option, Result}
 use Rattle.std.specs.Option.{option_map}
 use Rattle.tm_disk.specs.Disk.{Image, sector_at}
-use Rattle.model_data.specs.declared.row.Row.{Row}
 use Rattle.model_system.specs.System.{System}
 use Rattle.model_machine.specs.Machine.{LastingState}
 use Rattle.log_records.specs.declared.record.Record.{Record}
-use Rattle.log_records.specs.Reading.{◌>>=◌}
-use Rattle.log_sectors.specs.Chain.{joined}
+use Rattle.log_records.specs.RecordReader.{◌>>=◌}
+use Rattle.log_sectors.specs.Chain.{joined_payloads}
 use Rattle.restart_data.specs.declared.restart.RestartSector.{RestartSector}
-use Rattle.restart_data.specs.Rules.{unless_broken}
+use Rattle.restart_data.specs.Rules.{unless_rule_broken}
 use Rattle.restart_data.specs.Restart.{IsRestart, restart_in}
-use Rattle.restart_data.specs.Snapshot.{sectors_of, snapshot_in}
-use Rattle.model_image.specs.Ahead.{NoneAhead}
+use Rattle.restart_data.specs.Snapshot.{snapshot_sectors_of, snapshot_in}
+use Rattle.model_image.specs.SectorsAhead.{NoneAhead}
 use Rattle.model_image.specs.Areas.{snapshot_area, snapshot_first, log_first}
-use Rattle.model_image.specs.Cut.{Cut, cut_of, records_of, IsCutOff}
+use Rattle.model_image.specs.CutRecords.{Cut, cut_of, records_cut, IsRecordCutOff}
 use Rattle.model_image.specs.Faults.{Fault, in_sector, unless_any, or_fault, unless_fault}
 use Rattle.model_image.specs.Snapshot.{snapshot_rules}
-use Rattle.model_image.specs.Slots.{rows_from}
-use Rattle.model_image.specs.Recovered.{is_later, first_later, snapshot_from, log_in, log_from, state_from, later_sector, state_with, state_by, rest_by, log_rest, Recovers}
+use Rattle.model_image.specs.Slots.{image_rows_from}
+use Rattle.model_image.specs.RecoveredState.{is_later, first_later, snapshot_from, log_in, log_from, later_sector, state_with, state_by_restart, rest_by, log_rest, Recovers}
 use Rattle.model_image.proofs.Ahead.{later_ahead, ahead_same, ahead_empty}
 use Rattle.model_image.proofs.Answers.{nothing_cut_off}
 use Rattle.model_image.proofs.Later.{none_later, each_not_later, not_later}
 use Rattle.model_image.proofs.Places.{both_logs}
-use Rattle.tm_restart.specs.Given.{Given}
-use Rattle.tm_restart.specs.Before.{IsBefore}
-use Rattle.tm_restart.specs.Telling.{TellsState}
-use Rattle.tm_restart.specs.Writing.{IsRewritten}
+use Rattle.tm_restart.specs.GivenSlots.{GivenSlots}
+use Rattle.tm_restart.specs.UnpreparedImage.{IsUnprepared}
+use Rattle.tm_restart.specs.ToldSnapshot.{TellsState}
+use Rattle.tm_restart.specs.LifeWrites.{IsRewritten}
 use Rattle.tm_restart.proofs.Behind.{rows_found, later_more}
-use Rattle.tm_restart.proofs.RenewalFound.{logs_stay, rows_again}
-
-nothing_cut : cut_of [] ≡ record { records = []; rest = [] }
-unfolding cut_of
-nothing_cut = refl
-
-bind_is : {A B : Type 0} (a : Result A Fault) (f : A → Result B Fault) (x : A) → a ≡ Ok x → (a >>= f) ≡ f x
-bind_is a f x is = ap (λ r. r >>= f) is
-
--- what is left of the recovery, step by step
-abbrev of_rows : System → Image → RestartSector → LastingState → List (List Row) → Result LastingState Fault
-of_rows system image now lasting rows = unless_fault (later_sector system image now) (record lasting { rows = rows })
-
-abbrev of_state : System → Image → RestartSector → List Record → List Record → LastingState → Result LastingState Fault
-of_state system image now records log lasting = rows_from system image records log >>= λ rows. of_rows system image now lasting rows
-
-abbrev of_log : System → Image → RestartSector → List Record → List Record → Result LastingState Fault
-of_log system image now records log = state_from system now records log >>= λ lasting. of_state system image now records log lasting
-
-abbrev of_snapshot : System → Image → RestartSector → List Record → Result LastingState Fault
-of_snapshot system image now records = log_from system image now true >>= λ log. of_log system image now records log
+use Rattle.tm_restart.proofs.SlotsAnew.{logs_stay, rows_again}
+use Rattle.checkpointing.proofs.Begun.{nothing_cut, bind_is, of_rows, of_state, of_log, of_snapshot}
 
 -- The restart sector of the next life, for this snapshot.
 pub record IsNextLife (system : System) (r now : RestartSector) (bytes : List ℕ) : Type 0 where
   pub is : IsRestart now
   pub epoch : now.epoch ≡ r.epoch + 1
-  pub sectors : now.sectors ≡ sectors_of (length bytes)
+  pub sectors : now.sectors ≡ snapshot_sectors_of (length bytes)
   pub fits : now.sectors ≤ snapshot_area system
 
-module _ (system : System) (r : RestartSector) (snapshot : List Record) (given : Given) (bytes : List ℕ) (now : RestartSector) (a e : Image)
-    (before : IsBefore system r snapshot given now a) (done : IsRewritten system given bytes now a e) (next : IsNextLife system r now bytes)
+module _ (system : System) (r : RestartSector) (snapshot : List Record) (given : GivenSlots) (bytes : List ℕ) (now : RestartSector) (a e : Image)
+    (before : IsUnprepared system r snapshot given now a) (done : IsRewritten system given bytes now a e) (next : IsNextLife system r now bytes)
     (records : List Record) (state : LastingState) (tells : TellsState system bytes records state) (recovers : Recovers system a (Ok state)) where
   pub renewed_restart : restart_in (snapshot_area system) e ≡ Ok (Some now)
   renewed_restart = done.restart (snapshot_area system) next.fits
@@ -68,9 +48,9 @@ module _ (system : System) (r : RestartSector) (snapshot : List Record) (given :
   renewed_snapshot =
       let first : ℕ = snapshot_first system now.snapshot in
       let read : snapshot_in now.sectors e first now.checkpoint ≡ Ok bytes = ap (λ n. snapshot_in n e first now.checkpoint) next.sectors ∙ done.snapshot in
-      ap (λ (read : Result (List ℕ) Fault). read >>= λ bytes. or_fault (10, first) (records_of bytes) >>= λ found. unless_any first (snapshot_rules system found) found) read
+      ap (λ (read : Result (List ℕ) Fault). read >>= λ bytes. or_fault (10, first) (records_cut bytes) >>= λ found. unless_any first (snapshot_rules system found) found) read
       ∙ ap (λ (found : Option (List Record)). or_fault (10, first) found >>= λ found. unless_any first (snapshot_rules system found) found) tells.reads
-      ∙ ap (λ (broken : Option ℕ). in_sector first (unless_broken broken records)) tells.keep_rules
+      ∙ ap (λ (broken : Option ℕ). in_sector first (unless_rule_broken broken records)) tells.keep_rules
 
   -- no sector of the logs was of a later life
   not_before : first_later (2 * system.logs) a (log_first system 0) r.epoch ≡ None
@@ -83,7 +63,7 @@ module _ (system : System) (r : RestartSector) (snapshot : List Record) (given :
 
   log_is : log_in system e now ≡ record { records = []; rest = [] }
   log_is =
-      ap (λ (payloads : List (List ℕ)). cut_of (joined payloads)) (ahead_empty system e now.epoch now.sequence now.log renewed_ahead next.is.log (omega (arith, next.is.sequence.1)))
+      ap (λ (payloads : List (List ℕ)). cut_of (joined_payloads payloads)) (ahead_empty system e now.epoch now.sequence now.log renewed_ahead next.is.log (omega (arith, next.is.sequence.1)))
       ∙ nothing_cut
 
   none_is_later : later_sector system e now ≡ None
@@ -93,7 +73,7 @@ module _ (system : System) (r : RestartSector) (snapshot : List Record) (given :
       ap (is_later now.epoch) (logs_stay system r snapshot given bytes now a e before done k low (omega (arith, high, both_logs system)))
       ∙ later_more r.epoch now.epoch (sector_at a k) (omega (arith, next.epoch)) (each_not_later (2 * system.logs) a (log_first system 0) r.epoch not_before k low high)))
 
-  rows_are : rows_from system e records [] ≡ Ok state.rows
+  rows_are : image_rows_from system e records [] ≡ Ok state.rows
   rows_are = rows_again system r snapshot given bytes now a e before done records tells.unnamed state.rows (rows_found system a r snapshot state before.restart before.has_snapshot recovers)
 
   state_is : state_with system e true now ≡ Ok state
@@ -102,7 +82,7 @@ module _ (system : System) (r : RestartSector) (snapshot : List Record) (given :
       bind_is (snapshot_from system e now) (of_snapshot system e now) records renewed_snapshot
       ∙ bind_is (log_from system e now true) (of_log system e now records) [] (ap (λ (cut : Cut). Ok cut.records) log_is)
       ∙ ap (of_state system e now records []) tells.told
-      ∙ bind_is (rows_from system e records []) (of_rows system e now bare) state.rows rows_are
+      ∙ bind_is (image_rows_from system e records []) (of_rows system e now bare) state.rows rows_are
       ∙ ap (λ (fault : Option Fault). unless_fault fault state) none_is_later
 
   -- It recovers to the same state.
@@ -111,6 +91,6 @@ module _ (system : System) (r : RestartSector) (snapshot : List Record) (given :
       let rest : log_rest system e ≡ [] = ap (rest_by system e) renewed_restart ∙ ap (λ (cut : Cut). cut.rest) log_is in
       record {
         is_cut_off = true;
-        decides = (λ _. subst (λ (l : List ℕ). IsCutOff l) (sym rest) nothing_cut_off, λ _. refl);
-        is = ap (λ (read : Result (Option RestartSector) ℕ). in_sector 0 read >>= λ restart. state_by system e true restart) renewed_restart ∙ state_is;
+        decides = (λ _. subst (λ (l : List ℕ). IsRecordCutOff l) (sym rest) nothing_cut_off, λ _. refl);
+        is = ap (λ (read : Result (Option RestartSector) ℕ). in_sector 0 read >>= λ restart. state_by_restart system e true restart) renewed_restart ∙ state_is;
       }

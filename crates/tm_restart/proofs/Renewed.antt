@@ -6,7 +6,7 @@ use Rattle.std.specs.Int.{w16, from_be_bytes}
 use Rattle.std.proofs.lemmas.Option.{none-some, same_Some}
 use Rattle.tm_types.specs.declared.dbd.Dbd.{Dbd}
 use Rattle.model_data.specs.declared.row.Row.{Row}
-use Rattle.model_data.specs.Record.{spelling}
+use Rattle.model_data.specs.Record.{rows_spelling}
 use Rattle.tm_disk.specs.Disk.{Image, DiskState, sector_at, Within, Follows}
 use Rattle.tm_disk.proofs.Words.{within_where}
 use Rattle.tm_disk.specs.Sector.{zeros, blank}
@@ -14,44 +14,46 @@ use Rattle.model_messages.specs.Outputs.{fresh_terminal}
 use Rattle.model_system.specs.System.{System}
 use Rattle.model_machine.specs.Machine.{LastingState, empty_state}
 use Rattle.log_records.specs.declared.record.Record.{Record}
-use Rattle.log_sectors.specs.Sealed.{opened}
+use Rattle.log_sectors.specs.SealedSector.{opened_payload}
 use Rattle.log_sectors.proofs.Sealing.{opened-blank}
 use Rattle.restart_data.specs.declared.restart.RestartSector.{RestartSector}
 use Rattle.restart_data.specs.Restart.{IsRestart, restart_in}
 use Rattle.restart_data.specs.Fields.{number2_at, are_zeros}
-use Rattle.restart_data.proofs.Zeros.{blank_is, take-zeros, drop-zeros, are_zeros-zeros}
+use Rattle.restart_data.proofs.Zeros.{are_zeros-zeros}
 use Rattle.seg_store.specs.Slots.{Stored, free_slots}
 use Rattle.seg_store.specs.Stores.{empty_store, empty_stores}
-use Rattle.system_types.specs.Valid.{IsSystem}
-use Rattle.model_image.specs.Ahead.{NoneAhead}
-use Rattle.model_image.specs.Holding.{HoldsStores}
+use Rattle.system_types.specs.ValidSystem.{IsSystem}
+use Rattle.model_image.specs.SectorsAhead.{NoneAhead}
+use Rattle.model_image.specs.HeldStores.{HoldsStores}
 use Rattle.model_image.specs.Areas.{snapshot_area, log_first, data_first}
-use Rattle.model_image.specs.Slots.{used_in, bytes_in, is_wrong_length}
+use Rattle.model_image.specs.Slots.{used_in, slot_bytes_in, is_wrong_length}
 use Rattle.model_image.specs.Slots.Source.{Spelled}
-use Rattle.model_image.specs.Recovered.{snapshot_from}
+use Rattle.model_image.specs.RecoveredState.{snapshot_from}
 use Rattle.model_image.proofs.Answers.{zeros_are_empty}
 use Rattle.model_image.proofs.Places.{slot_above, slot_below, both_logs}
-use Rattle.checkpointing.specs.Records.{snapshot_records}
-use Rattle.openings.specs.FirstImage.{IsFirst, IsFirstImage, BeginsImage, first_records}
-use Rattle.checkpointing.specs.Spelled.{Adds}
+use Rattle.checkpointing.specs.SnapshotRecords.{snapshot_records}
+use Rattle.openings.specs.FirstImage.{IsFirstRestart, IsFirstImage, BeginsImage, first_records}
+use Rattle.checkpointing.specs.SpelledRecords.{AddsSpelled}
 use Rattle.checkpointing.proofs.Read.{no_changes, read_from}
 use Rattle.openings.proofs.Emptied.{empty_is, empty_sound}
-use Rattle.openings.proofs.Names.{codes_apart}
 use Rattle.openings.proofs.FirstWritten.{has_first, first_recovers}
 use Rattle.model_machine.specs.declared.counts.Counter.{Counter}
 use Rattle.model_machine.specs.declared.counts.Counter.TheVariants as counter
 use Rattle.model_image.specs.Text.{text_in}
 use Rattle.image_law.proofs.Told.{empty_counted}
-use Rattle.openings.specs.Made.{IsMade}
-use Rattle.checkpointing.specs.Texts.{HasText}
+use Rattle.openings.specs.MadeParts.{IsFirstMade}
+use Rattle.checkpointing.specs.DefinitionText.{HasText}
 use Rattle.checkpointing.specs.Counts.{RaisesCounts}
 use Rattle.checkpointing.proofs.Counted.{same_raises}
 use Rattle.openings.proofs.Counted.{renewed_up_to}
-use Rattle.openings.specs.Keeping.{KeepsOrEmpties}
-use Rattle.openings.specs.Opening.{IsBegun, MayBegin, counters, first_spent}
-use Rattle.openings.specs.Parts.{OpeningParts}
+use Rattle.openings.specs.KeptImage.{KeepsOrEmpties}
+use Rattle.openings.specs.OpenedImage.{IsBegunCold, MayBegin, counters, first_spent}
+use Rattle.openings.specs.OpeningParts.{OpeningParts}
 use Rattle.openings.specs.Renewal.{IsRenewed}
 use Rattle.openings.proofs.TextBack.{text_back}
+use Rattle.tm_disk.proofs.Zeros.{blank_is, take-zeros, drop-zeros}
+use Rattle.checkpointing.proofs.Begun.{two_zeros}
+use Rattle.checkpointing.proofs.Apart.{codes_apart}
 
 -- ---- restart sectors
 
@@ -66,7 +68,7 @@ same_restart a b e = cc
 
 -- ---- the first snapshot
 
-first_snapshot_is : (system : System) (text bytes : List ℕ) (now : RestartSector) → IsSystem system → Adds (first_records system) [] bytes → IsFirst now → (image : Image) → IsFirstImage system text bytes now image → snapshot_from system image now ≡ Ok (first_records system)
+first_snapshot_is : (system : System) (text bytes : List ℕ) (now : RestartSector) → IsSystem system → AddsSpelled (first_records system) [] bytes → IsFirstRestart now → (image : Image) → IsFirstImage system text bytes now image → snapshot_from system image now ≡ Ok (first_records system)
 first_snapshot_is system text bytes now valid adds first image is =
     read_from system (empty_state system) 1 1 valid.terminals_apart (codes_apart system valid) (empty_is system) (record { checkpoint_small = refl; unit_next = refl }) (empty_sound system valid) [] (no_changes system) adds.valid now image
     (has_first system text bytes now valid adds first image is).read
@@ -85,15 +87,11 @@ unspent system = ap (option_map (λ (c : Counter × ℕ). c.0)) (none_replied sy
 front_blank : take 2 blank ≡ zeros 2
 front_blank = ap (take 2) blank_is ∙ take-zeros 2 4096 (omega arith)
 
-two_zeros : from_be_bytes w16 (zeros 2) ≡ 0
-unfolding zeros
-two_zeros = refl
-
 none_used : used_in blank ≡ 0
 unfolding number2_at
 none_used = ap (from_be_bytes w16) front_blank ∙ two_zeros
 
-no_bytes : bytes_in blank ≡ []
+no_bytes : slot_bytes_in blank ≡ []
 no_bytes = ap (λ (n : ℕ). take n (drop 2 blank)) none_used
 
 right_length : is_wrong_length (Spelled blank) ≡ false
@@ -117,12 +115,12 @@ empty_at (dbd ∷ dbds) (suc place) store found = let rest = empty_at dbds place
 
 -- ---- the first image
 
-module _ (system : System) (text bytes : List ℕ) (parts : OpeningParts) (state : LastingState) (now : RestartSector) (made : IsMade system (length text) parts state bytes now) where
+module _ (system : System) (text bytes : List ℕ) (parts : OpeningParts) (state : LastingState) (now : RestartSector) (made : IsFirstMade system (length text) parts state bytes now) where
   first_has : (P : RestartSector → Type 0) → P now → P parts.now
   first_has P is = subst P (sym made.has_sector) is
 
-  pub begun : IsBegun system parts state
-  begun = record { empty = made.state_is; next_unit = made.next_unit; first = first_has IsFirst made.first }
+  pub begun : IsBegunCold system parts state
+  begun = record { empty = made.state_is; next_unit = made.next_unit; first = first_has IsFirstRestart made.first }
 
   pub may_begin : MayBegin system text parts state
   may_begin =
@@ -142,7 +140,7 @@ module _ (system : System) (text bytes : List ℕ) (parts : OpeningParts) (state
     none_ahead : NoneAhead system image now.epoch now.sequence
     none_ahead = record {
       none = λ x n lt le small.
-          ap (λ (s : List ℕ). opened now.epoch n s) (is.blanks (log_first system 0 + x) (omega arith) (omega (arith, lt, both_logs system, slot_above system (length system.databases) 0)))
+          ap (λ (s : List ℕ). opened_payload now.epoch n s) (is.blanks (log_first system 0 + x) (omega arith) (omega (arith, lt, both_logs system, slot_above system (length system.databases) 0)))
           ∙ opened-blank now.epoch n;
     }
 
@@ -171,7 +169,7 @@ module _ (system : System) (text bytes : List ℕ) (parts : OpeningParts) (state
           is.blanks (data_first system place + number) (omega (arith, slot_above system place number, both_logs system)) (slot_below system place number (record { dbd = at.dbd; found = at.found; below = fewer })) in
           record {
             right = ap (λ (s : List ℕ). is_wrong_length (Spelled s)) is_blank ∙ right_length;
-            spelled = ap bytes_in is_blank ∙ no_bytes ∙ sym (ap (λ (rows : List Row). spelling rows) none);
+            spelled = ap slot_bytes_in is_blank ∙ no_bytes ∙ sym (ap (λ (rows : List Row). rows_spelling rows) none);
           };
     }
 

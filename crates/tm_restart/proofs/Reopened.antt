@@ -8,27 +8,27 @@ use Rattle.tm_disk.specs.Disk.{Image, sector_at}
 use Rattle.model_system.specs.System.{System}
 use Rattle.model_machine.specs.Machine.{LastingState}
 use Rattle.log_records.specs.declared.record.Record.{Record}
-use Rattle.log_records.specs.Spelling.{spelling}
+use Rattle.log_records.specs.RecordSpelling.{record_spelling}
 use Rattle.restart_data.specs.declared.restart.RestartSector.{RestartSector}
 use Rattle.restart_data.specs.Restart.{restart_in, restart_of}
-use Rattle.model_image.specs.Alike.{RecoversAlike}
+use Rattle.model_image.specs.AlikeImages.{RecoversAlike}
 use Rattle.model_image.specs.Faults.{Fault}
 use Rattle.model_image.proofs.Answers.{one_answer_of}
 use Rattle.model_image.specs.Areas.{snapshot_area, snapshot_first}
-use Rattle.model_image.specs.Cut.{records_of}
-use Rattle.model_image.specs.Recovered.{Recovers}
+use Rattle.model_image.specs.CutRecords.{records_cut}
+use Rattle.model_image.specs.RecoveredState.{Recovers}
 use Rattle.model_image.specs.Slots.{named_by}
 use Rattle.model_image.specs.Text.{bytes_from, text_in, first_difference}
 use Rattle.model_image.proofs.Places.{slot_above, log_above}
-use Rattle.checkpointing.specs.Records.{snapshot_records}
+use Rattle.checkpointing.specs.SnapshotRecords.{snapshot_records}
 use Rattle.checkpointing.proofs.Plain.{none_named}
 use Rattle.checkpointing.proofs.Read.{IsRead}
 use Rattle.checkpointing.specs.Checkpoint.{InArea}
-use Rattle.checkpointing.specs.Texts.{HasText}
-use Rattle.tm_restart.specs.Given.{Given, IsGiven}
-use Rattle.tm_restart.specs.Before.{IsBefore}
-use Rattle.tm_restart.specs.Telling.{TellsState}
-use Rattle.tm_restart.specs.Writing.{ChangesUnread, IsRewritten, Rewrites}
+use Rattle.checkpointing.specs.DefinitionText.{HasText}
+use Rattle.tm_restart.specs.GivenSlots.{GivenSlots, IsGiven}
+use Rattle.tm_restart.specs.UnpreparedImage.{IsUnprepared}
+use Rattle.tm_restart.specs.ToldSnapshot.{TellsState}
+use Rattle.tm_restart.specs.LifeWrites.{ChangesUnreadSectors, IsRewritten, Rewrites}
 use Rattle.tm_restart.proofs.Unreading.{named_slot, unread_recovers}
 use Rattle.tm_restart.proofs.Recovering.{IsNextLife, renewed_restart, renewed_snapshot, renewed_ahead, renewed_recovers}
 use Rattle.openings.specs.Renewal.{IsRenewed}
@@ -60,7 +60,7 @@ pub names_none : (system : System) (checkpoint unit : ℕ) (state : LastingState
 unfolding named_by
 names_none system checkpoint unit state database number = rw (none_named system checkpoint unit state database number) refl
 
-module _ (system : System) (r : RestartSector) (snapshot : List Record) (given : Given) (bytes : List ℕ) (now : RestartSector) (a e : Image) (before : IsBefore system r snapshot given now a) (done : IsRewritten system given bytes now a e) where
+module _ (system : System) (r : RestartSector) (snapshot : List Record) (given : GivenSlots) (bytes : List ℕ) (now : RestartSector) (a e : Image) (before : IsUnprepared system r snapshot given now a) (done : IsRewritten system given bytes now a e) where
   text_stays : (k : ℕ) → 1 ≤ k → k < 1 + 64 → sector_at e k ≡ sector_at a k
   text_stays k low high =
       ⊎_elim (λ same. same)
@@ -81,10 +81,10 @@ module _ (system : System) (r : RestartSector) (snapshot : List Record) (given :
       ∙ ap (λ (l : List ℕ). take r.text l) (bytes_same 64 a e 1 text_stays)
       ∙ sym (one_text text (text_in a r.text) none)
 
-  module _ (next : IsNextLife system r now bytes) (unit : ℕ) (state : LastingState) (read : IsRead system now.checkpoint unit state []) (spelled : bytes ≡ flat_map spelling (snapshot_records now.checkpoint unit state [])) (recovers : Recovers system a (Ok state)) where
+  module _ (next : IsNextLife system r now bytes) (unit : ℕ) (state : LastingState) (read : IsRead system now.checkpoint unit state []) (spelled : bytes ≡ flat_map record_spelling (snapshot_records now.checkpoint unit state [])) (recovers : Recovers system a (Ok state)) where
     tells : TellsState system bytes (snapshot_records now.checkpoint unit state []) state
     tells = record {
-      reads = ap records_of spelled ∙ read.cut;
+      reads = ap records_cut spelled ∙ read.cut;
       keep_rules = read.unbroken;
       told = read.state_is;
       unnamed = names_none system now.checkpoint unit state;
@@ -104,7 +104,7 @@ module _ (system : System) (r : RestartSector) (snapshot : List Record) (given :
 
 -- ---- before all is written
 
-module _ (system : System) (r : RestartSector) (snapshot : List Record) (given : Given) (now : RestartSector) (a e : Image) (before : IsBefore system r snapshot given now a) (changes : ChangesUnread system given now a e) where
+module _ (system : System) (r : RestartSector) (snapshot : List Record) (given : GivenSlots) (now : RestartSector) (a e : Image) (before : IsUnprepared system r snapshot given now a) (changes : ChangesUnreadSectors system given now a e) where
   unread_stays : (k : ℕ) → k < 1 + 64 → sector_at e k ≡ sector_at a k
   unread_stays k high =
       ⊎_elim (λ same. same)
@@ -126,20 +126,20 @@ module _ (system : System) (r : RestartSector) (snapshot : List Record) (given :
 
 -- ---- at any moment
 
-tells_state : (system : System) (checkpoint unit : ℕ) (state : LastingState) (bytes : List ℕ) → IsRead system checkpoint unit state [] → bytes ≡ flat_map spelling (snapshot_records checkpoint unit state []) → TellsState system bytes (snapshot_records checkpoint unit state []) state
+tells_state : (system : System) (checkpoint unit : ℕ) (state : LastingState) (bytes : List ℕ) → IsRead system checkpoint unit state [] → bytes ≡ flat_map record_spelling (snapshot_records checkpoint unit state []) → TellsState system bytes (snapshot_records checkpoint unit state []) state
 tells_state system checkpoint unit state bytes read spelled = record {
-  reads = ap records_of spelled ∙ read.cut;
+  reads = ap records_cut spelled ∙ read.cut;
   keep_rules = read.unbroken;
   told = read.state_is;
   unnamed = names_none system checkpoint unit state;
 }
 
-module _ (system : System) (r : RestartSector) (snapshot : List Record) (given : Given) (bytes : List ℕ) (now : RestartSector) (next : IsNextLife system r now bytes) (unit : ℕ) (state : LastingState) (read : IsRead system now.checkpoint unit state []) (spelled : bytes ≡ flat_map spelling (snapshot_records now.checkpoint unit state [])) where
+module _ (system : System) (r : RestartSector) (snapshot : List Record) (given : GivenSlots) (bytes : List ℕ) (now : RestartSector) (next : IsNextLife system r now bytes) (unit : ℕ) (state : LastingState) (read : IsRead system now.checkpoint unit state []) (spelled : bytes ≡ flat_map record_spelling (snapshot_records now.checkpoint unit state [])) where
   -- Whatever was written of a restart, the image recovers as the one before.
-  pub rewrites_recover : (a e : Image) → IsBefore system r snapshot given now a → Recovers system a (Ok state) → Rewrites system given bytes now a e → RecoversAlike system a e
+  pub rewrites_recover : (a e : Image) → IsUnprepared system r snapshot given now a → Recovers system a (Ok state) → Rewrites system given bytes now a e → RecoversAlike system a e
   rewrites_recover a e before recovers rewrites =
       ⊎_elim
-      (λ (unread : ChangesUnread system given now a e). unread_recovers system r snapshot given now a before e unread)
+      (λ (unread : ChangesUnreadSectors system given now a e). unread_recovers system r snapshot given now a before e unread)
       (λ (done : IsRewritten system given bytes now a e). λ answer is.
       subst (λ (found : Result LastingState Fault). Recovers system e found) (one_answer_of system a (Ok state) answer recovers is)
       (renewed_recovers system r snapshot given bytes now a e before done next (snapshot_records now.checkpoint unit state []) state (tells_state system now.checkpoint unit state bytes read spelled) recovers))

@@ -6,35 +6,35 @@ use Rattle.tm_disk.specs.Disk.{Image}
 use Rattle.model_system.specs.System.{System}
 use Rattle.model_machine.specs.Machine.{LastingState}
 use Rattle.log_records.specs.declared.record.Record.{Record}
-use Rattle.log_records.specs.Reading.{◌>>=◌}
-use Rattle.log_records.specs.Spelling.{IsRecord}
+use Rattle.log_records.specs.RecordReader.{◌>>=◌}
+use Rattle.log_records.specs.RecordSpelling.{IsLogRecord}
 use Rattle.log_records.proofs.Takes.{IsBytes}
 use Rattle.restart_data.specs.declared.restart.RestartSector.{RestartSector}
 use Rattle.restart_data.specs.Restart.{restart_in}
-use Rattle.restart_data.specs.Rules.{first_broken, unless_broken}
+use Rattle.restart_data.specs.Rules.{first_broken, unless_rule_broken}
 use Rattle.restart_data.specs.Snapshot.{snapshot_in}
 use Rattle.model_image.specs.Areas.{snapshot_area, snapshot_first, log_first}
 use Rattle.model_image.specs.Counters.{next_sequence}
-use Rattle.model_image.specs.Cut.{cut_of, records_of, IsCutOff}
+use Rattle.model_image.specs.CutRecords.{cut_of, records_cut, IsRecordCutOff}
 use Rattle.model_image.specs.Faults.{Fault, in_sector, unless_any, or_fault}
 use Rattle.model_image.specs.Slots.{is_image_of}
-use Rattle.model_image.specs.Recovered.{snapshot_from, log_in, first_later, Recovers}
+use Rattle.model_image.specs.RecoveredState.{snapshot_from, log_in, first_later, Recovers}
 use Rattle.model_image.specs.Replay.{replay_of}
 use Rattle.model_image.specs.Snapshot.{snapshot_state, snapshot_rules}
 use Rattle.image_law.proofs.Cut.{all_valid}
-use Rattle.image_law.proofs.CountLawReplayed.{log_counted}
+use Rattle.image_law.proofs.CountsReplayed.{log_counted}
 use Rattle.image_law.proofs.Told.{snapshot_counted}
 use Rattle.tm_restart.proofs.Replayed.{snapshot_named, log_named}
-use Rattle.image_records.specs.Answers.{SnapshotState, ReplayedState, replayed_to, IsBehind, TellsLog}
+use Rattle.image_records.specs.RecordAnswers.{SnapshotState, ReplayedState, replayed_to, IsBehindLog, TellsLog}
 use Rattle.image_records.specs.declared.fault.RecordsFault.{RecordsFault}
 use Rattle.image_records.specs.declared.fault.RecordsFault.TheVariants.{Bad}
 use Rattle.image_reading.specs.declared.fault.ReadFault.{ReadFault}
 use Rattle.image_reading.specs.declared.fault.ReadFault.TheVariants as faults
-use Rattle.image_reading.specs.SnapshotReadingReading.{TellsSnapshotOf, IsRead}
+use Rattle.image_reading.specs.ReadSnapshot.{TellsSnapshotOf, IsSnapshotRead}
 use Rattle.image_reading.proofs.Told.{images_kept}
-use Rattle.image_reading.specs.Reading.{log_bytes, IsCutInto, ComesFromBytes}
+use Rattle.image_reading.specs.ReadLog.{log_bytes, IsCutInto, ComesFromBytes}
 use Rattle.tm_restart.specs.declared.replaying.Reread.{Reread}
-use Rattle.tm_restart.specs.Replayed.{ComesBehind, IsReplayed, TellsReplay}
+use Rattle.tm_restart.specs.ReplayedImage.{ComesBehind, IsReplayed, TellsReplay}
 use Rattle.tm_restart.proofs.Judged.{bad_snapshot, bad_rest, bad_log}
 
 good_by : (cut : Bool) (o : Option LastingState) (lasting : LastingState) → (if cut then replayed_to o else Err 18) ≡ Ok lasting → (cut ≡ true) × (o ≡ Some lasting)
@@ -62,7 +62,7 @@ module _ (system : System) (image : Image) (r : RestartSector) where
         cut_off = told.decides.0 both.0;
         lasting = lasting;
         replays = both.1;
-        behind = subst (λ (state : ReplayedState). IsBehind system snapshot (log_in system image r).records lasting state) (sym same) told.comes.2;
+        behind = subst (λ (state : ReplayedState). IsBehindLog system snapshot (log_in system image r).records lasting state) (sym same) told.comes.2;
         sequence = sequence;
         later = later;
       }
@@ -77,14 +77,14 @@ module _ (system : System) (image : Image) (r : RestartSector) where
         (λ none. subst (λ (n : ℕ). Recovers system image (Err (n, log_first system r.log))) (sym none.2) (bad_log system image r is cut told.decides snapshot has none.0 none.1))
         (bad_by cut o rule told.comes).which
 
-    pub told_fault : (cut : Bool) → Decides cut (IsCutOff (log_in system image r).rest) → (fault : ReadFault) → TellsSnapshotOf system r image (Err fault) → TellsReplay system r image (Err fault)
+    pub told_fault : (cut : Bool) → Decides cut (IsRecordCutOff (log_in system image r).rest) → (fault : ReadFault) → TellsSnapshotOf system r image (Err fault) → TellsReplay system r image (Err fault)
     told_fault cut decides (faults.Bad rule sector) told = bad_snapshot system image r is cut decides (rule, sector) told
     told_fault cut decides faults.Disk told = tt
     told_fault cut decides faults.Memory told = tt
 
 -- ---- the snapshot's changes are of slots
 
-unbroken_of : (system : System) (first : ℕ) (o : Option ℕ) (one other : List Record) → in_sector first (unless_broken o one) ≡ Ok other → (o ≡ None) × (one ≡ other)
+unbroken_of : (system : System) (first : ℕ) (o : Option ℕ) (one other : List Record) → in_sector first (unless_rule_broken o one) ≡ Ok other → (o ≡ None) × (one ≡ other)
 unbroken_of system first None one other e = (refl, cc)
 unbroken_of system first (Some rule) one other e = cc
 
@@ -94,17 +94,17 @@ kept_by system first (Some l) records e =
     let both = unbroken_of system first (first_broken (snapshot_rules system l)) l records e in
     subst (λ (x : List Record). first_broken (snapshot_rules system x) ≡ None) both.1 both.0
 
-snapshot_kept : (system : System) (first : ℕ) (read : Result (List ℕ) Fault) (records : List Record) → (read >>= λ bytes. or_fault (10, first) (records_of bytes) >>= λ l. unless_any first (snapshot_rules system l) l) ≡ Ok records → first_broken (snapshot_rules system records) ≡ None
-snapshot_kept system first (Ok bytes) records e = kept_by system first (records_of bytes) records e
+snapshot_kept : (system : System) (first : ℕ) (read : Result (List ℕ) Fault) (records : List Record) → (read >>= λ bytes. or_fault (10, first) (records_cut bytes) >>= λ l. unless_any first (snapshot_rules system l) l) ≡ Ok records → first_broken (snapshot_rules system records) ≡ None
+snapshot_kept system first (Ok bytes) records e = kept_by system first (records_cut bytes) records e
 snapshot_kept system first (Err fault) records e = cc
 
-pub told_log : (system : System) (image : Image) (r : RestartSector) (snapshot : SnapshotState) (read : IsRead system image r snapshot) → list_all (is_image_of system) read.records ≡ true
+pub told_log : (system : System) (image : Image) (r : RestartSector) (snapshot : SnapshotState) (read : IsSnapshotRead system image r snapshot) → list_all (is_image_of system) read.records ≡ true
 told_log system image r snapshot read =
     images_kept system read.records (snapshot_kept system (snapshot_first system r.snapshot) (snapshot_in r.sectors image (snapshot_first system r.snapshot) r.checkpoint) read.records read.has)
 
 -- ---- what holds on every disk
 
-comes_behind : (system : System) (bytes : List ℕ) (snapshot : List Record) (replayed : ReplayedState) → IsBytes bytes → AllByRecursion IsRecord snapshot → TellsLog system snapshot bytes (Ok replayed) → ComesBehind system replayed
+comes_behind : (system : System) (bytes : List ℕ) (snapshot : List Record) (replayed : ReplayedState) → IsBytes bytes → AllByRecursion IsLogRecord snapshot → TellsLog system snapshot bytes (Ok replayed) → ComesBehind system replayed
 comes_behind system bytes snapshot replayed are valid told =
     let lasting = told.comes.0 in
     let replays = (good_by told.is_cut_off (replay_of system (cut_of bytes).records (snapshot_state system snapshot)) lasting told.comes.1).1 in
@@ -118,6 +118,6 @@ comes_behind system bytes snapshot replayed are valid told =
       named = record { terminals = named.terminals; outputs = named.outputs; conversations = named.conversations; codes = named.codes };
     }
 
-pub behind_of : (system : System) (log : List Record) (is_cut_off : Bool) (snapshot : List Record) (result : Result ReplayedState RecordsFault) → (from : ComesFromBytes log is_cut_off) → AllByRecursion IsRecord snapshot → ((bytes : List ℕ) → IsCutInto bytes log is_cut_off → TellsLog system snapshot bytes result) → IfOk result (ComesBehind system)
+pub behind_of : (system : System) (log : List Record) (is_cut_off : Bool) (snapshot : List Record) (result : Result ReplayedState RecordsFault) → (from : ComesFromBytes log is_cut_off) → AllByRecursion IsLogRecord snapshot → ((bytes : List ℕ) → IsCutInto bytes log is_cut_off → TellsLog system snapshot bytes result) → IfOk result (ComesBehind system)
 behind_of system log is_cut_off snapshot (Ok replayed) from valid told = comes_behind system from.bytes snapshot replayed from.are valid (told from.bytes from.cut)
 behind_of system log is_cut_off snapshot (Err fault) from valid told = tt

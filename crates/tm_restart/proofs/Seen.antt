@@ -8,16 +8,16 @@ use Rattle.model_machine.specs.Machine.{LastingState}
 use Rattle.restart_data.specs.declared.restart.RestartSector.{RestartSector}
 use Rattle.restart_data.specs.Restart.{restart_in}
 use Rattle.seg_store.specs.Slots.{rows_of_slots}
-use Rattle.seg_store.specs.Changed.{stored}
+use Rattle.seg_store.specs.ChangedSlots.{stored}
 use Rattle.model_image.specs.Areas.{snapshot_area}
 use Rattle.model_image.specs.Text.{text_in, first_difference}
-use Rattle.model_image.specs.Recovered.{Recovers}
-use Rattle.image_records.specs.Kept.{KeptState}
+use Rattle.model_image.specs.RecoveredState.{Recovers}
+use Rattle.image_records.specs.KeptState.{KeptState}
 use Rattle.tm_restart.proofs.Judged.{bad_restart}
 use Rattle.model_machine.specs.declared.counts.Counter.{Counter}
 use Rattle.tm_restart.specs.declared.finding.Found.{Found}
-use Rattle.openings.specs.Opening.{counters, first_spent, IsBad, IsOther, IsSpent}
-use Rattle.tm_restart.specs.Found.{IsSeen}
+use Rattle.openings.specs.OpenedImage.{counters, first_spent, IsBad, IsOther, IsSpent}
+use Rattle.tm_restart.specs.FoundImage.{IsSeen}
 
 -- ---- texts
 

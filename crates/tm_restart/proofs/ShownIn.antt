@@ -11,13 +11,13 @@ use Rattle.model_system.specs.declared.code_state.CodeState.{CodeState}
 use Rattle.model_system.specs.System.{System}
 use Rattle.model_machine.specs.Machine.{LastingState, setting_of, states_of, start_of, raised_now, waiting_now}
 use Rattle.seg_store.specs.Slots.{Stored}
-use Rattle.system_types.specs.Valid.{IsSystem, IsDatabase}
-use Rattle.checkpointing.specs.Records.{IsOfSystem}
-use Rattle.checkpointing.specs.Spelled.{IsWritable}
+use Rattle.system_types.specs.ValidSystem.{IsSystem, IsDatabase}
+use Rattle.checkpointing.specs.SnapshotRecords.{IsOfSystem}
+use Rattle.checkpointing.specs.SpelledRecords.{IsWritable}
 use Rattle.checkpointing.specs.Touches.{HasOneSector}
 use Rattle.checkpointing.proofs.Viewed.{free_messages, settings_shown}
-use Rattle.openings.specs.Parts.{OpeningParts, AreOpeningParts}
-use Rattle.tm_restart.specs.Prepared.{state_in}
+use Rattle.openings.specs.OpeningParts.{OpeningParts, AreOpeningParts}
+use Rattle.tm_restart.specs.PreparedLife.{state_in}
 
 flags_length : (waiting : List ℕ → ℕ) (codes : List Code) → length (raised_now waiting codes (map {A = Code} {B = Bool} (λ _. false) codes)) ≡ length codes
 flags_length waiting [] = refl

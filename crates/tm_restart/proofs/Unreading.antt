@@ -6,17 +6,17 @@ use Rattle.tm_disk.specs.Disk.{Image, sector_at}
 use Rattle.model_system.specs.System.{System}
 use Rattle.log_records.specs.declared.record.Record.{Record}
 use Rattle.restart_data.specs.declared.restart.RestartSector.{RestartSector}
-use Rattle.model_image.specs.Alike.{RecoversAlike}
+use Rattle.model_image.specs.AlikeImages.{RecoversAlike}
 use Rattle.model_image.specs.Areas.{snapshot_area, snapshot_first, data_first}
 use Rattle.model_image.specs.Slots.{named_by}
-use Rattle.model_image.specs.Recovered.{log_in}
+use Rattle.model_image.specs.RecoveredState.{log_in}
 use Rattle.model_image.proofs.Alike.{ImagesAlike, recovers_alike}
 use Rattle.model_image.proofs.Unread.{InFreeSnapshot, OfNamedSlot, unread_alike}
 use Rattle.checkpointing.specs.Checkpoint.{InArea}
-use Rattle.tm_restart.specs.Given.{Given, IsGiven}
-use Rattle.tm_restart.specs.Writing.{ChangesUnread}
-use Rattle.tm_restart.specs.Before.{IsBefore}
-use Rattle.tm_restart.proofs.RenewalFinding.{at_slot}
+use Rattle.tm_restart.specs.GivenSlots.{GivenSlots, IsGiven}
+use Rattle.tm_restart.specs.LifeWrites.{ChangesUnreadSectors}
+use Rattle.tm_restart.specs.UnpreparedImage.{IsUnprepared}
+use Rattle.tm_restart.proofs.GivenSectors.{at_slot}
 
 -- an element at a place within a list
 pub record There {X : Type 0} (xs : List X) (place : ℕ) : Type 0 where
@@ -28,7 +28,7 @@ there [] place lt = absurd (omega (arith, lt))
 there (x ∷ xs) zero lt = record { element = x; found = refl }
 there (x ∷ xs) (suc place) lt = let w = there xs place (omega (arith, lt)) in record { element = w.element; found = w.found }
 
-module _ (system : System) (r : RestartSector) (snapshot : List Record) (given : Given) (now : RestartSector) (image : Image) (is : IsBefore system r snapshot given now image) where
+module _ (system : System) (r : RestartSector) (snapshot : List Record) (given : GivenSlots) (now : RestartSector) (image : Image) (is : IsUnprepared system r snapshot given now image) where
   -- a sector that is given is that of a slot that a record names
   pub named_slot : (k : ℕ) (sector : List ℕ) → IsGiven system given k sector → OfNamedSlot system r image k
   named_slot k sector w =
@@ -52,12 +52,12 @@ module _ (system : System) (r : RestartSector) (snapshot : List Record) (given :
       record { low = omega (arith, in_.low, first); high = omega (arith, in_.high, first) }
 
   -- Only unread sectors are others, so that it recovers alike.
-  pub unread_images : (after : Image) → ChangesUnread system given now image after → ImagesAlike system image after
+  pub unread_images : (after : Image) → ChangesUnreadSectors system given now image after → ImagesAlike system image after
   unread_images after changes =
       unread_alike system r image after is.restart (λ k.
       ⊎_elim (λ same. inl same)
       (λ other. ⊎_elim (λ (w : IsGiven system given k (sector_at after k)). inr (inr (inr (named_slot k (sector_at after k) w)))) (λ (in_ : InArea (snapshot_first system now.snapshot) (snapshot_area system) k). inr (inl (free_area k in_))) other)
       (changes.each k))
 
-  pub unread_recovers : (after : Image) → ChangesUnread system given now image after → RecoversAlike system image after
+  pub unread_recovers : (after : Image) → ChangesUnreadSectors system given now image after → RecoversAlike system image after
   unread_recovers after changes = recovers_alike system image after (unread_images after changes)

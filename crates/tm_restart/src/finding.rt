@@ -3,12 +3,12 @@ ghost use Rattle.std.specs.Prelude.{◌≡◌, ◌+◌, ◌≤◌, None, Some, O
 ghost use Rattle.tm_disk.specs.Disk.{Keeps};
 ghost use Rattle.model_machine.specs.Machine.{LastingState as OneState};
 ghost use Rattle.restart_data.specs.Restart.{restart_in};
-ghost use Rattle.restart_data.specs.Images.{IsValid};
+ghost use Rattle.restart_data.specs.WrittenSectors.{IsValid};
 ghost use Rattle.model_image.specs.Areas.{snapshot_area};
 ghost use Rattle.model_image.specs.Text as texts;
 ghost use Rattle.openings.specs.FirstImage.{sectors_needed};
-ghost use Rattle.openings.specs.Opening.{counters, first_spent};
-ghost use Rattle.tm_restart.specs.Found.{SizeKnown, TellsFound, TellsFind, FoundAlways, FindAlways, FoundCause};
+ghost use Rattle.openings.specs.OpenedImage.{counters, first_spent};
+ghost use Rattle.tm_restart.specs.FoundImage.{SizeKnown, TellsFound, TellsFind, FoundAlways, FindAlways, FoundCause};
 
 use crate::{Looked, look};
 use image_loading::snapshot_area;

@@ -1,9 +1,9 @@
 //! Log sectors of a later life, in both areas.
 ghost use Rattle.std.specs.Prelude.{◌≡◌, ◌*◌, ◌≤◌, IsTrue, IfOk, OnOk, OnErr, length};
 ghost use Rattle.tm_disk.specs.Disk.{Keeps, FailedSince};
-ghost use Rattle.restart_data.specs.Images.{IsValid};
+ghost use Rattle.restart_data.specs.WrittenSectors.{IsValid};
 ghost use Rattle.model_image.specs.Areas as areas;
-ghost use Rattle.model_image.specs.Recovered as recovered;
+ghost use Rattle.model_image.specs.RecoveredState as recovered;
 
 use image_loading::log_first;
 use image_reading::first_later;

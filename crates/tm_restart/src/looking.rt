@@ -2,12 +2,12 @@
 ghost use Rattle.std.specs.Prelude.{◌≡◌, ◌+◌, ◌≤◌, Some, Ok, IsTrue, IfOk, length};
 ghost use Rattle.tm_disk.specs.Disk.{Keeps};
 ghost use Rattle.restart_data.specs.Restart.{restart_in};
-ghost use Rattle.restart_data.specs.Images.{IsValid};
+ghost use Rattle.restart_data.specs.WrittenSectors.{IsValid};
 ghost use Rattle.model_image.specs.Areas.{snapshot_area, data_first};
-ghost use Rattle.image_reading.specs.Giving.{AreNamedBytes};
-ghost use Rattle.image_loading.specs.ImageLoadingLoading.{AreAllMade};
-ghost use Rattle.tm_restart.specs.Replayed.{ComesBehind};
-ghost use Rattle.tm_restart.specs.Looked.{TellsLook, LookCause};
+ghost use Rattle.image_reading.specs.NamedBytes.{AreNamedBytes};
+ghost use Rattle.image_loading.specs.LoadedStores.{AreAllMade};
+ghost use Rattle.tm_restart.specs.ReplayedImage.{ComesBehind};
+ghost use Rattle.tm_restart.specs.LookedImage.{TellsLook, LookCause};
 
 use crate::databases::{Named, load_named};
 use crate::later::later_sector;

@@ -3,17 +3,17 @@ ghost use Rattle.std.specs.Prelude.{◌≡◌, ◌+◌, ◌-◌, ◌<◌, ◌≤
 ghost use Rattle.std.specs.List.{AllByRecursion};
 ghost use Rattle.tm_disk.specs.Disk.{Image};
 ghost use Rattle.model_machine.specs.Machine.{LastingState as OneState};
-ghost use Rattle.image_records.specs.Kept.{kept_of};
+ghost use Rattle.image_records.specs.KeptState.{kept_of};
 ghost use Rattle.seg_store.specs.Slots.{rows_of_slots};
-ghost use Rattle.seg_store.specs.Changed.{all_stores, stored};
+ghost use Rattle.seg_store.specs.ChangedSlots.{all_stores, stored};
 ghost use Rattle.seg_store.specs.Stores.{no_changed};
-ghost use Rattle.checkpointing.specs.Records.{snapshot_records};
-ghost use Rattle.checkpointing.specs.Spelled.{Adds, IsWritable};
+ghost use Rattle.checkpointing.specs.SnapshotRecords.{snapshot_records};
+ghost use Rattle.checkpointing.specs.SpelledRecords.{AddsSpelled, IsWritable};
 ghost use Rattle.checkpointing.specs.Touches.{HasOneSector};
-ghost use Rattle.openings.specs.Parts.{AreOpeningParts};
-ghost use Rattle.openings.specs.Shown.{shown};
-ghost use Rattle.tm_restart.specs.Found.{IsJudged, IsSeen};
-ghost use Rattle.tm_restart.specs.Prepared.{state_in, sector_behind, IsPrepared, IsMadeOf};
+ghost use Rattle.openings.specs.OpeningParts.{AreOpeningParts};
+ghost use Rattle.openings.specs.OpeningState.{shown_state};
+ghost use Rattle.tm_restart.specs.FoundImage.{IsFoundJudged, IsSeen};
+ghost use Rattle.tm_restart.specs.PreparedLife.{state_in, sector_behind, IsPrepared, IsMadeOf};
 
 use crate::{Found, Looked, Named, Reread};
 use checkpointing::{SnapshotView, write};
@@ -48,7 +48,7 @@ fn tables(
     ensures are { IfOk result (λ made. (lasting : OneState) → kept ≡ kept_of system.now lasting → AreOpeningParts system.now (record lasting { rows = map (λ store. rows_of_slots store.slots) (map stored stores.items) }) made.parts) }
     ensures stores { IfOk result (λ made. made.parts.stores ≡ all_stores stores.items) }
     ensures next_unit { IfOk result (λ made. made.parts.next_unit ≡ next_unit) }
-    ensures lasting { IfOk result (λ made. made.lasting ≡ shown kept (map (λ store. rows_of_slots store.slots) stores.items)) }
+    ensures lasting { IfOk result (λ made. made.lasting ≡ shown_state kept (map (λ store. rows_of_slots store.slots) stores.items)) }
 {
     let rows = rows_of(alloc, &stores)?;
     let lasting = lasting_of(alloc, &kept, rows)?;
@@ -60,7 +60,7 @@ fn tables(
 fn snapshot_bytes(alloc: Global, parts: &Parts, checkpoint: u64) -> Result<Vec<u8>, Memory>
     requires state { IsWritable (state_in parts.now) }
     requires one_sector { AllByRecursion HasOneSector parts.now.stores.stores }
-    ensures { IfOk result (λ bytes. Adds (snapshot_records checkpoint parts.entry.now.next_unit (state_in parts.entry.now) []) [] bytes.items) }
+    ensures { IfOk result (λ bytes. AddsSpelled (snapshot_records checkpoint parts.entry.now.next_unit (state_in parts.entry.now) []) [] bytes.items) }
 {
     let view = SnapshotView {
         checkpoint,
@@ -173,7 +173,7 @@ pub(crate) fn prepare(
     found: Found,
 ) -> Result<Prepared, Memory>
     requires text { length text.now ≤ 262144 }
-    requires judged { IsJudged system.now text.now found }
+    requires judged { IsFoundJudged system.now text.now found }
     ensures prepared { IfOk result (λ made. IsPrepared system.now text.now made.given.items made.parts made.lasting made.bytes.items made.now) }
     ensures made_of { IfOk result (λ made. (image : Image) → IsSeen system.now text.now image found → IsMadeOf system.now text.now made.given.items made.parts made.lasting made.now image) }
 {

@@ -2,7 +2,7 @@
 ghost use Rattle.std.specs.Prelude.{◌≡◌, ◌≤◌, length, IsTrue, OnOk, OnErr};
 ghost use Rattle.tm_disk.specs.Disk.{Stays, Within, Follows, Only, FailedSince};
 ghost use Rattle.model_image.specs.Areas.{data_first};
-ghost use Rattle.tm_restart.specs.Given.{AreGiven, MayPutAll, HasPutAll};
+ghost use Rattle.tm_restart.specs.GivenSlots.{AreGiven, MayPutAll, HasPutAll};
 
 use image_loading::{Slots, data_first, write_slots};
 use system_types::System;

@@ -2,10 +2,10 @@
 ghost use Rattle.std.specs.Prelude.{◌≡◌, ◌*◌, ◌<◌, ◌≤◌, ◌^◌, length, OnOk, OnErr};
 ghost use Rattle.tm_disk.specs.Disk.{Stays, Within, Follows, Only, FailedSince};
 ghost use Rattle.restart_data.specs.Restart.{IsRestart};
-ghost use Rattle.restart_data.specs.Snapshot.{sectors_of};
+ghost use Rattle.restart_data.specs.Snapshot.{snapshot_sectors_of};
 ghost use Rattle.model_image.specs.Areas.{snapshot_area, data_first};
-ghost use Rattle.tm_restart.specs.Given.{AreGiven};
-ghost use Rattle.tm_restart.specs.Writing.{ChangesUnread, WritesSnapshot, IsRewritten, Rewrites};
+ghost use Rattle.tm_restart.specs.GivenSlots.{AreGiven};
+ghost use Rattle.tm_restart.specs.LifeWrites.{ChangesUnreadSectors, WritesLifeSnapshot, IsRewritten, Rewrites};
 
 use crate::putting::save_slots;
 use checkpointing::save_snapshot;
@@ -28,8 +28,8 @@ fn prepare<D: Disk>(
     requires fits { length bytes.now ≤ snapshot_area system.now * 4064 }
     requires now { IsRestart now.now }
     ensures stays { Stays (D.state disk.old) (D.state disk.new) }
-    ensures any_moment { Within (ChangesUnread system.now given.now now.now) (D.state disk.old) (D.state disk.new) }
-    ensures done { OnOk result (Follows (WritesSnapshot system.now given.now bytes.now now.now) (D.state disk.old) (D.state disk.new)) }
+    ensures any_moment { Within (ChangesUnreadSectors system.now given.now now.now) (D.state disk.old) (D.state disk.new) }
+    ensures done { OnOk result (Follows (WritesLifeSnapshot system.now given.now bytes.now now.now) (D.state disk.old) (D.state disk.new)) }
     ensures no_fault { OnOk result ((D.state disk.new).faults ≡ (D.state disk.old).faults) }
     ensures cause { OnErr result (FailedSince (D.state disk.old) (D.state disk.new)) }
 {
@@ -59,7 +59,7 @@ pub fn renew<D: Disk>(
     requires some { 0 < length bytes.now }
     requires fits { length bytes.now ≤ snapshot_area system.now * 4064 }
     requires now { IsRestart now.now }
-    requires sectors { now.now.sectors ≡ sectors_of (length bytes.now) }
+    requires sectors { now.now.sectors ≡ snapshot_sectors_of (length bytes.now) }
     ensures stays { Stays (D.state disk.old) (D.state disk.new) }
     // Whenever a crash comes, only unread sectors are others, or all was written.
     ensures any_moment { Within (Rewrites system.now given.now bytes.now now.now) (D.state disk.old) (D.state disk.new) }

@@ -1,15 +1,15 @@
 //! An image that was found is opened.
 ghost use Rattle.std.specs.Prelude.{◌≤◌, length, IsTrue, IfOk, OnOk};
 ghost use Rattle.tm_disk.specs.Disk.{Image, Stays, Within, Only};
-ghost use Rattle.model_image.specs.Holding.{HoldsStores};
+ghost use Rattle.model_image.specs.HeldStores.{HoldsStores};
 ghost use Rattle.openings.specs.FirstImage.{sectors_needed};
-ghost use Rattle.openings.specs.Parts.{AreOpeningParts};
+ghost use Rattle.openings.specs.OpeningParts.{AreOpeningParts};
 ghost use Rattle.checkpointing.specs.Counts.{RaisesCounts};
-ghost use Rattle.openings.specs.Keeping.{KeepsImage};
+ghost use Rattle.openings.specs.KeptImage.{KeepsImage};
 ghost use Rattle.openings.specs.Renewal.{IsRenewed};
-ghost use Rattle.openings.specs.Opening.{SizeFirst, TellsOpening, MayBegin, OpeningCause};
-ghost use Rattle.tm_restart.specs.Found.{IsJudged, IsSeen};
-ghost use Rattle.tm_restart.specs.Prepared.{IsPrepared, IsMadeOf};
+ghost use Rattle.openings.specs.OpenedImage.{SizeFirst, TellsOpening, MayBegin, OpeningCause};
+ghost use Rattle.tm_restart.specs.FoundImage.{IsFoundJudged, IsSeen};
+ghost use Rattle.tm_restart.specs.PreparedLife.{IsPrepared, IsMadeOf};
 
 use crate::preparing::{Prepared, prepare};
 use crate::{Found, renew};
@@ -66,7 +66,7 @@ pub(crate) fn reopen<D: Disk>(
     requires text { length text.now ≤ 262144 }
     requires size { sectors_needed system.now ≤ (D.state disk.old).size }
     requires only { Only (D.state disk.old).shown (D.state disk.old) }
-    requires judged { IsJudged system.now text.now found }
+    requires judged { IsFoundJudged system.now text.now found }
     requires seen { IsTrue (D.state disk.old).tells → IsSeen system.now text.now (D.state disk.old).shown found }
     ensures size { SizeFirst system.now (D.state disk.old).size result }
     ensures value { IsTrue (D.state disk.old).tells → TellsOpening system.now text.now (D.state disk.old).shown result }

@@ -4,13 +4,13 @@ ghost use Rattle.std.specs.List.{list_all};
 ghost use Rattle.log_records.specs.declared.record.Record.{Record as OneRecord};
 ghost use Rattle.tm_disk.specs.Disk.{Keeps};
 ghost use Rattle.restart_data.specs.Restart.{restart_in};
-ghost use Rattle.restart_data.specs.Images.{IsValid};
+ghost use Rattle.restart_data.specs.WrittenSectors.{IsValid};
 ghost use Rattle.model_image.specs.Areas.{snapshot_area, data_first};
 ghost use Rattle.model_image.specs.Slots.{is_image_of};
-ghost use Rattle.image_records.specs.Answers.{IsOf, TellsLog};
-ghost use Rattle.image_reading.specs.Reading.{IsCutInto, ComesFromBytes};
-ghost use Rattle.image_reading.specs.SnapshotReadingReading.{ComesFromRecords};
-ghost use Rattle.tm_restart.specs.Replayed.{ComesBehind, TellsReplay, ReplayCause};
+ghost use Rattle.image_records.specs.RecordAnswers.{IsSnapshotStateOf, TellsLog};
+ghost use Rattle.image_reading.specs.ReadLog.{IsCutInto, ComesFromBytes};
+ghost use Rattle.image_reading.specs.ReadSnapshot.{ComesFromRecords};
+ghost use Rattle.tm_restart.specs.ReplayedImage.{ComesBehind, TellsReplay, ReplayCause};
 
 use image_loading::log_first;
 use image_reading::{LogFault, ReadFault, read_log, read_told};
@@ -41,7 +41,7 @@ fn replay(
 ) -> Result<Replayed, RecordsFault>
     requires snapshot { ComesFromRecords system.now snapshot }
     requires log { ComesFromBytes log.items is_cut_off }
-    ensures value { (bytes : List ℕ) → IsCutInto bytes log.items is_cut_off → (records : List OneRecord) → list_all (is_image_of system.now) records ≡ true → IsOf system.now records snapshot → TellsLog system.now records bytes result }
+    ensures value { (bytes : List ℕ) → IsCutInto bytes log.items is_cut_off → (records : List OneRecord) → list_all (is_image_of system.now) records ≡ true → IsSnapshotStateOf system.now records snapshot → TellsLog system.now records bytes result }
     ensures behind { IfOk result (ComesBehind system.now) }
 {
     replay_log(alloc, system, snapshot, log, is_cut_off)

@@ -1,12 +1,12 @@
 //! Restarts.
 ghost use Rattle.std.specs.Prelude.{◌≤◌, length, IsTrue, IfOk, OnOk};
 ghost use Rattle.tm_disk.specs.Disk.{Image, Stays, Within, Only};
-ghost use Rattle.model_image.specs.Holding.{HoldsStores};
-ghost use Rattle.openings.specs.Parts.{AreOpeningParts};
+ghost use Rattle.model_image.specs.HeldStores.{HoldsStores};
+ghost use Rattle.openings.specs.OpeningParts.{AreOpeningParts};
 ghost use Rattle.checkpointing.specs.Counts.{RaisesCounts};
-ghost use Rattle.openings.specs.Keeping.{KeepsImage};
+ghost use Rattle.openings.specs.KeptImage.{KeepsImage};
 ghost use Rattle.openings.specs.Renewal.{IsRenewed};
-ghost use Rattle.openings.specs.Opening.{SizeFirst, TellsOpening, MayBegin, OpeningCause};
+ghost use Rattle.openings.specs.OpenedImage.{SizeFirst, TellsOpening, MayBegin, OpeningCause};
 
 use crate::find;
 use crate::reopening::reopen;

@@ -1,14 +1,14 @@
 //! Cold starts.
 ghost use Rattle.std.specs.Prelude.{◌≤◌, length, IfOk, OnOk};
 ghost use Rattle.tm_disk.specs.Disk.{Image, Stays, Within, Only};
-ghost use Rattle.model_image.specs.Holding.{HoldsStores};
+ghost use Rattle.model_image.specs.HeldStores.{HoldsStores};
 ghost use Rattle.openings.specs.FirstImage.{sectors_needed};
 ghost use Rattle.checkpointing.specs.Counts.{RaisesCounts};
-ghost use Rattle.openings.specs.Keeping.{KeepsOrEmpties};
-ghost use Rattle.openings.specs.Made.{IsMade};
-ghost use Rattle.openings.specs.Parts.{AreOpeningParts};
+ghost use Rattle.openings.specs.KeptImage.{KeepsOrEmpties};
+ghost use Rattle.openings.specs.MadeParts.{IsFirstMade};
+ghost use Rattle.openings.specs.OpeningParts.{AreOpeningParts};
 ghost use Rattle.openings.specs.Renewal.{IsRenewed};
-ghost use Rattle.openings.specs.Opening.{SizeFirst, TellsCold, MayBegin, OpeningCause};
+ghost use Rattle.openings.specs.OpenedImage.{SizeFirst, TellsCold, MayBegin, OpeningCause};
 
 use image_loading::sectors_needed;
 use model_machine::Lasting;
@@ -31,7 +31,7 @@ fn lay<D: Disk>(
 ) -> Result<(Parts, Lasting), OpenError>
     requires text { length text.now ≤ 262144 }
     requires size { sectors_needed system.now ≤ (D.state disk.old).size }
-    requires made { IsMade system.now (length text.now) parts lasting bytes.now now.now }
+    requires made { IsFirstMade system.now (length text.now) parts lasting bytes.now now.now }
     ensures size { SizeFirst system.now (D.state disk.old).size result }
     ensures value { TellsCold system.now result }
     ensures parts { IfOk result (λ opened. AreOpeningParts system.now opened.1 opened.0) }

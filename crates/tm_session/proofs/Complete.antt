@@ -7,24 +7,24 @@ use Rattle.model_system.specs.System.{System}
 use Rattle.model_session.specs.declared.asked.ImageRefused.{ImageRefused}
 use Rattle.model_session.specs.Blocks.{Block}
 use Rattle.model_session.specs.Lives.{LifeState}
-use Rattle.model_session.specs.Standing.{Setting, SessionState, Standing, Stop, AreStops, is_stopped, last_life}
-use Rattle.model_session.specs.Standing.Standing.{Up, Down}
-use Rattle.model_session.specs.Session.{Begins}
+use Rattle.model_session.specs.SessionState.{Setting, SessionState, Standing, Stop, AreStops, is_session_stopped, last_life}
+use Rattle.model_session.specs.SessionState.Standing.{Up, Down}
+use Rattle.model_session.specs.Session.{BeginsSession}
 use Rattle.model_session.proofs.Growing.{HasStop, stop_stays, failed_told}
 use Rattle.model_session.proofs.Stopping.{HasStops, stops_told, stops_begun}
 use Rattle.openings.specs.declared.how.How.TheVariants.{Found}
-use Rattle.openings.specs.Opened.{Refuses}
+use Rattle.openings.specs.LifeBeginning.{Refuses}
 use Rattle.openings.specs.declared.life.Life.{Life}
 use Rattle.tm_edge.specs.Lines.{lines_of}
-use Rattle.sysdef_text.specs.Ends.{definition_lines}
-use Rattle.session_lives.specs.Running.{life_of, setting_of, error_of}
+use Rattle.sysdef_text.specs.DefinitionEnd.{definition_lines}
+use Rattle.session_lives.specs.RunningSession.{life_of, session_setting, error_of}
 use Rattle.session_lives.specs.Openings.{MayRefuseAt}
 use Rattle.session_lives.proofs.Valid.{valid_opens}
 use Rattle.tm_session.specs.declared.outcome.Ended.{Ended}
 use Rattle.tm_session.specs.declared.outcome.Ended.TheVariants.{Done, Down as DownAtEnd, Image}
-use Rattle.tm_session.specs.Source.{definition_text}
+use Rattle.tm_session.specs.DefinedSystem.{text_of_definition}
 use Rattle.tm_session.specs.Outcome.{left_if, is_undone, UndoneAs}
-use Rattle.tm_session.specs.Headline.{HasLived, HasSession, IsNeverOpened, IsOpenedBy, IsOpenedDisk, IsFoundDisk, AskNoColdStart, IsValidDisk}
+use Rattle.tm_session.specs.Headline.{HasLived, HasSession, IsNeverOpened, IsOpenedBy, IsDiskOpened, IsFoundDisk, AskNoColdStart, IsDiskValid}
 use Rattle.tm_session.proofs.First.{life_begun}
 
 -- ---- counts
@@ -64,29 +64,29 @@ no_life_as (block ∷ others) setting last refusal (may, looked) = no_life_at se
 module _ {D : Type 0} (state : D → DiskState) (system : System) (source : List ℕ) (handed disk : D) (told left old new : Option (List ℕ)) (lives : List LifeState) (stops : List Stop) where
   lived_stops : (ended : Ended) (h : HasLived state system source told left old new handed disk ended lives stops) → HasStops h.last
   lived_stops ended h =
-      left_stops (is_undone ended) system h.others h.mid h.last h.unprinted (stops_told (setting_of state system source handed) h.blocks h.first h.mid h.text h.begins h.session)
+      left_stops (is_undone ended) system h.others h.mid h.last h.unprinted (stops_told (session_setting state system source handed) h.blocks h.first h.mid h.text h.begins h.session)
 
   never_down : HasLived state system source told left old new handed disk DownAtEnd lives stops → stops ≡ [] → ⊥
   never_down h none = (lived_stops DownAtEnd h).stopped h.by (sym h.stops_are ∙ none)
 
   never_refused : (refusal : ImageRefused) → HasLived state system source told left old new handed disk (Image refusal) lives stops → stops ≡ [] → ⊥
   never_refused refusal h none =
-      (lived_stops (Image refusal) h).unbegun (no_life_as h.others (setting_of state system source handed) h.last refusal h.undone) (sym h.stops_are ∙ none)
+      (lived_stops (Image refusal) h).unbegun (no_life_as h.others (session_setting state system source handed) h.last refusal h.undone) (sym h.stops_are ∙ none)
 
   -- a session without a stop has opened its disk
-  begun_or : (first : SessionState) → Begins (setting_of state system source handed) first → HasStop first ⊎ IsUpAtFirst first.standing
+  begun_or : (first : SessionState) → BeginsSession (session_setting state system source handed) first → HasStop first ⊎ IsUpAtFirst first.standing
   begun_or first (inl opens) = inr (subst (λ (s : SessionState). IsUpAtFirst s.standing) (sym opens.goes) tt)
   begun_or first (inr fails) = inl (failed_told first fails.stop fails.ends)
 
-  opened_up : (standing : Standing) → IsUpAtFirst standing → IsOpenedBy standing system source (state handed) → IsOpenedDisk system source (state handed)
+  opened_up : (standing : Standing) → IsUpAtFirst standing → IsOpenedBy standing system source (state handed) → IsDiskOpened system source (state handed)
   opened_up (Up life) up opened = opened
   opened_up (Down outage) up opened = absurd up
 
-  lived_opened : HasLived state system source told left old new handed disk Done lives stops → stops ≡ [] → IsOpenedDisk system source (state handed)
+  lived_opened : HasLived state system source told left old new handed disk Done lives stops → stops ≡ [] → IsDiskOpened system source (state handed)
   lived_opened h none =
       ⊎_elim
       (λ stop. absurd (subst HasStop (sym h.unprinted)
-      (stop_stays (setting_of state system source handed) h.blocks h.first h.mid h.text h.session stop) (sym h.stops_are ∙ none)))
+      (stop_stays (session_setting state system source handed) h.blocks h.first h.mid h.text h.session stop) (sym h.stops_are ∙ none)))
       (λ up. opened_up h.first.standing up h.opened)
       (begun_or h.first h.begins)
 
@@ -94,7 +94,7 @@ module _ {D : Type 0} (state : D → DiskState) (system : System) (source : List
   lived_life : (h : HasLived state system source told left old new handed disk Done lives stops) → is_some (last_life h.last.standing) ≡ true
   lived_life h =
       subst (λ (s : SessionState). is_some (last_life s.standing) ≡ true) (sym h.unprinted)
-      (life_begun (setting_of state system source handed) h.blocks h.first h.mid h.text h.begins h.session (subst (λ (s : SessionState). is_stopped s.standing ≡ false) h.unprinted h.by))
+      (life_begun (session_setting state system source handed) h.blocks h.first h.mid h.text h.begins h.session (subst (λ (s : SessionState). is_session_stopped s.standing ≡ false) h.unprinted h.by))
 
 module _ {D : Type 0} (state : D → DiskState) (handed disk : D) (told left old new : Option (List ℕ)) (lives : List Life) (stops : List Stop) where
   pub not_down : HasSession state told left old new handed disk DownAtEnd lives stops → stops ≡ [] → ⊥
@@ -103,7 +103,7 @@ module _ {D : Type 0} (state : D → DiskState) (handed disk : D) (told left old
   pub not_refused : (refusal : ImageRefused) → HasSession state told left old new handed disk (Image refusal) lives stops → stops ≡ [] → ⊥
   not_refused refusal h none = never_refused state h.system h.text handed disk told left old new (map life_of lives) stops refusal h.lived none
 
-  pub done_opened : (h : HasSession state told left old new handed disk Done lives stops) → stops ≡ [] → IsOpenedDisk h.system h.text (state handed)
+  pub done_opened : (h : HasSession state told left old new handed disk Done lives stops) → stops ≡ [] → IsDiskOpened h.system h.text (state handed)
   done_opened h none = lived_opened state h.system h.text handed disk told left old new (map life_of lives) stops h.lived none
 
   pub done_found : (h : HasSession state told left old new handed disk Done lives stops) → AskNoColdStart h.system h.lived.blocks → IsFoundDisk h.system h.text (state handed)
@@ -111,7 +111,7 @@ module _ {D : Type 0} (state : D → DiskState) (handed disk : D) (told left old
 
 -- nor is a disk refused that can be opened
 pub valid_opened : {D : Type 0} (state : D → DiskState) (bytes : List ℕ) (handed disk : D) (refusal : ImageRefused) → IsDisk (state handed) → (never : IsNeverOpened state (Some bytes) handed disk (Image refusal))
-    → IsValidDisk never.system (definition_text (definition_lines (lines_of bytes))) (state handed) → ⊥
+    → IsDiskValid never.system (text_of_definition (definition_lines (lines_of bytes))) (state handed) → ⊥
 valid_opened state bytes handed disk refusal is_disk never valid =
-    valid_opens never.system (definition_text (definition_lines (lines_of bytes))) (state handed) refusal is_disk valid
+    valid_opens never.system (text_of_definition (definition_lines (lines_of bytes))) (state handed) refusal is_disk valid
     (subst (λ (t : List ℕ). Refuses Found never.system t (state handed) (error_of refusal)) never.text_is never.refusal)

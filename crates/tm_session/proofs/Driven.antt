@@ -10,9 +10,9 @@ use Rattle.model_session.specs.declared.asked.Asked.TheVariants.{Bad, BadCommand
 use Rattle.model_session.specs.Blocks.{Block}
 use Rattle.model_session.specs.Lines.{asked_of}
 use Rattle.model_session.specs.Text.{broken_text}
-use Rattle.model_session.specs.Standing.{Setting, SessionState, Standing}
-use Rattle.model_session.specs.Standing.Standing.{Up, Down}
-use Rattle.model_session.specs.Session.{IsServed, AreServed, IsBegunBy, IsBegun}
+use Rattle.model_session.specs.SessionState.{Setting, SessionState, Standing}
+use Rattle.model_session.specs.SessionState.Standing.{Up, Down}
+use Rattle.model_session.specs.Session.{IsBlockServed, AreServed, IsBegunBy, IsSessionBegun}
 use Rattle.model_session.proofs.Sessions.{served_on}
 use Rattle.tm_edge.specs.Fault.{AppendsFront}
 use Rattle.tm_session.specs.declared.outcome.Ended.{Ended}
@@ -22,8 +22,8 @@ use Rattle.session_lives.specs.declared.called.Served.TheVariants.{Printed, Brok
 use Rattle.session_lives.specs.declared.called.Undone.{Undone}
 use Rattle.session_lives.specs.declared.called.Undone.TheVariants.{Memory as NoMemory, Spent as SpentCounter, Image as BadImage}
 use Rattle.session_lives.specs.Openings.{UndoneBy, IsServedSo}
-use Rattle.tm_session.specs.Outcome.{HasWritten, is_undone, left_if, UndoneAs}
-use Rattle.tm_session.specs.Driving.{ended_by, IsWritten, IsFinished, IsBroken, Serves, Stops, FailsAt}
+use Rattle.tm_session.specs.Outcome.{HasWrittenText, is_undone, left_if, UndoneAs}
+use Rattle.tm_session.specs.DrivenSession.{session_ended_by, IsTextWritten, IsBlockFinished, IsSessionBroken, ServesBlocks, Stops, FailsAt}
 
 -- ---- what was written
 
@@ -44,7 +44,7 @@ front_behind old mid new first text was (k, within, front) = (
   front ∙ ap (λ w. append_known w (take k text)) was ∙ append_twice old first (take k text) ∙ ap (append_known old) (sym (take-append-add first text k)),
 )
 
-written_behind : (ended : Ended) (old mid new : Option (List ℕ)) (first text : List ℕ) → mid ≡ append_known old first → HasWritten mid new text ended → HasWritten old new (first ++ text) ended
+written_behind : (ended : Ended) (old mid new : Option (List ℕ)) (first text : List ℕ) → mid ≡ append_known old first → HasWrittenText mid new text ended → HasWrittenText old new (first ++ text) ended
 written_behind Write old mid new first text was front = front_behind old mid new first text was front
 written_behind Done old mid new first text was all = all ∙ ap (λ w. append_known w text) was ∙ append_twice old first text
 written_behind DownAtEnd old mid new first text was all = all ∙ ap (λ w. append_known w text) was ∙ append_twice old first text
@@ -57,7 +57,7 @@ written_behind (BadCross line rule) old mid new first text was all = all ∙ ap 
 written_behind Read old mid new first text was all = all ∙ ap (λ w. append_known w text) was ∙ append_twice old first text
 written_behind Memory old mid new first text was all = all ∙ ap (λ w. append_known w text) was ∙ append_twice old first text
 
-all_written : (ended : Ended) (old new : Option (List ℕ)) → new ≡ old → HasWritten old new [] ended
+all_written : (ended : Ended) (old new : Option (List ℕ)) → new ≡ old → HasWrittenText old new [] ended
 all_written Write old new same = (0, omega arith, same ∙ nothing_written old)
 all_written Done old new same = same ∙ nothing_written old
 all_written DownAtEnd old new same = same ∙ nothing_written old
@@ -72,39 +72,39 @@ all_written Memory old new same = same ∙ nothing_written old
 
 -- ---- one block
 
-served_one : (setting : Setting) (block : Block) (old new : SessionState) (text : List ℕ) → IsServed (asked_of setting.system block) setting old new text
+served_one : (setting : Setting) (block : Block) (old new : SessionState) (text : List ℕ) → IsBlockServed (asked_of setting.system block) setting old new text
     → AreServed setting (block ∷ []) old new text
 served_one setting block old new text here =
     record { mid = new; first = text; later = []; here = here; printed = sym (append-nil text); on = (refl, refl) }
 
-undone_ended : (undone : Undone) → is_undone (ended_by undone) ≡ true
+undone_ended : (undone : Undone) → is_undone (session_ended_by undone) ≡ true
 undone_ended NoMemory = refl
 undone_ended SpentCounter = refl
 undone_ended (BadImage refusal) = refl
 
 undone_as : (undone : Undone) (block : Block) (others : List Block) (setting : Setting) (last : SessionState) → UndoneBy undone (asked_of setting.system block) setting last
-    → UndoneAs (ended_by undone) (block ∷ others) setting last
+    → UndoneAs (session_ended_by undone) (block ∷ others) setting last
 undone_as NoMemory block others setting last cause = tt
 undone_as SpentCounter block others setting last cause = cause
 undone_as (BadImage refusal) block others setting last cause = cause
 
-pub undone_broken : (undone : Undone) → IsBroken (ended_by undone)
+pub undone_broken : (undone : Undone) → IsSessionBroken (session_ended_by undone)
 undone_broken undone = inr (undone_ended undone)
 
 module _ (setting : Setting) (block : Block) (w w' : Option (List ℕ)) (a b : SessionState) where
   -- whether the text of a block that was served could be written
-  wrote : (text : List ℕ) (ended : Option Ended) → IsServed (asked_of setting.system block) setting a b text → IsWritten w w' text ended
-      → MatchOption ended (Serves setting (block ∷ []) w w' a b) (λ ended. FailsAt setting ended block w w' a b)
+  wrote : (text : List ℕ) (ended : Option Ended) → IsBlockServed (asked_of setting.system block) setting a b text → IsTextWritten w w' text ended
+      → MatchOption ended (ServesBlocks setting (block ∷ []) w w' a b) (λ ended. FailsAt setting ended block w w' a b)
   wrote text None here printed = record { text = text; served = served_one setting block a b text here; printed = printed }
   wrote text (Some ended) here (writing, front) = inl (record {
     writing = writing;
     stops = λ others. record { mid = b; text = text; served = served_one setting block a b text here; unprinted = refl; undone = tt; printed = front };
   })
 
-  undone : (why : Undone) (ended : Option Ended) → IsBegunBy (asked_of setting.system block) setting.system a a.standing b → UndoneBy why (asked_of setting.system block) setting b → w' ≡ w → ended ≡ Some (ended_by why)
-      → MatchOption ended (Serves setting (block ∷ []) w w' a b) (λ ended. FailsAt setting ended block w w' a b)
+  undone : (why : Undone) (ended : Option Ended) → IsBegunBy (asked_of setting.system block) setting.system a a.standing b → UndoneBy why (asked_of setting.system block) setting b → w' ≡ w → ended ≡ Some (session_ended_by why)
+      → MatchOption ended (ServesBlocks setting (block ∷ []) w w' a b) (λ ended. FailsAt setting ended block w w' a b)
   undone why ended begun cause same is =
-      subst (λ e. MatchOption e (Serves setting (block ∷ []) w w' a b) (λ ended. FailsAt setting ended block w w' a b)) (sym is)
+      subst (λ e. MatchOption e (ServesBlocks setting (block ∷ []) w w' a b) (λ ended. FailsAt setting ended block w w' a b)) (sym is)
       (inr (record {
         undone = undone_ended why;
         stops = λ others. record {
@@ -113,23 +113,23 @@ module _ (setting : Setting) (block : Block) (w w' : Option (List ℕ)) (a b : S
           served = (refl, refl);
           unprinted = subst (λ u. left_if u setting.system (block ∷ others) a b) (sym (undone_ended why)) begun;
           undone = undone_as why block others setting b cause;
-          printed = all_written (ended_by why) w w' same;
+          printed = all_written (session_ended_by why) w w' same;
         };
       }))
 
-  pub whole_block : (served : Served) (text : List ℕ) (ended : Option Ended) → IsServedSo (asked_of setting.system block) text served setting a b → IsFinished text served w w' ended
-      → MatchOption ended (Serves setting (block ∷ []) w w' a b) (λ ended. FailsAt setting ended block w w' a b)
+  pub whole_block : (served : Served) (text : List ℕ) (ended : Option Ended) → IsServedSo (asked_of setting.system block) text served setting a b → IsBlockFinished text served w w' ended
+      → MatchOption ended (ServesBlocks setting (block ∷ []) w w' a b) (λ ended. FailsAt setting ended block w w' a b)
   whole_block Printed text ended here finished = wrote text ended here finished
   whole_block Broke text ended here finished = wrote broken_text ended here finished
   whole_block (NotServed why) text ended here finished = undone why ended here.0 here.1 finished.0 finished.1
 
 -- ---- several blocks
 
-pub serves_none : (setting : Setting) (written : Option (List ℕ)) (a : SessionState) → Serves setting [] written written a a
+pub serves_none : (setting : Setting) (written : Option (List ℕ)) (a : SessionState) → ServesBlocks setting [] written written a a
 serves_none setting written a = record { text = []; served = (refl, refl); printed = nothing_written written }
 
 pub serves_twice : (setting : Setting) (xs ys : List Block) (w w1 w2 : Option (List ℕ)) (a b c : SessionState)
-    → Serves setting xs w w1 a b → Serves setting ys w1 w2 b c → Serves setting (xs ++ ys) w w2 a c
+    → ServesBlocks setting xs w w1 a b → ServesBlocks setting ys w1 w2 b c → ServesBlocks setting (xs ++ ys) w w2 a c
 serves_twice setting xs ys w w1 w2 a b c first second = record {
   text = first.text ++ second.text;
   served = served_on setting xs ys a b c first.text second.text first.served second.served;
@@ -137,7 +137,7 @@ serves_twice setting xs ys w w1 w2 a b c first second = record {
 }
 
 pub serves_stops : (setting : Setting) (ended : Ended) (xs ys others : List Block) (w w1 w2 : Option (List ℕ)) (a b c : SessionState)
-    → Serves setting xs w w1 a b → Stops setting ended ys others w1 w2 b c → Stops setting ended (xs ++ ys) others w w2 a c
+    → ServesBlocks setting xs w w1 a b → Stops setting ended ys others w1 w2 b c → Stops setting ended (xs ++ ys) others w w2 a c
 serves_stops setting ended xs ys others w w1 w2 a b c first second = record {
   mid = second.mid;
   text = first.text ++ second.text;
@@ -160,7 +160,7 @@ nothing_up (PowerIn writes pick) system a standing = refl
 nothing_up Restart system a standing = refl
 nothing_up ColdStart system a standing = refl
 
-none_begun : (system : System) (others : List Block) (a : SessionState) → IsBegun system others a a
+none_begun : (system : System) (others : List Block) (a : SessionState) → IsSessionBegun system others a a
 none_begun system [] a = refl
 none_begun system (block ∷ others) a = nothing_up (asked_of system block) system a a.standing
 
@@ -179,6 +179,6 @@ stops_none setting ended others written a cause = record {
 }
 
 -- blocks that were served last of all
-pub stops_served : (setting : Setting) (blocks : List Block) (w w' : Option (List ℕ)) (a b : SessionState) → Serves setting blocks w w' a b → Stops setting Done blocks [] w w' a b
+pub stops_served : (setting : Setting) (blocks : List Block) (w w' : Option (List ℕ)) (a b : SessionState) → ServesBlocks setting blocks w w' a b → Stops setting Done blocks [] w w' a b
 stops_served setting blocks w w' a b one =
     subst (λ bs. Stops setting Done bs [] w w' a b) (append-nil blocks) (serves_stops setting Done blocks [] [] w w' w' a b b one (stops_none setting Done [] w' b tt))

@@ -6,7 +6,7 @@ use Rattle.tm_session.specs.declared.outcome.Ended.TheVariants.{Done, Words, Bad
 use Rattle.tm_session.specs.Outcome.{HasCause}
 use Rattle.session_lives.specs.declared.called.Opening.{Opening}
 use Rattle.session_lives.specs.declared.called.Opening.TheVariants.{Opened, Broke, Refused, Memory as NoMemory, Spent as SpentCounter}
-use Rattle.tm_session.specs.Opened.{refusal, by_standing}
+use Rattle.tm_session.specs.BegunSession.{refusal, by_standing}
 
 -- how the system stands adds no cause
 pub cause_stays : (stopped : Bool) (ended : Ended) (r r' w w' : ℕ) → HasCause ended r r' w w' → HasCause (by_standing stopped ended) r r' w w'

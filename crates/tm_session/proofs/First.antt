@@ -11,9 +11,9 @@ use Rattle.model_session.specs.Blocks.{Block}
 use Rattle.model_session.specs.Lines.{asked_of}
 use Rattle.model_machine.specs.declared.entry.Entry.{Entry}
 use Rattle.model_session.specs.Lives.{LastLife}
-use Rattle.model_session.specs.Standing.{Setting, SessionState, Outage, Standing, IsEmptied, MayBeFound, no_life, unbegun, called_on, is_stopped, last_life}
-use Rattle.model_session.specs.Standing.Standing.{Up, Down}
-use Rattle.model_session.specs.Session.{Opens, ServedBy, IsServedUp, IsServedDown, IsRestarted, AreServed, Begins, IsBegun, IsBegunBy}
+use Rattle.model_session.specs.SessionState.{Setting, SessionState, Outage, Standing, IsStateEmptied, MayBeFound, no_life, unbegun, called_on, is_session_stopped, last_life}
+use Rattle.model_session.specs.SessionState.Standing.{Up, Down}
+use Rattle.model_session.specs.Session.{OpensSession, ServedBy, IsServedUp, IsServedDown, IsRestarted, AreServed, BeginsSession, IsSessionBegun, IsBegunBy}
 
 -- ---- what was handed in
 
@@ -48,11 +48,11 @@ module _ (setting : Setting) (tells : setting.tells ≡ true) where
   found_by None emptied stopped kept state none not (inr empty) = let never : true ≡ false = sym empty.broke_off ∙ not in cc
   found_by (Some life) emptied stopped kept state none not found = cc
 
-  right_by : (last : Option LastLife) (emptied : Bool) (kept : ℕ) (state : LastingState) → emptied ≡ false → setting.right_text ⊎ IsEmptied setting.system last emptied kept state → setting.right_text
+  right_by : (last : Option LastLife) (emptied : Bool) (kept : ℕ) (state : LastingState) → emptied ≡ false → setting.right_text ⊎ IsStateEmptied setting.system last emptied kept state → setting.right_text
   right_by last emptied kept state not (inl right) = right
   right_by last emptied kept state not (inr empty) = let never : true ≡ false = sym empty.broke_off ∙ not in cc
 
-  opens_found : (old : SessionState) (outage : Outage) (new : SessionState) → IsUntouched outage → Opens false setting old outage new → IsFound setting
+  opens_found : (old : SessionState) (outage : Outage) (new : SessionState) → IsUntouched outage → OpensSession false setting old outage new → IsFound setting
   opens_found old outage new yet opens = record {
     opening = opens.state;
     begins = found_by outage.last outage.emptied outage.stopped opens.kept opens.state yet.first yet.not_emptied (opens.may tells);
@@ -91,7 +91,7 @@ module _ (setting : Setting) (tells : setting.tells ≡ true) where
   blocks_stand (block ∷ blocks) old new text warm one stands =
       blocks_stand blocks one.mid new one.later warm.1 one.on (block_stands (asked_of setting.system block) old one.mid one.first warm.0 old.standing refl one.here stands)
 
-  first_stands : (first : SessionState) → Begins setting first → Stands first.standing
+  first_stands : (first : SessionState) → BeginsSession setting first → Stands first.standing
   first_stands first (inl opens) = found_stands first.standing (opens_found unbegun no_life first (record { first = refl; not_emptied = refl }) opens)
   first_stands first (inr fails) = subst (λ (s : SessionState). Stands s.standing) (sym fails.ends) (inl (record { first = refl; not_emptied = refl }))
 
@@ -109,7 +109,7 @@ module _ (setting : Setting) (tells : setting.tells ≡ true) where
   begun_stands Restart system old (Down outage) new at same stands = same_stands new old (Down outage) same at stands
   begun_stands ColdStart system old (Down outage) new at same stands = same_stands new old (Down outage) same at stands
 
-  left_stands : (system : System) (others : List Block) (mid last : SessionState) → (last ≡ mid) ⊎ IsBegun system others mid last → Stands mid.standing → Stands last.standing
+  left_stands : (system : System) (others : List Block) (mid last : SessionState) → (last ≡ mid) ⊎ IsSessionBegun system others mid last → Stands mid.standing → Stands last.standing
   left_stands system others mid last (inl same) stands = same_stands last mid mid.standing same refl stands
   left_stands system [] mid last (inr same) stands = same_stands last mid mid.standing same refl stands
   left_stands system (block ∷ others) mid last (inr one) stands = begun_stands (asked_of system block) system mid mid.standing last refl one stands
@@ -124,7 +124,7 @@ module _ (setting : Setting) (tells : setting.tells ≡ true) where
   life_found (Down outage) some (inr found) = found
 
   -- A life has begun, and no block asked for a cold start: what was handed in was opened.
-  pub opened_found : (blocks others : List Block) (first mid last : SessionState) (text : List ℕ) → Begins setting first → AreServed setting blocks first mid text → (last ≡ mid) ⊎ IsBegun setting.system others mid last
+  pub opened_found : (blocks others : List Block) (first mid last : SessionState) (text : List ℕ) → BeginsSession setting first → AreServed setting blocks first mid text → (last ≡ mid) ⊎ IsSessionBegun setting.system others mid last
       → AllByRecursion (λ (block : Block). asked_of setting.system block ≢ ColdStart) blocks → is_some (last_life last.standing) ≡ true → IsFound setting
   opened_found blocks others first mid last text begins served left warm some =
       life_found last.standing some (left_stands setting.system others mid last left (blocks_stand blocks first mid text warm served (first_stands first begins)))
@@ -133,7 +133,7 @@ module _ (setting : Setting) (tells : setting.tells ≡ true) where
 
 -- where no life has begun, the system is down by a stop
 abbrev IsTold : SessionState → Type 0
-IsTold state = last_life state.standing ≡ None → is_stopped state.standing ≡ true
+IsTold state = last_life state.standing ≡ None → is_session_stopped state.standing ≡ true
 
 told_same : (new old : SessionState) → new ≡ old → IsTold old → IsTold new
 told_same new old same told = subst IsTold (sym same) told
@@ -181,7 +181,7 @@ module _ (setting : Setting) where
   told_blocks (block ∷ blocks) old new text one told =
       told_blocks blocks one.mid new one.later one.on (told_block old.standing (asked_of setting.system block) old one.mid one.first one.here told)
 
-  told_first : (first : SessionState) → Begins setting first → IsTold first
+  told_first : (first : SessionState) → BeginsSession setting first → IsTold first
   told_first first (inl opens) = told_same first _ opens.goes (λ none. cc)
   told_first first (inr fails) = told_same first _ fails.ends (λ none. refl)
 
@@ -190,5 +190,5 @@ module _ (setting : Setting) where
   life_by None stopped told not = let never : true ≡ false = sym (told refl) ∙ not in cc
   life_by (Some life) stopped told not = refl
 
-  pub life_begun : (blocks : List Block) (first mid : SessionState) (text : List ℕ) → Begins setting first → AreServed setting blocks first mid text → is_stopped mid.standing ≡ false → is_some (last_life mid.standing) ≡ true
-  life_begun blocks first mid text begins served not = life_by (last_life mid.standing) (is_stopped mid.standing) (told_blocks blocks first mid text served (told_first first begins)) not
+  pub life_begun : (blocks : List Block) (first mid : SessionState) (text : List ℕ) → BeginsSession setting first → AreServed setting blocks first mid text → is_session_stopped mid.standing ≡ false → is_some (last_life mid.standing) ≡ true
+  life_begun blocks first mid text begins served not = life_by (last_life mid.standing) (is_session_stopped mid.standing) (told_blocks blocks first mid text served (told_first first begins)) not

@@ -5,15 +5,15 @@ use Rattle.std.proofs.lemmas.List.{length-map}
 use Rattle.std.specs.Prelude.{Option, Some, None, IfSome, Result, Ok, Err, nat_le}
 use Rattle.std.specs.List.{list_all}
 use Rattle.model_system.specs.System.{System}
-use Rattle.tm_edge.specs.Lines.{CutLine, behind_line, cut_lines, is_short, line_size, line_text, lines_of}
+use Rattle.tm_edge.specs.Lines.{CutLine, behind_line, cut_lines, is_short_line, line_size, line_text, lines_of}
 use Rattle.tm_edge.proofs.ServedSoFar.{long_first}
-use Rattle.sysdef_text.specs.Ends.{definition_lines}
+use Rattle.sysdef_text.specs.DefinitionEnd.{definition_lines}
 use Rattle.tm_session.specs.declared.outcome.Ended.{Ended}
 use Rattle.tm_session.specs.declared.outcome.Ended.TheVariants.{Done, Words, BadLine, BadCross, Down, Read, Write, Image, Memory, Limit, Spent}
-use Rattle.tm_session.specs.Source.{judged, definition_text}
+use Rattle.tm_session.specs.DefinedSystem.{judged_definition, text_of_definition}
 use Rattle.tm_session.specs.Outcome.{HasCause, IsReadToEnd}
-use Rattle.tm_session.specs.Opening.{IsCutShort, ReadsDefinition, ReadsLines, StopsBefore, IsJudged}
-use Rattle.tm_session.specs.Headline.{IsUnbegun, IsBroken, Defines}
+use Rattle.tm_session.specs.ReadDefinition.{IsCutShort, ReadsDefinition, ReadsLines, StopsBefore, IsDefinitionJudged}
+use Rattle.tm_session.specs.Headline.{IsUnbegun, IsDefinitionBroken, Defines}
 
 first_of : (a b : Bool) → a && b ≡ true → a ≡ true
 first_of true b h = refl
@@ -30,20 +30,20 @@ tail_is : (x y : CutLine) (xs ys : List CutLine) → x ∷ xs ≡ y ∷ ys → x
 tail_is x y xs ys e = cc
 
 -- a definition that was read whole and judged
-pub defines_read : (told mid : Option (List ℕ)) (texts : List (List ℕ)) (system : System) → ReadsDefinition told texts mid → judged texts ≡ Ok system
+pub defines_read : (told mid : Option (List ℕ)) (texts : List (List ℕ)) (system : System) → ReadsDefinition told texts mid → judged_definition texts ≡ Ok system
     → IfSome told (λ bytes. Defines bytes system)
-defines_read (Some bytes) (Some rest) texts system read e = ap judged read.definition ∙ e
+defines_read (Some bytes) (Some rest) texts system read e = ap judged_definition read.definition ∙ e
 defines_read (Some bytes) None texts system read e = absurd read
 defines_read None mid texts system read e = tt
 
 -- of a definition that was read whole no line is too long
 clash : (lines before others : List CutLine) (long : CutLine) (more : List CutLine) → lines ++ more ≡ before ++ long ∷ others → length before < length lines
-    → list_all is_short lines ≡ true → is_short long ≡ true
+    → list_all is_short_line lines ≡ true → is_short_line long ≡ true
 clash [] before others long more same less short = absurd (omega (arith, less))
-clash (line ∷ lines) [] others long more same less short = sym (ap is_short (head_is line long (lines ++ more) others same)) ∙ first_of (is_short line) (list_all is_short lines) short
+clash (line ∷ lines) [] others long more same less short = sym (ap is_short_line (head_is line long (lines ++ more) others same)) ∙ first_of (is_short_line line) (list_all is_short_line lines) short
 clash (line ∷ lines) (first ∷ before) others long more same less short =
     clash lines before others long more (tail_is line first (lines ++ more) (before ++ long ∷ others) same) (omega (arith, less))
-    (second_of (is_short line) (list_all is_short lines) short)
+    (second_of (is_short_line line) (list_all is_short_line lines) short)
 
 long_is : (size : ℕ) → nat_le size 4096 ≡ true → 4096 < size → ⊥
 long_is size short long = let e : nat_le size 4096 ≡ false = grind (arith, nat_tests) in let f : false ≡ true = rw e at short in cc
@@ -57,20 +57,20 @@ none_long bytes texts rest read cut =
     let less : length cut.cut < length read.cut = subst (λ n. length cut.cut < n) (ap length read.definition ∙ counted) cut.within in
     long_is (line_size cut.rest) (clash read.cut cut.cut (cut_lines (behind_line cut.rest)) long (cut_lines rest) parts less read.served.short) cut.long
 
-breaks_read : (told mid : Option (List ℕ)) (texts : List (List ℕ)) (ended : Ended) → ReadsDefinition told texts mid → judged texts ≡ Err ended
-    → IfSome told (λ bytes. IsBroken bytes ended)
-breaks_read (Some bytes) (Some rest) texts ended read e = record { broken = ap judged read.definition ∙ e; within = λ cut. none_long bytes texts rest read cut }
+breaks_read : (told mid : Option (List ℕ)) (texts : List (List ℕ)) (ended : Ended) → ReadsDefinition told texts mid → judged_definition texts ≡ Err ended
+    → IfSome told (λ bytes. IsDefinitionBroken bytes ended)
+breaks_read (Some bytes) (Some rest) texts ended read e = record { broken = ap judged_definition read.definition ∙ e; within = λ cut. none_long bytes texts rest read cut }
 breaks_read (Some bytes) None texts ended read e = absurd read
 breaks_read None mid texts ended read e = tt
 
 -- its text
-pub text_told : (told mid : Option (List ℕ)) (texts : List (List ℕ)) (text : List ℕ) → ReadsDefinition told texts mid → text ≡ definition_text texts
-    → IfSome told (λ bytes. text ≡ definition_text (definition_lines (lines_of bytes)))
-text_told (Some bytes) (Some rest) texts text read is = is ∙ sym (ap definition_text read.definition)
+pub text_told : (told mid : Option (List ℕ)) (texts : List (List ℕ)) (text : List ℕ) → ReadsDefinition told texts mid → text ≡ text_of_definition texts
+    → IfSome told (λ bytes. text ≡ text_of_definition (definition_lines (lines_of bytes)))
+text_told (Some bytes) (Some rest) texts text read is = is ∙ sym (ap text_of_definition read.definition)
 text_told (Some bytes) None texts text read is = absurd read
 text_told None mid texts text read is = tt
 
-pub unbegun_judged : (ended : Ended) (told mid : Option (List ℕ)) (texts : List (List ℕ)) → ReadsDefinition told texts mid → IsJudged (judged texts) (Err ended) → IsUnbegun told ended
+pub unbegun_judged : (ended : Ended) (told mid : Option (List ℕ)) (texts : List (List ℕ)) → ReadsDefinition told texts mid → IsDefinitionJudged (judged_definition texts) (Err ended) → IsUnbegun told ended
 unbegun_judged (BadLine line rule) told mid texts read e = breaks_read told mid texts (BadLine line rule) read e
 unbegun_judged (BadCross line rule) told mid texts read e = breaks_read told mid texts (BadCross line rule) read e
 unbegun_judged Memory told mid texts read e = tt
@@ -97,7 +97,7 @@ unbegun_read (Limit n) told stops = stops
 unbegun_read (Words word rule) told stops = absurd stops
 
 -- judging a definition meets no fault
-pub judged_cause : (ended : Ended) (verdict : Result System Ended) (r w : ℕ) → IsJudged verdict (Err ended) → HasCause ended r r w w
+pub judged_cause : (ended : Ended) (verdict : Result System Ended) (r w : ℕ) → IsDefinitionJudged verdict (Err ended) → HasCause ended r r w w
 judged_cause (BadLine line rule) verdict r w e = (refl, refl)
 judged_cause (BadCross line rule) verdict r w e = (refl, refl)
 judged_cause Memory verdict r w e = (refl, refl)

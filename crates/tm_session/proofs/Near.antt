@@ -5,17 +5,17 @@ use Rattle.tm_disk.specs.Disk.{DiskState, IsDisk}
 use Rattle.model_system.specs.System.{System}
 use Rattle.model_session.specs.Lives.{LifeState}
 use Rattle.model_session.specs.Blocks.{Block}
-use Rattle.model_session.specs.Standing.{SessionState, Setting, Stop}
+use Rattle.model_session.specs.SessionState.{SessionState, Setting, Stop}
 use Rattle.checkpointing.specs.Counts.{AreUpTo}
 use Rattle.checkpointing.proofs.Counted.{up_to_more}
-use Rattle.openings.specs.Opening.{IsSpent}
+use Rattle.openings.specs.OpenedImage.{IsSpent}
 use Rattle.model_image.specs.Counters.{next_sequence}
 use Rattle.openings.specs.declared.life.Life.{Life}
 use Rattle.session_law.specs.Measures.{near_limit}
-use Rattle.session_law.specs.Spent.{IsSpentAt}
+use Rattle.session_law.specs.SpentCounters.{IsSpentAt}
 use Rattle.session_law.proofs.Lasting.{lasts_higher}
 use Rattle.session_law.proofs.Spent.{spent_above, near_at_end}
-use Rattle.session_lives.specs.Running.{life_of, setting_of, CountsDisk}
+use Rattle.session_lives.specs.RunningSession.{life_of, session_setting, CountsDisk}
 use Rattle.tm_session.specs.declared.outcome.Ended.TheVariants.{Spent}
 use Rattle.tm_session.specs.Outcome.{UndoneAs}
 use Rattle.tm_session.specs.Headline.{HasLived, HasSession, IsNeverOpened}
@@ -34,9 +34,9 @@ module _ {D : Type 0} (state : D → DiskState) (is_disk : (disk : D) → IsDisk
   module _ (system : System) (source : List ℕ) (lives : List LifeState) (stops : List Stop) (h : HasLived state system source told left old new handed disk Spent lives stops) where
     near_some : (high : ℕ) → 1 ≤ high → CountsDisk system high (state handed) → near_limit ≤ high
     near_some high some counts =
-        near_at_end (setting_of state system source handed) h.valid counts.own.tells (setting_of state system source handed).counts high some counts.own
+        near_at_end (session_setting state system source handed) h.valid counts.own.tells (session_setting state system source handed).counts high some counts.own
         (λ opening begins. counts.states opening (begins (state handed).shown ((is_disk handed).shown_left counts.own.tells)))
-        h.blocks h.others h.first h.mid h.last h.text h.few h.begins h.session (inr h.unprinted) (spent_as h.others (setting_of state system source handed) h.last h.undone)
+        h.blocks h.others h.first h.mid h.last h.text h.few h.begins h.session (inr h.unprinted) (spent_as h.others (session_setting state system source handed) h.last h.undone)
 
     near_lived : (high : ℕ) → CountsDisk system high (state handed) → near_limit ≤ high
     near_lived zero counts = omega (arith, near_some 1 (omega arith) (disk_higher system 0 1 (state handed) (omega arith) counts))

@@ -1,22 +1,23 @@
 -- The definition, read line by line.
 use Rattle.std.proofs.Common.{◌≡◌, ℕ, suc, ◌+◌, ◌-◌, ◌≤◌, Bool, true, false, ◌&&◌, List, [], ◌∷◌, ◌++◌, length, map, sym, ◌∙◌, ap, subst, refl, arith, append_assoc, length-append, append-nil, inl, inr, ◌⊎◌}
-use Rattle.std.specs.Prelude.{Option, Some, None, IfSome, if◌then◌else◌}
+use Rattle.std.specs.Prelude.{Option, Some, None, IfSome}
 use Rattle.std.specs.List.{list_all}
 use Rattle.std.proofs.lemmas.List.Folds.{list_all-append}
 use Rattle.model_session.specs.Blocks.{Block, blocks_of}
-use Rattle.tm_edge.specs.Lines.{CutLine, HasServed, IsTooLong, ServesTold, unread, cut_lines, lines_of, line_size, line_text, behind_line, is_short}
+use Rattle.tm_edge.specs.Lines.{CutLine, HasServed, IsLineTooLong, ServesTold, unread, cut_lines, lines_of, line_size, line_text, behind_line, is_short_line}
 use Rattle.tm_edge.proofs.ServedSoFar.{none_served, one_served, long_first}
 use Rattle.tm_session.specs.declared.outcome.Ended.{Ended}
 use Rattle.tm_session.specs.declared.outcome.Ended.TheVariants.{Done, Words, BadLine, BadCross, Down, Read, Write, Image, Memory, Limit, Spent}
 use Rattle.std.specs.Prelude.{◌||◌, nat_lt}
 use Rattle.std.proofs.lemmas.Bool.Decides.{nat_tests}
-use Rattle.sysdef_text.specs.Ends.{is_end, ends_definition, stays_inside, definition_from, behind_from, definition_lines, lines_behind}
-use Rattle.tm_session.specs.Outcome.{texts_of, ending_of, AreSettled, IsAtLimit}
-use Rattle.tm_session.specs.Sources.{HasRead, HasReadTold}
-use Rattle.tm_session.specs.Driving.{may_pass, ReadsSession, ReadsTold}
-use Rattle.tm_session.specs.Unread.{IsUnread}
-use Rattle.tm_session.specs.Opening.{ReadsLines, ReadsDefinition, IsCutShort, StopsBefore, ReadsSome, DefinitionSoFar}
+use Rattle.sysdef_text.specs.DefinitionEnd.{is_end_line, ends_definition, stays_inside, definition_from, behind_from, definition_lines, lines_behind}
+use Rattle.tm_session.specs.Outcome.{texts_of_lines, ending_of, AreSettled, IsAtLimit}
+use Rattle.tm_session.specs.ReadSources.{HasRead, HasReadTold}
+use Rattle.tm_session.specs.DrivenSession.{may_pass, ReadsSession, ReadsTold}
+use Rattle.tm_session.specs.UnreadLine.{IsUnread}
+use Rattle.tm_session.specs.ReadDefinition.{ReadsLines, ReadsDefinition, IsCutShort, StopsBefore, ReadsSome, DefinitionSoFar}
 use Rattle.tm_session.proofs.Reading.{told_behind, texts_twice}
+use Rattle.tm_session.proofs.Steps.{choose, other}
 
 texts_line : (bytes rest line : List ℕ) (size : ℕ) → cut_lines bytes ≡ record { text = line; size = size } ∷ cut_lines rest → lines_of bytes ≡ line ∷ lines_of rest
 texts_line bytes rest line size cut = ap (map (λ (l : CutLine). l.text)) cut
@@ -25,16 +26,8 @@ pub reading_start : (told : Option (List ℕ)) → DefinitionSoFar told [] told 
 reading_start (Some bytes) = record { cut = []; lines = refl; served = none_served bytes; definition = refl; session = λ more. refl }
 reading_start None = refl
 
-choose : {A : Type 0} (b : Bool) (x y : A) → b ≡ true → (if b then x else y) ≡ x
-choose true x y e = refl
-choose false x y e = cc
-
-other : {A : Type 0} (b : Bool) (x y : A) → b ≡ false → (if b then x else y) ≡ y
-other true x y e = cc
-other false x y e = refl
-
-one_cut : (cut : List CutLine) (texts : List (List ℕ)) (line : List ℕ) (size : ℕ) → texts_of cut ≡ texts
-    → texts_of (cut ++ record { text = line; size = size } ∷ []) ≡ texts ++ line ∷ []
+one_cut : (cut : List CutLine) (texts : List (List ℕ)) (line : List ℕ) (size : ℕ) → texts_of_lines cut ≡ texts
+    → texts_of_lines (cut ++ record { text = line; size = size } ∷ []) ≡ texts ++ line ∷ []
 one_cut cut texts line size same = texts_twice cut (record { text = line; size = size } ∷ []) ∙ ap (λ ts. ts ++ line ∷ []) same
 
 pub reading_next : (told now after : Option (List ℕ)) (texts : List (List ℕ)) (line : List ℕ) (inside : Bool) (room : ℕ) → DefinitionSoFar told texts now inside room
@@ -83,7 +76,7 @@ later_one false b e = e
 pub room_for : (inside : Bool) (room : ℕ) (line : List ℕ) → ends_definition inside room line ≡ false → length line + 1 ≤ room
 unfolding ends_definition
 room_for inside room line goes =
-    let within : nat_lt room (length line + 1) ≡ false = later_one (is_end inside line) (nat_lt room (length line + 1)) goes in
+    let within : nat_lt room (length line + 1) ≡ false = later_one (is_end_line inside line) (nat_lt room (length line + 1)) goes in
     grind (arith, nat_tests)
 
 cut_none : cut_lines [] ≡ []
@@ -109,11 +102,11 @@ reading_none (Some bytes) None after texts inside room far serves = absurd far
 reading_none None None after texts inside room far serves = serves
 reading_none None (Some rest) after texts inside room far serves = cc
 
-length_texts : (cut : List CutLine) → length (texts_of cut) ≡ length cut
+length_texts : (cut : List CutLine) → length (texts_of_lines cut) ≡ length cut
 length_texts [] = refl
 length_texts (line ∷ cut) = ap suc (length_texts cut)
 
-cut_short : (bytes rest : List ℕ) (texts : List (List ℕ)) (inside : Bool) (room : ℕ) → ReadsSome bytes texts rest inside room → IsTooLong rest → IsCutShort bytes
+cut_short : (bytes rest : List ℕ) (texts : List (List ℕ)) (inside : Bool) (room : ℕ) → ReadsSome bytes texts rest inside room → IsLineTooLong rest → IsCutShort bytes
 cut_short bytes rest texts inside room far long =
     let next : lines_of rest ≡ line_text rest ∷ lines_of (behind_line rest) = texts_line rest (behind_line rest) (line_text rest) (line_size rest) (long_first rest long) in
     let all : length (definition_lines (lines_of bytes)) ≡ length texts + length (definition_from inside room (lines_of rest)) =
@@ -121,7 +114,7 @@ cut_short bytes rest texts inside room far long =
     let more : 1 ≤ length (definition_from inside room (lines_of rest)) = rw next (omega arith) in
     record { cut = far.cut; rest = rest; served = far.served; within = omega (arith, sym (ap length far.lines) ∙ length_texts far.cut); long = long }
 
-long_limit : (n : ℕ) (told now : Option (List ℕ)) (texts : List (List ℕ)) (inside : Bool) (room : ℕ) → DefinitionSoFar told texts now inside room → n ≡ 4097 → IfSome now IsTooLong
+long_limit : (n : ℕ) (told now : Option (List ℕ)) (texts : List (List ℕ)) (inside : Bool) (room : ℕ) → DefinitionSoFar told texts now inside room → n ≡ 4097 → IfSome now IsLineTooLong
     → StopsBefore (Limit n) told
 long_limit n (Some bytes) (Some rest) texts inside room far number long = (number, cut_short bytes rest texts inside room far long)
 long_limit n (Some bytes) None texts inside room far number long = absurd far
@@ -149,7 +142,7 @@ short_both p a b first second = list_all-append p a b ∙ ap (λ t. t && list_al
 
 served_twice : (bytes mid rest : List ℕ) (a b : List CutLine) → HasServed bytes a mid → HasServed mid b rest → HasServed bytes (a ++ b) rest
 served_twice bytes mid rest a b first second = record {
-  short = short_both is_short a b first.short second.short;
+  short = short_both is_short_line a b first.short second.short;
   cut = first.cut ∙ ap (λ ls. a ++ ls) second.cut ∙ sym (append_assoc a b (cut_lines rest));
 }
 
@@ -162,15 +155,15 @@ none_cut behind rest (line ∷ cut) none served =
     cc
 
 -- the session's lines are those that were read behind the definition
-session_read : (texts : List (List ℕ)) (behind rest : List ℕ) (first second : List CutLine) → texts_of first ≡ texts → HasServed behind second rest
+session_read : (texts : List (List ℕ)) (behind rest : List ℕ) (first second : List CutLine) → texts_of_lines first ≡ texts → HasServed behind second rest
     → ((more : List (List ℕ)) → lines_behind (texts ++ more) ≡ more) ⊎ ((behind ≡ []) × (lines_behind texts ≡ []))
-    → lines_behind (texts_of (first ++ second)) ≡ texts_of second
+    → lines_behind (texts_of_lines (first ++ second)) ≡ texts_of_lines second
 session_read texts behind rest first second same served (inl all) =
-    ap lines_behind (texts_twice first second ∙ ap (λ ts. ts ++ texts_of second) same) ∙ all (texts_of second)
+    ap lines_behind (texts_twice first second ∙ ap (λ ts. ts ++ texts_of_lines second) same) ∙ all (texts_of_lines second)
 session_read texts behind rest first second same served (inr (none, nothing)) =
     let no_cut : second ≡ [] = none_cut behind rest second none served in
-    ap (λ more. lines_behind (texts_of (first ++ more))) no_cut ∙ ap (λ cut. lines_behind (texts_of cut)) (append-nil first) ∙ ap lines_behind same ∙ nothing
-    ∙ ap texts_of (sym no_cut)
+    ap (λ more. lines_behind (texts_of_lines (first ++ more))) no_cut ∙ ap (λ cut. lines_behind (texts_of_lines cut)) (append-nil first) ∙ ap lines_behind same ∙ nothing
+    ∙ ap texts_of_lines (sym no_cut)
 
 read_all : (ended : Ended) (bytes behind held left : List ℕ) (texts : List (List ℕ)) (blocks others : List Block)
     → ReadsLines bytes texts behind → ReadsSession (length texts) behind (held ++ left) blocks others ended → HasRead bytes left blocks others ended
@@ -181,13 +174,13 @@ read_all ended bytes behind held left texts blocks others first second =
     let served : HasServed bytes (first.cut ++ second.cut) second.rest = served_twice bytes behind second.rest first.cut second.cut first.served second.served in
     let count : length (first.cut ++ second.cut) ≡ length texts + length second.cut =
     length-append first.cut second.cut ∙ ap (λ n. n + length second.cut) (sym (length_texts first.cut) ∙ ap length first.lines) in
-    let lines : lines_behind (texts_of (first.cut ++ second.cut)) ≡ texts_of second.cut = session_read texts behind second.rest first.cut second.cut first.lines second.served first.session in
+    let lines : lines_behind (texts_of_lines (first.cut ++ second.cut)) ≡ texts_of_lines second.cut = session_read texts behind second.rest first.cut second.cut first.lines second.served first.session in
     record {
       cut = first.cut ++ second.cut;
       held = front ++ held;
       served = subst (HasServed bytes (first.cut ++ second.cut)) same served;
       few = rw count second.few;
-      settled = subst (λ rest. AreSettled (ending_of ended) (lines_behind (texts_of (first.cut ++ second.cut))) rest blocks others) same
+      settled = subst (λ rest. AreSettled (ending_of ended) (lines_behind (texts_of_lines (first.cut ++ second.cut))) rest blocks others) same
           (subst (λ ls. AreSettled (ending_of ended) ls second.rest blocks others) (sym lines) second.settled);
       limit = subst (λ rest. IsAtLimit ended (length (first.cut ++ second.cut)) rest) same (subst (λ n. IsAtLimit ended n second.rest) (sym count) second.limit);
     }
@@ -204,7 +197,7 @@ whole_session ended None None held None texts blocks others first second = refl
 -- at the end of the source all of its blocks were served
 pub all_served : (bytes left : List ℕ) (blocks others : List Block) → HasRead bytes left blocks others Done → blocks_of (lines_behind (lines_of bytes)) ≡ blocks
 all_served bytes left blocks others read =
-    let lines : lines_of bytes ≡ texts_of read.cut =
+    let lines : lines_of bytes ≡ texts_of_lines read.cut =
     ap (map (λ (l : CutLine). l.text)) read.served.cut ∙ texts_twice read.cut (cut_lines (read.held ++ left))
-    ∙ ap (λ (ts : List (List ℕ)). texts_of read.cut ++ ts) (no_lines (read.held ++ left) read.settled.0) ∙ append-nil (texts_of read.cut) in
+    ∙ ap (λ (ts : List (List ℕ)). texts_of_lines read.cut ++ ts) (no_lines (read.held ++ left) read.settled.0) ∙ append-nil (texts_of_lines read.cut) in
     ap (λ (ls : List (List ℕ)). blocks_of (lines_behind ls)) lines ∙ read.settled.1

@@ -2,18 +2,18 @@
 use Rattle.std.proofs.Common.{◌≡◌, ◌≢◌, ◌⊎◌, ℕ, ◌+◌, ◌≤◌, ◌<◌, Bool, true, false, List, [], ◌∷◌, ◌++◌, length, sym, ◌∙◌, ap, subst, refl, arith, append_assoc, length-append, inl, inr}
 use Rattle.std.proofs.lemmas.List.{append-nil}
 use Rattle.std.specs.Prelude.{Option, Some, None, IfSome, MatchOption}
-use Rattle.model_session.specs.Standing.{Setting, SessionState}
+use Rattle.model_session.specs.SessionState.{Setting, SessionState}
 use Rattle.model_session.specs.declared.asked.ImageRefused.{ImageRefused}
-use Rattle.model_session.specs.Blocks.{Block, blocks_of, blocks_behind, closed}
+use Rattle.model_session.specs.Blocks.{Block, blocks_of, blocks_behind, closed_blocks}
 use Rattle.tm_edge.specs.Fault.{HasRisen}
-use Rattle.tm_edge.specs.Lines.{CutLine, IsTooLong, ServesTold, line_size}
+use Rattle.tm_edge.specs.Lines.{CutLine, IsLineTooLong, ServesTold, line_size}
 use Rattle.tm_edge.proofs.ServedSoFar.{none_served, one_served}
 use Rattle.tm_session.specs.declared.outcome.Ended.{Ended}
 use Rattle.tm_session.specs.declared.outcome.Ended.TheVariants.{Done, Words, BadLine, BadCross, Down, Read, Write, Image, Memory, Limit, Spent}
-use Rattle.tm_session.specs.Outcome.{ending_of, texts_of, is_undone, UndoneAs, AreSettled, IsLimit, IsAtLimit, IsBack, IsReadToEnd, HasCause}
+use Rattle.tm_session.specs.Outcome.{ending_of, texts_of_lines, is_undone, UndoneAs, AreSettled, IsLimit, IsAtLimit, IsTextBack, IsReadToEnd, HasCause}
 use Rattle.tm_session.specs.Outcome.Ending.{Whole, Stopped, NotBegun}
-use Rattle.tm_session.specs.Unread.{IsUnread}
-use Rattle.tm_session.specs.Driving.{Stops, Goes, Ends, EndsWhole, IsBroken, AreClosed, ahead_with, kept_blocks, may_pass, IsBehind, behind_last, StopsBetween, StopsAt, StopsWhole, StopsLast, StopsHere, Steps, ReadSoFar, SoFar, ReadsTold, HasDriven}
+use Rattle.tm_session.specs.UnreadLine.{IsUnread}
+use Rattle.tm_session.specs.DrivenSession.{Stops, SessionGoes, SessionEnds, EndsWhole, IsSessionBroken, AreClosed, ahead_with, kept_blocks, may_pass, IsTextBehind, behind_last, StopsBetween, StopsAt, StopsWhole, StopsLast, StopsHere, SessionSteps, ReadSoFar, SoFar, ReadsTold, HasDriven}
 use Rattle.tm_session.proofs.Driven.{serves_none, serves_twice, serves_stops, stops_none}
 use Rattle.tm_session.proofs.Steps.{open_last, few_ahead, few_closed}
 use Rattle.tm_session.proofs.Taking.{back_same, back_served}
@@ -22,8 +22,8 @@ use Rattle.tm_session.proofs.Taking.{back_same, back_served}
 
 pub next_step : (setting : Setting) (result : Option Ended) (told told' : Option (List ℕ)) (pending after : Option Block) (line : List ℕ) (w w' : Option (List ℕ)) (a b : SessionState)
     → ServesTold told (Some line) told'
-    → MatchOption result (Goes setting pending line after w w' a b) (λ ended. Ends setting ended pending line w w' a b)
-    → MatchOption result (Steps setting told told' pending after w w' a b) (λ ended. (count : ℕ) → count < 1000000 → StopsHere setting count ended told told' pending w w' a b)
+    → MatchOption result (SessionGoes setting pending line after w w' a b) (λ ended. SessionEnds setting ended pending line w w' a b)
+    → MatchOption result (SessionSteps setting told told' pending after w w' a b) (λ ended. (count : ℕ) → count < 1000000 → StopsHere setting count ended told told' pending w w' a b)
 next_step setting None told told' pending after line w w' a b serves step = record { line = line; read = serves; goes = step }
 next_step setting (Some ended) told told' pending after line w w' a b serves step = λ count below. inr (record { line = line; read = serves; ends = step })
 
@@ -37,7 +37,7 @@ none_at : (told : Option (List ℕ)) → IfSome told (λ rest. Unit {0})
 none_at (Some rest) = tt
 none_at None = tt
 
-too_long_at : (n count : ℕ) (told : Option (List ℕ)) → n ≡ 4097 → count < 1000000 → IfSome told IsTooLong → IfSome told (λ rest. IsLimit n count rest)
+too_long_at : (n count : ℕ) (told : Option (List ℕ)) → n ≡ 4097 → count < 1000000 → IfSome told IsLineTooLong → IfSome told (λ rest. IsLimit n count rest)
 too_long_at n count (Some rest) number below long = inl (number, below, long)
 too_long_at n count None number below long = tt
 
@@ -60,11 +60,11 @@ some_bytes : (bytes : List ℕ) → 0 < length bytes → bytes ≢ []
 some_bytes [] h = absurd (omega (arith, h))
 some_bytes (b ∷ bytes) h = λ e. cc
 
-long_bytes : (bytes : List ℕ) → IsTooLong bytes → bytes ≢ []
+long_bytes : (bytes : List ℕ) → IsLineTooLong bytes → bytes ≢ []
 long_bytes [] long = absurd (omega (arith, long))
 long_bytes (b ∷ bytes) long = λ e. cc
 
-past_at : (told : Option (List ℕ)) → IfSome told IsTooLong → IfSome told (λ rest. IsLimit 1000001 1000000 rest)
+past_at : (told : Option (List ℕ)) → IfSome told IsLineTooLong → IfSome told (λ rest. IsLimit 1000001 1000000 rest)
 past_at (Some rest) long = inr (refl, refl, long_bytes rest long)
 past_at None long = tt
 
@@ -180,20 +180,20 @@ undone_cases P (Words word rule) undone memory spent image = cc
 undone_cases P (BadLine line rule) undone memory spent image = cc
 undone_cases P (BadCross line rule) undone memory spent image = cc
 
-broken_cases : (P : Ended → Type 0) (ended : Ended) → IsBroken ended → P Write → P Memory → P Spent → ((refusal : ImageRefused) → P (Image refusal)) → P ended
+broken_cases : (P : Ended → Type 0) (ended : Ended) → IsSessionBroken ended → P Write → P Memory → P Spent → ((refusal : ImageRefused) → P (Image refusal)) → P ended
 broken_cases P ended (inl same) write memory spent image = subst P (sym same) write
 broken_cases P ended (inr undone) write memory spent image = undone_cases P ended undone memory spent image
 
-pub broken_whole : (ended : Ended) (left : Option (List ℕ)) → IsBroken ended → IsReadToEnd ended left
+pub broken_whole : (ended : Ended) (left : Option (List ℕ)) → IsSessionBroken ended → IsReadToEnd ended left
 broken_whole ended left broken = broken_cases (λ s. IsReadToEnd s left) ended broken tt tt tt (λ refusal. tt)
 
-pub broken_unread : (ended : Option Ended) (left : Option (List ℕ)) → IfSome ended IsBroken → IfSome ended (λ ended. IsReadToEnd ended left)
+pub broken_unread : (ended : Option Ended) (left : Option (List ℕ)) → IfSome ended IsSessionBroken → IfSome ended (λ ended. IsReadToEnd ended left)
 broken_unread None left broken = tt
 broken_unread (Some ended) left broken = broken_whole ended left broken
 
 -- ---- a session so far
 
-pub texts_twice : (cut more : List CutLine) → texts_of (cut ++ more) ≡ texts_of cut ++ texts_of more
+pub texts_twice : (cut more : List CutLine) → texts_of_lines (cut ++ more) ≡ texts_of_lines cut ++ texts_of_lines more
 texts_twice [] more = refl
 texts_twice (line ∷ cut) more = ap (λ texts. line.text ∷ texts) (texts_twice cut more)
 
@@ -205,11 +205,11 @@ pub so_far_start : (setting : Setting) (before : ℕ) (told w : Option (List ℕ
 so_far_start setting before told w a = record { blocks = []; serves = serves_none setting w a; read = read_start before told; shut = refl; few = omega arith }
 
 split_line : (cut : List CutLine) (line : List ℕ) (size : ℕ) (pending : Option Block) (blocks : List Block) (lines : List (List ℕ))
-    → ((more : List (List ℕ)) → blocks_of (texts_of cut ++ more) ≡ blocks ++ blocks_behind pending (blocks_of more))
-    → blocks_of (texts_of (cut ++ record { text = line; size = size } ∷ []) ++ lines) ≡ blocks ++ ahead_with pending line (blocks_of lines)
+    → ((more : List (List ℕ)) → blocks_of (texts_of_lines cut ++ more) ≡ blocks ++ blocks_behind pending (blocks_of more))
+    → blocks_of (texts_of_lines (cut ++ record { text = line; size = size } ∷ []) ++ lines) ≡ blocks ++ ahead_with pending line (blocks_of lines)
 split_line cut line size pending blocks lines split =
     ap (λ texts. blocks_of (texts ++ lines)) (texts_twice cut (record { text = line; size = size } ∷ []))
-    ∙ ap blocks_of (append_assoc (texts_of cut) (line ∷ []) lines) ∙ split (line ∷ lines)
+    ∙ ap blocks_of (append_assoc (texts_of_lines cut) (line ∷ []) lines) ∙ split (line ∷ lines)
 
 read_next : (before count : ℕ) (told now after : Option (List ℕ)) (line : List ℕ) (p q : Option Block) (xs ys : List Block) → ReadSoFar before count told now p xs
     → ServesTold now (Some line) after → ((behind : List Block) → ahead_with p line behind ≡ ys ++ blocks_behind q behind)
@@ -232,7 +232,7 @@ few_next before count line p q xs ys few split =
     omega (arith, few, length-append xs ys, few_ahead p line, ap (λ (bs : List Block). length bs) split, length-append ys (kept_blocks q))
 
 pub so_far_next : (setting : Setting) (before count : ℕ) (told now after : Option (List ℕ)) (p q : Option Block) (w w1 w2 : Option (List ℕ)) (a b c : SessionState)
-    → SoFar setting before count told now p w w1 a b → Steps setting now after p q w1 w2 b c → SoFar setting before (count + 1) told after q w w2 a c
+    → SoFar setting before count told now p w w1 a b → SessionSteps setting now after p q w1 w2 b c → SoFar setting before (count + 1) told after q w w2 a c
 so_far_next setting before count told now after p q w w1 w2 a b c far one = record {
   blocks = far.blocks ++ one.goes.blocks;
   serves = serves_twice setting far.blocks one.goes.blocks w w1 w2 a b c far.serves one.goes.serves;
@@ -245,17 +245,17 @@ so_far_next setting before count told now after p q w w1 w2 a b c far one = reco
 
 -- all blocks of the lines that were read
 all_blocks : (cut : List CutLine) (pending : Option Block) (blocks : List Block)
-    → ((more : List (List ℕ)) → blocks_of (texts_of cut ++ more) ≡ blocks ++ blocks_behind pending (blocks_of more))
-    → blocks_of (texts_of cut) ≡ blocks ++ kept_blocks pending
-all_blocks cut pending blocks split = ap blocks_of (sym (append-nil (texts_of cut))) ∙ split []
+    → ((more : List (List ℕ)) → blocks_of (texts_of_lines cut ++ more) ≡ blocks ++ blocks_behind pending (blocks_of more))
+    → blocks_of (texts_of_lines cut) ≡ blocks ++ kept_blocks pending
+all_blocks cut pending blocks split = ap blocks_of (sym (append-nil (texts_of_lines cut))) ∙ split []
 
 -- just the closed ones were served
-closed_kept : (pending : Option Block) (blocks : List Block) → AreClosed pending blocks → closed (blocks ++ kept_blocks pending) ≡ blocks
+closed_kept : (pending : Option Block) (blocks : List Block) → AreClosed pending blocks → closed_blocks (blocks ++ kept_blocks pending) ≡ blocks
 closed_kept (Some block) blocks takes = open_last blocks block takes
-closed_kept None blocks shut = ap closed (append-nil blocks) ∙ shut
+closed_kept None blocks shut = ap closed_blocks (append-nil blocks) ∙ shut
 
 stopped_settled : (ended : Ended) (lines : List (List ℕ)) (rest : List ℕ) (blocks : List Block) → (ending_of ended ≡ Stopped) ⊎ (ended ≡ Memory)
-    → closed (blocks_of lines) ≡ blocks → AreSettled (ending_of ended) lines rest blocks []
+    → closed_blocks (blocks_of lines) ≡ blocks → AreSettled (ending_of ended) lines rest blocks []
 stopped_settled ended lines rest blocks (inl stopped) same = subst (λ k. AreSettled k lines rest blocks []) (sym stopped) (same, refl)
 stopped_settled ended lines rest blocks (inr memory) same = subst (λ s. AreSettled (ending_of s) lines rest blocks []) (sym memory) (inl (same ∙ sym (append-nil blocks)))
 
@@ -279,17 +279,17 @@ stopped_cause Spent setting last (inr memory) = cc
 stopped_cause (Image refusal) setting last (inl stopped) = cc
 stopped_cause (Image refusal) setting last (inr memory) = cc
 
-broken_begun : (ended : Ended) → IsBroken ended → ending_of ended ≢ NotBegun
+broken_begun : (ended : Ended) → IsSessionBroken ended → ending_of ended ≢ NotBegun
 broken_begun ended broken = broken_cases (λ s. ending_of s ≢ NotBegun) ended broken (λ e. cc) (λ e. cc) (λ e. cc) (λ refusal e. cc)
 
 stopped_up : (ended : Ended) → (ending_of ended ≡ Stopped) ⊎ (ended ≡ Memory) → ended ≢ Down
 stopped_up ended (inl stopped) = λ e. let never : Whole ≡ Stopped = sym (ap ending_of e) ∙ stopped in cc
 stopped_up ended (inr memory) = λ e. let never : Memory ≡ Down = sym memory ∙ e in cc
 
-broken_up : (ended : Ended) → IsBroken ended → ended ≢ Down
+broken_up : (ended : Ended) → IsSessionBroken ended → ended ≢ Down
 broken_up ended broken = broken_cases (λ s. s ≢ Down) ended broken (λ e. cc) (λ e. cc) (λ e. cc) (λ refusal e. cc)
 
-pub told_behind : (past : Bool) (rest : List ℕ) (told' : Option (List ℕ)) → IsBehind past (Some rest) told' → IsBack (Some rest) told'
+pub told_behind : (past : Bool) (rest : List ℕ) (told' : Option (List ℕ)) → IsTextBehind past (Some rest) told' → IsTextBack (Some rest) told'
 told_behind true rest told' h = h
 told_behind false rest told' h = back_same (Some rest) told' h
 
@@ -301,7 +301,7 @@ between_read before count (Some bytes) (Some rest) (Some left) pending w w' a b 
   rest = rest;
   served = far.served;
   few = omega (arith, far.counted);
-  settled = stopped_settled ended (texts_of far.cut) rest blocks stops.stopped (ap closed (all_blocks far.cut pending blocks far.split) ∙ closed_kept pending blocks shut);
+  settled = stopped_settled ended (texts_of_lines far.cut) rest blocks stops.stopped (ap closed_blocks (all_blocks far.cut pending blocks far.split) ∙ closed_kept pending blocks shut);
   limit = subst (λ n. IsAtLimit ended n rest) (sym far.counted) stops.limit;
   behind = stops.behind;
 }
@@ -309,14 +309,14 @@ between_read before count (Some bytes) (Some rest) None pending w w' a b blocks 
 between_read before count (Some bytes) None told' pending w w' a b blocks ended far shut few stops = absurd far
 between_read before count None now told' pending w w' a b blocks ended far shut few stops = untold (may_pass ended) now told' far stops.behind
   where
-    untold : (past : Bool) (now told' : Option (List ℕ)) → now ≡ None → IsBehind past now told' → told' ≡ None
+    untold : (past : Bool) (now told' : Option (List ℕ)) → now ≡ None → IsTextBehind past now told' → told' ≡ None
     untold true None told' none h = h
     untold true (Some rest) told' none h = cc
     untold false now told' none h = h ∙ none
 
 whole_settled : (ended : Ended) (lines : List (List ℕ)) (rest : List ℕ) (pending : Option Block) (served blocks others : List Block) → rest ≡ []
     → blocks_of lines ≡ served ++ kept_blocks pending
-    → ((ended ≡ Done) × (kept_blocks pending ≡ blocks) × (others ≡ [])) ⊎ (IsBroken ended × (kept_blocks pending ≡ blocks ++ others))
+    → ((ended ≡ Done) × (kept_blocks pending ≡ blocks) × (others ≡ [])) ⊎ (IsSessionBroken ended × (kept_blocks pending ≡ blocks ++ others))
     → AreSettled (ending_of ended) lines rest (served ++ blocks) others
 whole_settled ended lines rest pending served blocks others none all (inl (done, kept, no_others)) =
     subst (λ s. AreSettled (ending_of s) lines rest (served ++ blocks) others) (sym done) (none, all ∙ ap (λ bs. served ++ bs) kept, no_others)
@@ -325,7 +325,7 @@ whole_settled ended lines rest pending served blocks others none all (inr (broke
     broken_cases (λ s. AreSettled (ending_of s) lines rest (served ++ blocks) others) ended broken (inr (none, front)) (inr (none, front)) (inr (none, front)) (λ refusal. inr (none, front))
 
 whole_cases : (P : Ended → Type 0) (ended : Ended) (pending : Option Block) (blocks others : List Block)
-    → ((ended ≡ Done) × (kept_blocks pending ≡ blocks) × (others ≡ [])) ⊎ (IsBroken ended × (kept_blocks pending ≡ blocks ++ others)) → P Done → P Write → P Memory → P Spent → ((refusal : ImageRefused) → P (Image refusal)) → P ended
+    → ((ended ≡ Done) × (kept_blocks pending ≡ blocks) × (others ≡ [])) ⊎ (IsSessionBroken ended × (kept_blocks pending ≡ blocks ++ others)) → P Done → P Write → P Memory → P Spent → ((refusal : ImageRefused) → P (Image refusal)) → P ended
 whole_cases P ended pending blocks others (inl (done, kept, none)) first write memory spent image = subst P (sym done) first
 whole_cases P ended pending blocks others (inr (broken, kept)) first write memory spent image = broken_cases P ended broken write memory spent image
 
@@ -340,11 +340,11 @@ whole_read setting before count (Some bytes) (Some rest) (Some left) pending w w
   rest = rest;
   served = far.served;
   few = omega (arith, far.counted);
-  settled = whole_settled ended (texts_of far.cut) rest pending served ends.blocks ends.others serves.0 (all_blocks far.cut pending served far.split) ends.settled;
+  settled = whole_settled ended (texts_of_lines far.cut) rest pending served ends.blocks ends.others serves.0 (all_blocks far.cut pending served far.split) ends.settled;
   limit = whole_of setting (λ s. IsAtLimit s (before + length far.cut) rest) ended pending w w' a b ends tt tt tt tt (λ refusal. tt);
   behind =
       let same : Some left ≡ Some rest = ap Some (serves.1 ∙ sym serves.0) in
-      whole_of setting (λ s. IsBehind (may_pass s) (Some rest) (Some left)) ended pending w w' a b ends same same same same (λ refusal. same);
+      whole_of setting (λ s. IsTextBehind (may_pass s) (Some rest) (Some left)) ended pending w w' a b ends same same same same (λ refusal. same);
 }
 whole_read setting before count (Some bytes) (Some rest) None pending w w' a b served ended far few serves ends = absurd serves
 whole_read setting before count (Some bytes) None told' pending w w' a b served ended far few serves ends = absurd far
@@ -352,22 +352,22 @@ whole_read setting before count None None told' pending w w' a b served ended fa
 whole_read setting before count None (Some rest) told' pending w w' a b served ended far few serves ends = cc
 
 broken_read : (setting : Setting) (before count : ℕ) (told now told' : Option (List ℕ)) (pending : Option Block) (line : List ℕ) (w w' : Option (List ℕ)) (a b : SessionState) (served : List Block) (ended : Ended)
-    → ReadSoFar before count told now pending served → count < 1000000 → ServesTold now (Some line) told' → (ends : Ends setting ended pending line w w' a b)
+    → ReadSoFar before count told now pending served → count < 1000000 → ServesTold now (Some line) told' → (ends : SessionEnds setting ended pending line w w' a b)
     → ReadsTold before told told' (served ++ ends.blocks) ends.others ended
 broken_read setting before count (Some bytes) (Some rest) (Some left) pending line w w' a b served ended far below serves ends =
     let cut : List CutLine = far.cut ++ record { text = line; size = line_size rest } ∷ [] in
-    let all : blocks_of (texts_of cut) ≡ served ++ ahead_with pending line [] =
-    ap blocks_of (sym (append-nil (texts_of cut))) ∙ split_line far.cut line (line_size rest) pending served [] far.split in
-    let front : closed (blocks_of (texts_of cut)) ≡ (served ++ ends.blocks) ++ ends.others =
-    ap closed all ∙ ends.front served ∙ sym (append_assoc served ends.blocks ends.others) in
+    let all : blocks_of (texts_of_lines cut) ≡ served ++ ahead_with pending line [] =
+    ap blocks_of (sym (append-nil (texts_of_lines cut))) ∙ split_line far.cut line (line_size rest) pending served [] far.split in
+    let front : closed_blocks (blocks_of (texts_of_lines cut)) ≡ (served ++ ends.blocks) ++ ends.others =
+    ap closed_blocks all ∙ ends.front served ∙ sym (append_assoc served ends.blocks ends.others) in
     record {
       cut = cut;
       rest = left;
       served = one_served bytes far.cut rest line left far.served serves;
       few = rw (length-append far.cut (record { text = line; size = line_size rest } ∷ [])) (omega (arith, far.counted));
-      settled = broken_cases (λ s. AreSettled (ending_of s) (texts_of cut) left (served ++ ends.blocks) ends.others) ended ends.broken (inl front) (inl front) (inl front) (λ refusal. inl front);
+      settled = broken_cases (λ s. AreSettled (ending_of s) (texts_of_lines cut) left (served ++ ends.blocks) ends.others) ended ends.broken (inl front) (inl front) (inl front) (λ refusal. inl front);
       limit = broken_cases (λ s. IsAtLimit s (before + length cut) left) ended ends.broken tt tt tt (λ refusal. tt);
-      behind = broken_cases (λ s. IsBehind (may_pass s) (Some left) (Some left)) ended ends.broken refl refl refl (λ refusal. refl);
+      behind = broken_cases (λ s. IsTextBehind (may_pass s) (Some left) (Some left)) ended ends.broken refl refl refl (λ refusal. refl);
     }
 broken_read setting before count (Some bytes) (Some rest) None pending line w w' a b served ended far below serves ends = absurd serves
 broken_read setting before count (Some bytes) None told' pending line w w' a b served ended far below serves ends = absurd far
@@ -375,12 +375,12 @@ broken_read setting before count None None told' pending line w w' a b served en
 broken_read setting before count None (Some rest) told' pending line w w' a b served ended far below serves ends = cc
 
 module _ (setting : Setting) (before count : ℕ) (told now told' : Option (List ℕ)) (pending : Option Block) (w w1 w2 : Option (List ℕ)) (a b c : SessionState) (ended : Ended) (far : SoFar setting before count told now pending w w1 a b) where
-  whole_few : (blocks others : List Block) → ((ended ≡ Done) × (kept_blocks pending ≡ blocks) × (others ≡ [])) ⊎ (IsBroken ended × (kept_blocks pending ≡ blocks ++ others))
+  whole_few : (blocks others : List Block) → ((ended ≡ Done) × (kept_blocks pending ≡ blocks) × (others ≡ [])) ⊎ (IsSessionBroken ended × (kept_blocks pending ≡ blocks ++ others))
       → length blocks ≤ length (kept_blocks pending)
   whole_few blocks others (inl (done, kept, none)) = omega (arith, ap (λ (bs : List Block). length bs) kept)
   whole_few blocks others (inr (broken, kept)) = omega (arith, ap (λ (bs : List Block). length bs) kept, length-append blocks others)
 
-  broken_few : (line : List ℕ) (blocks others : List Block) → closed (ahead_with pending line []) ≡ blocks ++ others → length blocks ≤ length (kept_blocks pending) + 1
+  broken_few : (line : List ℕ) (blocks others : List Block) → closed_blocks (ahead_with pending line []) ≡ blocks ++ others → length blocks ≤ length (kept_blocks pending) + 1
   broken_few line blocks others front =
       omega (arith, ap (λ (bs : List Block). length bs) front, length-append blocks others, few_closed (ahead_with pending line []), few_ahead pending line)
 

@@ -7,40 +7,41 @@ use Rattle.std.specs.Str.{bytes_eq}
 use Rattle.std.proofs.lemmas.Slice.Eq.{bytes_eq-Decides}
 use Rattle.text_rows.specs.Lines.{is_passed_over}
 use Rattle.tm_types.specs.Words.{first_word}
-use Rattle.model_session.specs.Standing.{Setting, SessionState}
-use Rattle.model_session.specs.Blocks.{Block, alone, and_field, and_line, and_text, is_further, is_screen, takes_further, open_before, line_before, blocks_behind, closed}
+use Rattle.model_session.specs.SessionState.{Setting, SessionState}
+use Rattle.model_session.specs.Blocks.{Block, block_alone, and_line, is_further, takes_further, open_before, line_before, blocks_behind, closed_blocks}
 use Rattle.tm_session.specs.declared.outcome.Ended.{Ended}
 use Rattle.tm_session.specs.declared.outcome.Ended.TheVariants.{Done, Memory}
-use Rattle.tm_session.specs.Driving.{Serves, FailsAt, Goes, Ends, EndsWhole, AreClosed, IsOpen, line_blocks, ahead_with, kept_blocks}
+use Rattle.tm_session.specs.DrivenSession.{ServesBlocks, FailsAt, SessionGoes, SessionEnds, EndsWhole, AreClosed, IsBlockOpen, line_blocks, ahead_with, kept_blocks}
 use Rattle.tm_session.proofs.Driven.{serves_none, serves_twice, serves_stops, stops_none, stops_served}
+use Rattle.session_lines.proofs.Enough.{line_stays}
 
-choose : {A : Type 0} (b : Bool) (x y : A) → b ≡ true → (if b then x else y) ≡ x
+pub choose : {A : Type 0} (b : Bool) (x y : A) → b ≡ true → (if b then x else y) ≡ x
 choose true x y e = refl
 choose false x y e = cc
 
-other : {A : Type 0} (b : Bool) (x y : A) → b ≡ false → (if b then x else y) ≡ y
+pub other : {A : Type 0} (b : Bool) (x y : A) → b ≡ false → (if b then x else y) ≡ y
 other true x y e = cc
 other false x y e = refl
 
 -- ---- closed blocks
 
 -- the last blocks alone tell what is closed
-closed_behind : (blocks : List Block) (block : Block) (more : List Block) → closed (blocks ++ block ∷ more) ≡ blocks ++ closed (block ∷ more)
+closed_behind : (blocks : List Block) (block : Block) (more : List Block) → closed_blocks (blocks ++ block ∷ more) ≡ blocks ++ closed_blocks (block ∷ more)
 closed_behind [] block more = refl
 closed_behind (first ∷ []) block more = refl
 closed_behind (first ∷ second ∷ blocks) block more = ap (λ bs. first ∷ bs) (closed_behind (second ∷ blocks) block more)
 
-shut : (block : Block) → takes_further block.line ≡ false → closed (block ∷ []) ≡ block ∷ []
+shut : (block : Block) → takes_further block.line ≡ false → closed_blocks (block ∷ []) ≡ block ∷ []
 shut block plain = other (takes_further block.line) [] (block ∷ []) plain
 
-still_open : (block : Block) → takes_further block.line ≡ true → closed (block ∷ []) ≡ []
+still_open : (block : Block) → takes_further block.line ≡ true → closed_blocks (block ∷ []) ≡ []
 still_open block takes = choose (takes_further block.line) [] (block ∷ []) takes
 
 -- a last block that takes no `+` line is closed, and one that does is not
-pub closed_last : (blocks : List Block) (block : Block) → takes_further block.line ≡ false → closed (blocks ++ block ∷ []) ≡ blocks ++ block ∷ []
+pub closed_last : (blocks : List Block) (block : Block) → takes_further block.line ≡ false → closed_blocks (blocks ++ block ∷ []) ≡ blocks ++ block ∷ []
 closed_last blocks block plain = closed_behind blocks block [] ∙ ap (λ bs. blocks ++ bs) (shut block plain)
 
-pub open_last : (blocks : List Block) (block : Block) → takes_further block.line ≡ true → closed (blocks ++ block ∷ []) ≡ blocks
+pub open_last : (blocks : List Block) (block : Block) → takes_further block.line ≡ true → closed_blocks (blocks ++ block ∷ []) ≡ blocks
 open_last blocks block takes = closed_behind blocks block [] ∙ ap (λ bs. blocks ++ bs) (still_open block takes) ∙ append-nil blocks
 
 -- ---- a line alone
@@ -48,62 +49,55 @@ open_last blocks block takes = closed_behind blocks block [] ∙ ap (λ bs. bloc
 not_passed : (line : List ℕ) (behind : List Block) → is_passed_over line ≡ false → line_blocks line behind ≡ line_before line behind
 not_passed line behind seen = other (is_passed_over line) behind (line_before line behind) seen
 
-before_open : (line : List ℕ) (behind : List Block) → is_passed_over line ≡ false → takes_further line ≡ true → line_blocks line behind ≡ open_before (alone line) behind
-before_open line behind seen takes = not_passed line behind seen ∙ choose (takes_further line) (open_before (alone line) behind) (alone line ∷ behind) takes
+before_open : (line : List ℕ) (behind : List Block) → is_passed_over line ≡ false → takes_further line ≡ true → line_blocks line behind ≡ open_before (block_alone line) behind
+before_open line behind seen takes = not_passed line behind seen ∙ choose (takes_further line) (open_before (block_alone line) behind) (block_alone line ∷ behind) takes
 
-before_alone : (line : List ℕ) (behind : List Block) → is_passed_over line ≡ false → takes_further line ≡ false → line_blocks line behind ≡ alone line ∷ behind
-before_alone line behind seen plain = not_passed line behind seen ∙ other (takes_further line) (open_before (alone line) behind) (alone line ∷ behind) plain
+before_alone : (line : List ℕ) (behind : List Block) → is_passed_over line ≡ false → takes_further line ≡ false → line_blocks line behind ≡ block_alone line ∷ behind
+before_alone line behind seen plain = not_passed line behind seen ∙ other (takes_further line) (open_before (block_alone line) behind) (block_alone line ∷ behind) plain
 
 pub goes_open : (setting : Setting) (line : List ℕ) (w : Option (List ℕ)) (a : SessionState) → is_passed_over line ≡ false → takes_further line ≡ true
-    → Goes setting None line (Some (alone line)) w w a a
+    → SessionGoes setting None line (Some (block_alone line)) w w a a
 goes_open setting line w a seen takes =
     record { blocks = []; split = λ behind. before_open line behind seen takes; shut = λ served h. takes; serves = serves_none setting w a }
 
 pub goes_alone : (setting : Setting) (line : List ℕ) (w w' : Option (List ℕ)) (a b : SessionState) → is_passed_over line ≡ false → takes_further line ≡ false
-    → Serves setting (alone line ∷ []) w w' a b → Goes setting None line None w w' a b
+    → ServesBlocks setting (block_alone line ∷ []) w w' a b → SessionGoes setting None line None w w' a b
 goes_alone setting line w w' a b seen plain serves = record {
-  blocks = alone line ∷ [];
+  blocks = block_alone line ∷ [];
   split = λ behind. before_alone line behind seen plain;
-  shut = λ served h. closed_last served (alone line) plain;
+  shut = λ served h. closed_last served (block_alone line) plain;
   serves = serves;
 }
 
 alone_front : (line : List ℕ) (served : List Block) → is_passed_over line ≡ false → takes_further line ≡ false
-    → closed (served ++ ahead_with None line []) ≡ served ++ alone line ∷ []
-alone_front line served seen plain = ap (λ bs. closed (served ++ bs)) (before_alone line [] seen plain) ∙ closed_last served (alone line) plain
+    → closed_blocks (served ++ ahead_with None line []) ≡ served ++ block_alone line ∷ []
+alone_front line served seen plain = ap (λ bs. closed_blocks (served ++ bs)) (before_alone line [] seen plain) ∙ closed_last served (block_alone line) plain
 
 pub ends_alone : (setting : Setting) (ended : Ended) (line : List ℕ) (w w' : Option (List ℕ)) (a b : SessionState) → is_passed_over line ≡ false → takes_further line ≡ false
-    → FailsAt setting ended (alone line) w w' a b → Ends setting ended None line w w' a b
+    → FailsAt setting ended (block_alone line) w w' a b → SessionEnds setting ended None line w w' a b
 ends_alone setting ended line w w' a b seen plain (inl f) =
-    subst (λ s. Ends setting s None line w w' a b) (sym f.writing)
-    (record { broken = inl refl; blocks = alone line ∷ []; others = []; front = λ served. alone_front line served seen plain; stops = f.stops [] })
+    subst (λ s. SessionEnds setting s None line w w' a b) (sym f.writing)
+    (record { broken = inl refl; blocks = block_alone line ∷ []; others = []; front = λ served. alone_front line served seen plain; stops = f.stops [] })
 ends_alone setting ended line w w' a b seen plain (inr f) =
-    record { broken = inr f.undone; blocks = []; others = alone line ∷ []; front = λ served. alone_front line served seen plain; stops = f.stops [] }
+    record { broken = inr f.undone; blocks = []; others = block_alone line ∷ []; front = λ served. alone_front line served seen plain; stops = f.stops [] }
 
 -- a block that is the line alone
 pub alone_step : (setting : Setting) (result : Option Ended) (line : List ℕ) (block : Block) (pending : Option Block) (w w' : Option (List ℕ)) (a b : SessionState)
-    → is_passed_over line ≡ false → takes_further line ≡ false → block ≡ alone line → pending ≡ None
-    → MatchOption result (Serves setting (block ∷ []) w w' a b) (λ ended. FailsAt setting ended block w w' a b)
-    → MatchOption result (Goes setting None line pending w w' a b) (λ ended. Ends setting ended None line w w' a b)
+    → is_passed_over line ≡ false → takes_further line ≡ false → block ≡ block_alone line → pending ≡ None
+    → MatchOption result (ServesBlocks setting (block ∷ []) w w' a b) (λ ended. FailsAt setting ended block w w' a b)
+    → MatchOption result (SessionGoes setting None line pending w w' a b) (λ ended. SessionEnds setting ended None line w w' a b)
 alone_step setting None line block pending w w' a b seen plain is none step =
-    subst (λ p. Goes setting None line p w w' a b) (sym none) (goes_alone setting line w w' a b seen plain (subst (λ x. Serves setting (x ∷ []) w w' a b) is step))
+    subst (λ p. SessionGoes setting None line p w w' a b) (sym none) (goes_alone setting line w w' a b seen plain (subst (λ x. ServesBlocks setting (x ∷ []) w w' a b) is step))
 alone_step setting (Some ended) line block pending w w' a b seen plain is none step =
     ends_alone setting ended line w w' a b seen plain (subst (λ x. FailsAt setting ended x w w' a b) is step)
 
-pub open_step : (setting : Setting) (line : List ℕ) (block : Block) (w : Option (List ℕ)) (a : SessionState) → is_passed_over line ≡ false → takes_further line ≡ true → block ≡ alone line
-    → Goes setting None line (Some block) w w a a
-open_step setting line block w a seen takes is = subst (λ x. Goes setting None line (Some x) w w a a) (sym is) (goes_open setting line w a seen takes)
+pub open_step : (setting : Setting) (line : List ℕ) (block : Block) (w : Option (List ℕ)) (a : SessionState) → is_passed_over line ≡ false → takes_further line ≡ true → block ≡ block_alone line
+    → SessionGoes setting None line (Some block) w w a a
+open_step setting line block w a seen takes is = subst (λ x. SessionGoes setting None line (Some x) w w a a) (sym is) (goes_open setting line w a seen takes)
 
 -- ---- a line behind one that may take `+` lines
 
--- a line with one more `+` line stays the same
-line_stays : (block : Block) (line : List ℕ) → (and_line block line).line ≡ block.line
-line_stays block line = by (is_screen block.line) where
-  by : (b : Bool) → (if b then and_field block line else and_text block line).line ≡ block.line
-  by true = refl
-  by false = refl
-
-pub stays_open : (block : Block) (line : List ℕ) → IsOpen block → IsOpen (and_line block line)
+pub stays_open : (block : Block) (line : List ℕ) → IsBlockOpen block → IsBlockOpen (and_line block line)
 stays_open block line takes = ap takes_further (line_stays block line) ∙ takes
 
 -- a `+` line takes none
@@ -114,20 +108,20 @@ longer : (block : Block) (line : List ℕ) (behind : List Block) → is_passed_o
     → ahead_with (Some block) line behind ≡ open_before (and_line block line) behind
 longer block line behind seen plus =
     ap (open_before block) (before_alone line behind seen (further_takes line plus))
-    ∙ choose (is_further line) (open_before (and_line block line) behind) (block ∷ alone line ∷ behind) plus
+    ∙ choose (is_further line) (open_before (and_line block line) behind) (block ∷ block_alone line ∷ behind) plus
 
-pub goes_longer : (setting : Setting) (block : Block) (line : List ℕ) (w : Option (List ℕ)) (a : SessionState) → is_passed_over line ≡ false → is_further line ≡ true → IsOpen block
-    → Goes setting (Some block) line (Some (and_line block line)) w w a a
+pub goes_longer : (setting : Setting) (block : Block) (line : List ℕ) (w : Option (List ℕ)) (a : SessionState) → is_passed_over line ≡ false → is_further line ≡ true → IsBlockOpen block
+    → SessionGoes setting (Some block) line (Some (and_line block line)) w w a a
 goes_longer setting block line w a seen plus takes =
     record { blocks = []; split = λ behind. longer block line behind seen plus; shut = λ served h. stays_open block line takes; serves = serves_none setting w a }
 
-pub ends_longer : (setting : Setting) (block : Block) (line : List ℕ) (w : Option (List ℕ)) (a : SessionState) → is_passed_over line ≡ false → is_further line ≡ true → IsOpen block
-    → Ends setting Memory (Some block) line w w a a
+pub ends_longer : (setting : Setting) (block : Block) (line : List ℕ) (w : Option (List ℕ)) (a : SessionState) → is_passed_over line ≡ false → is_further line ≡ true → IsBlockOpen block
+    → SessionEnds setting Memory (Some block) line w w a a
 ends_longer setting block line w a seen plus takes = record {
   broken = inr refl;
   blocks = [];
   others = [];
-  front = λ served. ap (λ bs. closed (served ++ bs)) (longer block line [] seen plus) ∙ open_last served (and_line block line) (stays_open block line takes) ∙ sym (append-nil served);
+  front = λ served. ap (λ bs. closed_blocks (served ++ bs)) (longer block line [] seen plus) ∙ open_last served (and_line block line) (stays_open block line takes) ∙ sym (append-nil served);
   stops = stops_none setting Memory [] w a tt;
 }
 
@@ -144,9 +138,9 @@ closes block begun (next ∷ behind) plain =
 closes_before : (block : Block) (line : List ℕ) (behind : List Block) → is_further line ≡ false → open_before block (line_before line behind) ≡ block ∷ line_before line behind
 closes_before block line behind plain =
     elim (takes_further line) as
-    (λ t. open_before block (if t then open_before (alone line) behind else alone line ∷ behind) ≡ block ∷ (if t then open_before (alone line) behind else alone line ∷ behind)) [
-      | true ↦ closes block (alone line) behind plain
-      | false ↦ other (is_further line) (open_before (and_line block line) behind) (block ∷ alone line ∷ behind) plain
+    (λ t. open_before block (if t then open_before (block_alone line) behind else block_alone line ∷ behind) ≡ block ∷ (if t then open_before (block_alone line) behind else block_alone line ∷ behind)) [
+      | true ↦ closes block (block_alone line) behind plain
+      | false ↦ other (is_further line) (open_before (and_line block line) behind) (block ∷ block_alone line ∷ behind) plain
     ]
 
 both_ahead : (block : Block) (line : List ℕ) (behind : List Block) → is_passed_over line ≡ false → is_further line ≡ false
@@ -155,7 +149,7 @@ both_ahead block line behind seen plain =
     ap (open_before block) (not_passed line behind seen) ∙ closes_before block line behind plain ∙ ap (λ bs. block ∷ bs) (sym (not_passed line behind seen))
 
 module _ (setting : Setting) (block : Block) (line : List ℕ) (w w1 w2 : Option (List ℕ)) (a b c : SessionState) (seen : is_passed_over line ≡ false) (plain : is_further line ≡ false) where
-  goes_both : (after : Option Block) → Serves setting (block ∷ []) w w1 a b → Goes setting None line after w1 w2 b c → Goes setting (Some block) line after w w2 a c
+  goes_both : (after : Option Block) → ServesBlocks setting (block ∷ []) w w1 a b → SessionGoes setting None line after w1 w2 b c → SessionGoes setting (Some block) line after w w2 a c
   goes_both after first second = record {
     blocks = block ∷ second.blocks;
     split = λ behind. both_ahead block line behind seen plain ∙ ap (λ bs. block ∷ bs) (second.split behind);
@@ -163,14 +157,14 @@ module _ (setting : Setting) (block : Block) (line : List ℕ) (w w1 w2 : Option
     serves = serves_twice setting (block ∷ []) second.blocks w w1 w2 a b c first second.serves;
   }
 
-  front_behind : (blocks others served : List Block) → ((before : List Block) → closed (before ++ ahead_with None line []) ≡ before ++ (blocks ++ others))
-      → closed (served ++ ahead_with (Some block) line []) ≡ served ++ (block ∷ (blocks ++ others))
+  front_behind : (blocks others served : List Block) → ((before : List Block) → closed_blocks (before ++ ahead_with None line []) ≡ before ++ (blocks ++ others))
+      → closed_blocks (served ++ ahead_with (Some block) line []) ≡ served ++ (block ∷ (blocks ++ others))
   front_behind blocks others served front =
-      ap (λ bs. closed (served ++ bs)) (both_ahead block line [] seen plain)
-      ∙ ap closed (sym (append_assoc served (block ∷ []) (ahead_with None line [])))
+      ap (λ bs. closed_blocks (served ++ bs)) (both_ahead block line [] seen plain)
+      ∙ ap closed_blocks (sym (append_assoc served (block ∷ []) (ahead_with None line [])))
       ∙ front (served ++ block ∷ []) ∙ append_assoc served (block ∷ []) (blocks ++ others)
 
-  ends_second : (ended : Ended) → Serves setting (block ∷ []) w w1 a b → Ends setting ended None line w1 w2 b c → Ends setting ended (Some block) line w w2 a c
+  ends_second : (ended : Ended) → ServesBlocks setting (block ∷ []) w w1 a b → SessionEnds setting ended None line w1 w2 b c → SessionEnds setting ended (Some block) line w w2 a c
   ends_second ended first second = record {
     broken = second.broken;
     blocks = block ∷ second.blocks;
@@ -179,49 +173,49 @@ module _ (setting : Setting) (block : Block) (line : List ℕ) (w w1 w2 : Option
     stops = serves_stops setting ended (block ∷ []) second.blocks second.others w w1 w2 a b c first second.stops;
   }
 
-  pub both_step : (result : Option Ended) (after : Option Block) → Serves setting (block ∷ []) w w1 a b
-      → MatchOption result (Goes setting None line after w1 w2 b c) (λ ended. Ends setting ended None line w1 w2 b c)
-      → MatchOption result (Goes setting (Some block) line after w w2 a c) (λ ended. Ends setting ended (Some block) line w w2 a c)
+  pub both_step : (result : Option Ended) (after : Option Block) → ServesBlocks setting (block ∷ []) w w1 a b
+      → MatchOption result (SessionGoes setting None line after w1 w2 b c) (λ ended. SessionEnds setting ended None line w1 w2 b c)
+      → MatchOption result (SessionGoes setting (Some block) line after w w2 a c) (λ ended. SessionEnds setting ended (Some block) line w w2 a c)
   both_step None after first step = goes_both after first step
   both_step (Some ended) after first step = ends_second ended first step
 
 -- a line behind nothing makes one block
-alone_of : (line : List ℕ) → is_passed_over line ≡ false → ahead_with None line [] ≡ alone line ∷ []
+alone_of : (line : List ℕ) → is_passed_over line ≡ false → ahead_with None line [] ≡ block_alone line ∷ []
 alone_of line seen =
     not_passed line [] seen
-    ∙ (elim (takes_further line) as (λ t. (if t then alone line ∷ [] else alone line ∷ []) ≡ alone line ∷ []) [
+    ∙ (elim (takes_further line) as (λ t. (if t then block_alone line ∷ [] else block_alone line ∷ []) ≡ block_alone line ∷ []) [
       | true ↦ refl
       | false ↦ refl
     ])
 
-closed_two : (block : Block) (line : List ℕ) → is_passed_over line ≡ false → closed (block ∷ ahead_with None line []) ≡ block ∷ closed (ahead_with None line [])
-closed_two block line seen = ap (λ bs. closed (block ∷ bs)) (alone_of line seen) ∙ ap (λ bs. block ∷ closed bs) (sym (alone_of line seen))
+closed_two : (block : Block) (line : List ℕ) → is_passed_over line ≡ false → closed_blocks (block ∷ ahead_with None line []) ≡ block ∷ closed_blocks (ahead_with None line [])
+closed_two block line seen = ap (λ bs. closed_blocks (block ∷ bs)) (alone_of line seen) ∙ ap (λ bs. block ∷ closed_blocks bs) (sym (alone_of line seen))
 
 -- the last of the two is closed, or may still take `+` lines
 first_front : (block : Block) (line : List ℕ) (served : List Block) → is_passed_over line ≡ false → is_further line ≡ false
-    → closed (served ++ ahead_with (Some block) line []) ≡ served ++ (block ∷ closed (ahead_with None line []))
+    → closed_blocks (served ++ ahead_with (Some block) line []) ≡ served ++ (block ∷ closed_blocks (ahead_with None line []))
 first_front block line served seen plain =
-    ap (λ bs. closed (served ++ bs)) (both_ahead block line [] seen plain) ∙ closed_behind served block (ahead_with None line [])
+    ap (λ bs. closed_blocks (served ++ bs)) (both_ahead block line [] seen plain) ∙ closed_behind served block (ahead_with None line [])
     ∙ ap (λ bs. served ++ bs) (closed_two block line seen)
 
 pub ends_first : (setting : Setting) (ended : Ended) (block : Block) (line : List ℕ) (w w' : Option (List ℕ)) (a b : SessionState) → is_passed_over line ≡ false → is_further line ≡ false
-    → FailsAt setting ended block w w' a b → Ends setting ended (Some block) line w w' a b
+    → FailsAt setting ended block w w' a b → SessionEnds setting ended (Some block) line w w' a b
 ends_first setting ended block line w w' a b seen plain (inl f) =
-    subst (λ s. Ends setting s (Some block) line w w' a b) (sym f.writing)
-    (record { broken = inl refl; blocks = block ∷ []; others = closed (ahead_with None line []); front = λ served. first_front block line served seen plain; stops = f.stops (closed (ahead_with None line [])) })
+    subst (λ s. SessionEnds setting s (Some block) line w w' a b) (sym f.writing)
+    (record { broken = inl refl; blocks = block ∷ []; others = closed_blocks (ahead_with None line []); front = λ served. first_front block line served seen plain; stops = f.stops (closed_blocks (ahead_with None line [])) })
 ends_first setting ended block line w w' a b seen plain (inr f) =
-    record { broken = inr f.undone; blocks = []; others = block ∷ closed (ahead_with None line []); front = λ served. first_front block line served seen plain; stops = f.stops (closed (ahead_with None line [])) }
+    record { broken = inr f.undone; blocks = []; others = block ∷ closed_blocks (ahead_with None line []); front = λ served. first_front block line served seen plain; stops = f.stops (closed_blocks (ahead_with None line [])) }
 
 -- what was kept stands behind it
 pub kept_goes : (setting : Setting) (pending kept : Option Block) (line : List ℕ) (result : Option Ended) (after : Option Block) (w w' : Option (List ℕ)) (a b : SessionState) → pending ≡ kept
-    → MatchOption result (Goes setting kept line after w w' a b) (λ ended. Ends setting ended kept line w w' a b)
-    → MatchOption result (Goes setting pending line after w w' a b) (λ ended. Ends setting ended pending line w w' a b)
+    → MatchOption result (SessionGoes setting kept line after w w' a b) (λ ended. SessionEnds setting ended kept line w w' a b)
+    → MatchOption result (SessionGoes setting pending line after w w' a b) (λ ended. SessionEnds setting ended pending line w w' a b)
 kept_goes setting pending kept line result after w w' a b is step =
-    subst (λ p. MatchOption result (Goes setting p line after w w' a b) (λ ended. Ends setting ended p line w w' a b)) (sym is) step
+    subst (λ p. MatchOption result (SessionGoes setting p line after w w' a b) (λ ended. SessionEnds setting ended p line w w' a b)) (sym is) step
 
 -- ---- any line
 
-pub goes_passed : (setting : Setting) (pending : Option Block) (line : List ℕ) (w : Option (List ℕ)) (a : SessionState) → is_passed_over line ≡ true → Goes setting pending line pending w w a a
+pub goes_passed : (setting : Setting) (pending : Option Block) (line : List ℕ) (w : Option (List ℕ)) (a : SessionState) → is_passed_over line ≡ true → SessionGoes setting pending line pending w w a a
 goes_passed setting pending line w a passed = record {
   blocks = [];
   split = λ behind. ap (blocks_behind pending) (choose (is_passed_over line) behind (line_before line behind) passed);
@@ -251,7 +245,7 @@ pub few_ahead : (pending : Option Block) (line : List ℕ) → length (ahead_wit
 few_ahead None line = omega (arith, few_line line)
 few_ahead (Some block) line = omega (arith, few_before block (line_blocks line []), few_line line)
 
-pub few_closed : (blocks : List Block) → length (closed blocks) ≤ length blocks
+pub few_closed : (blocks : List Block) → length (closed_blocks blocks) ≤ length blocks
 few_closed [] = omega arith
 few_closed (block ∷ []) =
     ⊎_elim (λ takes. omega (arith, ap (λ (bs : List Block). length bs) (still_open block takes))) (λ plain. omega (arith, ap (λ (bs : List Block). length bs) (shut block plain)))
@@ -263,7 +257,7 @@ few_closed (block ∷ next ∷ blocks) = omega (arith, few_closed (next ∷ bloc
 pub whole_none : (setting : Setting) (w : Option (List ℕ)) (a : SessionState) → EndsWhole setting Done None w w a a
 whole_none setting w a = record { blocks = []; others = []; settled = inl (refl, refl, refl); stops = stops_none setting Done [] w a tt }
 
-pub whole_served : (setting : Setting) (block : Block) (w w' : Option (List ℕ)) (a b : SessionState) → Serves setting (block ∷ []) w w' a b → EndsWhole setting Done (Some block) w w' a b
+pub whole_served : (setting : Setting) (block : Block) (w w' : Option (List ℕ)) (a b : SessionState) → ServesBlocks setting (block ∷ []) w w' a b → EndsWhole setting Done (Some block) w w' a b
 whole_served setting block w w' a b serves = record { blocks = block ∷ []; others = []; settled = inl (refl, refl, refl); stops = stops_served setting (block ∷ []) w w' a b serves }
 
 pub whole_failed : (setting : Setting) (ended : Ended) (block : Block) (w w' : Option (List ℕ)) (a b : SessionState) → FailsAt setting ended block w w' a b → EndsWhole setting ended (Some block) w w' a b

@@ -5,21 +5,21 @@ use Rattle.std.specs.Prelude.{Option, Some, None}
 use Rattle.tm_edge.specs.Lines.{ServesTold, line_size, unread}
 use Rattle.tm_session.specs.declared.outcome.Ended.{Ended}
 use Rattle.tm_session.specs.declared.outcome.Ended.TheVariants.{Done, Words, BadLine, BadCross, Down, Read, Write, Image, Memory, Limit, Spent}
-use Rattle.tm_session.specs.Outcome.{IsBack, IsReadToEnd}
+use Rattle.tm_session.specs.Outcome.{IsTextBack, IsReadToEnd}
 
-pub back_same : (old new : Option (List ℕ)) → new ≡ old → IsBack old new
+pub back_same : (old new : Option (List ℕ)) → new ≡ old → IsTextBack old new
 back_same (Some bytes) (Some others) e = let same : others ≡ bytes = cc in ([], sym same)
 back_same (Some bytes) None e = cc
 back_same None new e = e
 
-pub back_served : (old : Option (List ℕ)) (line : Option (List ℕ)) (new : Option (List ℕ)) → ServesTold old line new → IsBack old new
+pub back_served : (old : Option (List ℕ)) (line : Option (List ℕ)) (new : Option (List ℕ)) → ServesTold old line new → IsTextBack old new
 back_served (Some before) (Some text) (Some after) h =
     (take (line_size before + 1) before, sym (take-append-drop (line_size before + 1) before) ∙ ap (λ rest. take (line_size before + 1) before ++ rest) (sym h.rest))
 back_served (Some before) None (Some after) h = ([], h.0 ∙ sym h.1)
 back_served (Some before) line None h = absurd h
 back_served None line new h = h
 
-pub back_twice : (first second third : Option (List ℕ)) → IsBack first second → IsBack second third → IsBack first third
+pub back_twice : (first second third : Option (List ℕ)) → IsTextBack first second → IsTextBack second third → IsTextBack first third
 back_twice (Some a) (Some b) (Some c) (x, e) (y, f) = (x ++ y, e ∙ ap (λ r. x ++ r) f ∙ sym (append_assoc x y c))
 back_twice (Some a) (Some b) None h k = absurd k
 back_twice (Some a) None third h k = absurd h
@@ -27,7 +27,7 @@ back_twice None (Some b) third h k = cc
 back_twice None None third h k = k
 
 -- the bytes that a reader holds were taken too
-pub back_held : (old : Option (List ℕ)) (held : List ℕ) (left : Option (List ℕ)) → IsBack old (unread held left) → IsBack old left
+pub back_held : (old : Option (List ℕ)) (held : List ℕ) (left : Option (List ℕ)) → IsTextBack old (unread held left) → IsTextBack old left
 back_held (Some bytes) held (Some rest) (x, e) = (x ++ held, e ∙ sym (append_assoc x held rest))
 back_held (Some bytes) held None h = absurd h
 back_held None held (Some rest) h = cc
@@ -53,7 +53,7 @@ whole_held Memory held left h = h
 whole_held (Limit n) held left h = h
 
 -- a reader that holds no byte at first
-pub back_whole : (held : List ℕ) (old : Option (List ℕ)) (rest : List ℕ) (new : Option (List ℕ)) → held ≡ [] → IsBack (unread held old) (unread rest new) → IsBack old new
+pub back_whole : (held : List ℕ) (old : Option (List ℕ)) (rest : List ℕ) (new : Option (List ℕ)) → held ≡ [] → IsTextBack (unread held old) (unread rest new) → IsTextBack old new
 back_whole [] (Some bytes) rest new none h = back_held (Some bytes) rest new h
 back_whole [] None rest new none h = back_held None rest new h
 back_whole (b ∷ held) old rest new none h = cc

@@ -6,44 +6,44 @@ use Rattle.std.specs.Option.{option_map, is_some}
 use Rattle.tm_disk.specs.Disk.{DiskState, IsDisk, IsSameDisk, Only}
 use Rattle.tm_disk.proofs.Words.{same_itself}
 use Rattle.model_system.specs.System.{System}
-use Rattle.system_types.specs.Valid.{IsSystem}
+use Rattle.system_types.specs.ValidSystem.{IsSystem}
 use Rattle.checkpointing.proofs.Counted.{up_to_more}
 use Rattle.session_law.specs.Measures.{call_raises, measure}
 use Rattle.model_session.specs.Blocks.{Block}
 use Rattle.model_session.specs.Lives.{AreLegal}
-use Rattle.model_session.specs.Standing.{SessionState, Standing, Stop, AreStops, LastAnswered, no_life, unbegun, is_stopped, last_life}
-use Rattle.model_session.specs.Standing.Standing.{Down as StandsDown}
-use Rattle.model_session.specs.Session.{Begins, AreServed, IsBegun, Opens as OpensLife, FailsToOpen}
-use Rattle.openings.specs.Opening.{WroteNothing}
+use Rattle.model_session.specs.SessionState.{SessionState, Standing, Stop, AreStops, LastAnswered, no_life, unbegun, is_session_stopped, last_life}
+use Rattle.model_session.specs.SessionState.Standing.{Down as StandsDown}
+use Rattle.model_session.specs.Session.{BeginsSession, AreServed, IsSessionBegun, OpensSession as OpensLife, FailsToOpen}
+use Rattle.openings.specs.OpenedImage.{WroteNothing}
 use Rattle.openings.specs.declared.how.How.TheVariants.{Found}
-use Rattle.openings.specs.Opened.{Refuses}
+use Rattle.openings.specs.LifeBeginning.{Refuses}
 use Rattle.openings.specs.declared.refusals.OpenError.{OpenError}
 use Rattle.openings.specs.declared.refusals.OpenError.TheVariants.{Spent as NoCounter}
 use Rattle.openings.specs.declared.life.Life.{Life}
 use Rattle.tm_edge.specs.Lines.{unread, lines_of}
-use Rattle.sysdef_text.specs.Ends.{definition_lines}
+use Rattle.sysdef_text.specs.DefinitionEnd.{definition_lines}
 use Rattle.session_lives.specs.declared.called.Opening.{Opening}
 use Rattle.session_lives.specs.declared.called.Opening.TheVariants.{Opened, Broke, Refused, Memory as NoMemory, Spent as SpentCounter}
 use Rattle.session_lives.specs.declared.place.Place.{Place}
 use Rattle.session_lives.specs.declared.place.Place.TheVariants.{Up, Down, Moved}
 use Rattle.session_lives.specs.declared.place.Kept.{Kept}
 use Rattle.session_lives.specs.declared.place.Session.{Session}
-use Rattle.session_lives.specs.Running.{life_of, last_of, kept_of, outage_of, standing_of, session_at, session_of, setting_of, error_of, IsDownSound, IsSound, IsSoundAt, Leads, LeadsBy}
+use Rattle.session_lives.specs.RunningSession.{life_of, last_life_of, kept_steps, outage_of, standing_of, session_at, session_of, session_setting, error_of, IsDownSound, IsSessionSound, IsSoundAt, Leads, LeadsBy}
 use Rattle.session_lives.specs.Openings.{HasGone, HasOpened, StaysIdle}
-use Rattle.session_lives.specs.Closing.{HasSectors, listed, IsClosedDown, IsClosedAt, IsClosed, Remains, LeavesSo}
+use Rattle.session_lives.specs.ClosedSession.{HasSectors, listed, IsClosedDown, IsClosedAt, IsSessionClosed, Remains, SessionLeaves}
 use Rattle.session_lives.proofs.Ends.{same_state, outage_with}
 use Rattle.session_lives.proofs.Valid.{opened_valid}
 use Rattle.session_lives.proofs.Restarted.{opens_gone, fails_gone, gone_sound}
 use Rattle.tm_session.specs.declared.outcome.Ended.{Ended}
 use Rattle.tm_session.specs.declared.outcome.Ended.TheVariants.{Done, Words, BadLine, BadCross, Down as DownAtEnd, Read, Write, Image as BadImage, Memory, Limit, Spent}
-use Rattle.tm_session.specs.Source.{definition_text}
-use Rattle.tm_session.specs.Outcome.{ending_of, HasWritten, is_undone, left_if, left_by, UndoneAs, IsBy}
-use Rattle.tm_session.specs.Sources.{HasReadTold}
+use Rattle.tm_session.specs.DefinedSystem.{text_of_definition}
+use Rattle.tm_session.specs.Outcome.{ending_of, HasWrittenText, is_undone, left_if, left_by_session, UndoneAs, IsBy}
+use Rattle.tm_session.specs.ReadSources.{HasReadTold}
 use Rattle.tm_session.specs.Outcome.Ending.{NotBegun}
-use Rattle.tm_session.specs.Driving.{HasDriven}
-use Rattle.tm_session.specs.Opening.{ReadsDefinition}
-use Rattle.tm_session.specs.Opened.{IsRead, HasBegun, IsNothing, refusal, down_at_end, by_standing}
-use Rattle.tm_session.specs.Headline.{HasLived, IsOpenedBy, IsOpenedDisk, IsFoundDisk, AskNoColdStart, IsSession, Defines, IsUnbegun, IsRefusal}
+use Rattle.tm_session.specs.DrivenSession.{HasDriven}
+use Rattle.tm_session.specs.ReadDefinition.{ReadsDefinition}
+use Rattle.tm_session.specs.BegunSession.{IsDefinitionRead, HasBegun, IsNothing, refusal, down_at_end, by_standing}
+use Rattle.tm_session.specs.Headline.{HasLived, IsOpenedBy, IsDiskOpened, IsFoundDisk, AskNoColdStart, IsSession, Defines, IsUnbegun, IsDiskRefusal}
 use Rattle.tm_session.proofs.First.{IsFound, opened_found}
 use Rattle.tm_session.proofs.Opened.{whole_session}
 
@@ -65,13 +65,13 @@ module _ {D : Type 0} (state : D → DiskState) (is_disk : (disk : D) → IsDisk
     system_is = b.system_is;
     text_is = b.text_is;
     size = λ begun. absurd (no_first b.idle.last b.last_is begun);
-    texts = λ image left. inr (record { no_life = ap (λ l. option_map last_of l) b.last_is; left = subst (λ d. (state d).may_leave image) b.disk_is left });
+    texts = λ image left. inr (record { no_life = ap (λ l. option_map last_life_of l) b.last_is; left = subst (λ d. (state d).may_leave image) b.disk_is left });
     same = first_same;
     stops = subst (λ s. AreStops (state handed).faults s (state b.idle.disk).faults) (sym b.stops) first_same.faults;
     legal = subst (λ l. AreLegal system (map life_of l)) (sym b.lives) tt;
-    answered = subst (λ l. LastAnswered system (option_map last_of l) (kept_of l)) (sym b.last_is) refl;
+    answered = subst (λ l. LastAnswered system (option_map last_life_of l) (kept_steps l)) (sym b.last_is) refl;
     images = λ image left. inr (record {
-      no_life = ap (λ l. option_map last_of l) b.last_is;
+      no_life = ap (λ l. option_map last_life_of l) b.last_is;
       before = image;
       left = subst (λ d. (state d).may_leave image) b.disk_is left;
       alike = λ answer is. is;
@@ -83,16 +83,16 @@ module _ {D : Type 0} (state : D → DiskState) (is_disk : (disk : D) → IsDisk
 
   first_outage : outage_of b.idle ≡ no_life
   first_outage =
-      ap (λ l. outage_with (option_map last_of l) b.idle.emptied b.idle.stopped) b.last_is ∙ ap (λ e. outage_with None e b.idle.stopped) b.emptied_is ∙ ap (outage_with None false) b.stopped_is
+      ap (λ l. outage_with (option_map last_life_of l) b.idle.emptied b.idle.stopped) b.last_is ∙ ap (λ e. outage_with None e b.idle.stopped) b.emptied_is ∙ ap (outage_with None false) b.stopped_is
 
   first_state : session_at (Down b.idle) b.kept ≡ unbegun
   first_state =
       same_state [] (map life_of b.kept.lives.items) [] b.kept.stops.items (StandsDown no_life) (StandsDown (outage_of b.idle)) (ap (map life_of) b.lives) b.stops (ap StandsDown first_outage)
 
-  begins_by : (opening : Opening) → HasGone state b.idle b.kept false session opening → refusal opening ≡ None → Begins (setting_of state system text handed) (session_of session)
+  begins_by : (opening : Opening) → HasGone state b.idle b.kept false session opening → refusal opening ≡ None → BeginsSession (session_setting state system text handed) (session_of session)
   begins_by Opened gone none =
-      inl (subst (λ o. OpensLife false (setting_of state system text handed) unbegun o (session_of session)) first_outage
-      (subst (λ s. OpensLife false (setting_of state system text handed) s (outage_of b.idle) (session_of session)) first_state
+      inl (subst (λ o. OpensLife false (session_setting state system text handed) unbegun o (session_of session)) first_outage
+      (subst (λ s. OpensLife false (session_setting state system text handed) s (outage_of b.idle) (session_of session)) first_state
       (opens_gone state is_disk system text handed b.idle b.kept session first_sound false gone)))
   begins_by Broke gone none =
       inr (subst (λ o. FailsToOpen false unbegun o (session_of session)) first_outage
@@ -102,22 +102,22 @@ module _ {D : Type 0} (state : D → DiskState) (is_disk : (disk : D) → IsDisk
   begins_by NoMemory gone none = cc
   begins_by SpentCounter gone none = cc
 
-  pub begins : ended ≡ None → Begins (setting_of state system text handed) (session_of session)
+  pub begins : ended ≡ None → BeginsSession (session_setting state system text handed) (session_of session)
   begins none = begins_by b.opening b.gone (sym b.ends ∙ none)
 
-  pub begun_sound : IsSound state system text handed session
+  pub begun_sound : IsSessionSound state system text handed session
   begun_sound = gone_sound state is_disk system text handed b.idle b.kept session first_sound false b.opening b.gone
 
   -- it was opened as it was handed in
-  opened_disk : (gone : HasOpened state b.idle b.kept false session) → IsOpenedDisk system text (state handed)
+  opened_disk : (gone : HasOpened state b.idle b.kept false session) → IsDiskOpened system text (state handed)
   opened_disk gone =
-      let same : IsOpenedDisk b.idle.system b.idle.text (state b.idle.disk) = record {
+      let same : IsDiskOpened b.idle.system b.idle.text (state b.idle.disk) = record {
         size = gone.opens.size;
         valid = λ tells. opened_valid b.idle.system b.idle.text (state b.idle.disk) gone.opens.begins.parts gone.control.control.opening
             (subst (λ d. Only (state d).shown (state d)) (sym b.disk_is) alone) gone.opens.size tells (gone.opens.begins.found refl tells);
       } in
-      subst (λ d. IsOpenedDisk system text (state d)) b.disk_is
-      (subst (λ t. IsOpenedDisk system t (state b.idle.disk)) b.text_is (subst (λ s. IsOpenedDisk s b.idle.text (state b.idle.disk)) b.system_is same))
+      subst (λ d. IsDiskOpened system text (state d)) b.disk_is
+      (subst (λ t. IsDiskOpened system t (state b.idle.disk)) b.text_is (subst (λ s. IsDiskOpened s b.idle.text (state b.idle.disk)) b.system_is same))
 
   opened_by : (opening : Opening) → HasGone state b.idle b.kept false session opening → refusal opening ≡ None → IsOpenedBy (session_of session).standing system text (state handed)
   opened_by Opened gone none = subst (λ p. IsOpenedBy (standing_of p) system text (state handed)) (sym gone.place) (opened_disk gone)
@@ -141,15 +141,15 @@ module _ {D : Type 0} (state : D → DiskState) (is_disk : (disk : D) → IsDisk
   why_is a b e = cc
 
   idles_by : (opening : Opening) (why : Ended) → HasGone state b.idle b.kept false session opening → refusal opening ≡ Some why
-      → StaysIdle state b.idle b.kept session × IsRefusal system text (state handed) why
+      → StaysIdle state b.idle b.kept session × IsDiskRefusal system text (state handed) why
   idles_by (Refused refused) why gone is = (
     gone.0,
-    subst (λ e. IsRefusal system text (state handed) e) (why_is (BadImage refused) why is) (refuses_first (error_of refused) gone.1),
+    subst (λ e. IsDiskRefusal system text (state handed) e) (why_is (BadImage refused) why is) (refuses_first (error_of refused) gone.1),
   )
-  idles_by NoMemory why gone is = (gone, subst (λ e. IsRefusal system text (state handed) e) (why_is Memory why is) tt)
+  idles_by NoMemory why gone is = (gone, subst (λ e. IsDiskRefusal system text (state handed) e) (why_is Memory why is) tt)
   idles_by SpentCounter why gone is = (
     gone.0,
-    subst (λ e. IsRefusal system text (state handed) e) (why_is Spent why is) (record { counter = gone.1.counter; refuses = refuses_first (NoCounter gone.1.counter) gone.1.refuses }),
+    subst (λ e. IsDiskRefusal system text (state handed) e) (why_is Spent why is) (record { counter = gone.1.counter; refuses = refuses_first (NoCounter gone.1.counter) gone.1.refuses }),
   )
   idles_by Opened why gone is = cc
   idles_by Broke why gone is = cc
@@ -159,7 +159,7 @@ module _ {D : Type 0} (state : D → DiskState) (is_disk : (disk : D) → IsDisk
   unstopped true why is = cc
 
   never_by : (told told' w : Option (List ℕ)) (why status : Ended) (disk : D) (lives : List Life) (stops : List Stop) → IfSome told (λ bytes. Defines bytes system)
-      → IfSome told (λ bytes. text ≡ definition_text (definition_lines (lines_of bytes))) → (idles : StaysIdle state b.idle b.kept session) → IsRefusal system text (state handed) why
+      → IfSome told (λ bytes. text ≡ text_of_definition (definition_lines (lines_of bytes))) → (idles : StaysIdle state b.idle b.kept session) → IsDiskRefusal system text (state handed) why
       → status ≡ by_standing idles.after.stopped why → IsClosedDown idles.after session.kept disk lives stops → IsSession state told told' w w handed disk status lives stops
   never_by told told' w why status disk lives stops defines text_is idles refused at over =
       let same : status ≡ why = at ∙ unstopped idles.after.stopped why (idles.stopped ∙ b.stopped_is) in
@@ -170,7 +170,7 @@ module _ {D : Type 0} (state : D → DiskState) (is_disk : (disk : D) → IsDisk
           defines = defines;
           text = text;
           text_is = text_is;
-          refusal = subst (λ s. IsRefusal system text (state handed) s) (sym same) refused;
+          refusal = subst (λ s. IsDiskRefusal system text (state handed) s) (sym same) refused;
           wrote = subst (λ d. WroteNothing (state handed) (state d)) (sym over.disk_is) (subst (λ d. WroteNothing (state d) (state idles.after.disk)) b.disk_is idles.wrote);
         }),
         record {
@@ -181,11 +181,11 @@ module _ {D : Type 0} (state : D → DiskState) (is_disk : (disk : D) → IsDisk
       )
 
   pub never_opened : (told told' w : Option (List ℕ)) (why status : Ended) (disk : D) (lives : List Life) (stops : List Stop) → ended ≡ Some why → IfSome told (λ bytes. Defines bytes system)
-      → IfSome told (λ bytes. text ≡ definition_text (definition_lines (lines_of bytes))) → status ≡ by_standing (is_stopped (standing_of session.place)) why → IsClosed state session disk lives stops
+      → IfSome told (λ bytes. text ≡ text_of_definition (definition_lines (lines_of bytes))) → status ≡ by_standing (is_session_stopped (standing_of session.place)) why → IsSessionClosed state session disk lives stops
       → IsSession state told told' w w handed disk status lives stops
   never_opened told told' w why status disk lives stops is defines text_is at over =
       let one = idles_by b.opening why b.gone (sym b.ends ∙ is) in
-      never_by told told' w why status disk lives stops defines text_is one.0 one.1 (at ∙ ap (λ p. by_standing (is_stopped (standing_of p)) why) one.0.place)
+      never_by told told' w why status disk lives stops defines text_is one.0 one.1 (at ∙ ap (λ p. by_standing (is_session_stopped (standing_of p)) why) one.0.place)
       (subst (λ p. IsClosedAt state p session.kept disk lives stops) one.0.place over)
 
 -- ---- how it ends
@@ -213,7 +213,7 @@ read_down (Some bytes) (Some left) blocks others read = record { cut = read.cut;
 read_down (Some bytes) None blocks others read = absurd read
 read_down None left blocks others read = read
 
-by_is : (stopped : Bool) (ended : Ended) (standing : Standing) → ended ≢ DownAtEnd → is_stopped standing ≡ stopped → IsBy (by_standing stopped ended) standing
+by_is : (stopped : Bool) (ended : Ended) (standing : Standing) → ended ≢ DownAtEnd → is_session_stopped standing ≡ stopped → IsBy (by_standing stopped ended) standing
 by_is true Done standing not is = is
 by_is false Done standing not is = is
 by_is stopped DownAtEnd standing not is = absurd (not refl)
@@ -242,25 +242,25 @@ module _ {D : Type 0} (state : D → DiskState) (system : System) (source : List
   valid_at (Down idle) kept sound = sound.valid
   valid_at Moved kept sound = absurd sound
 
-  left_either : (undone : Bool) (others : List Block) (mid last : SessionState) → left_if undone system others mid last → (last ≡ mid) ⊎ IsBegun system others mid last
+  left_either : (undone : Bool) (others : List Block) (mid last : SessionState) → left_if undone system others mid last → (last ≡ mid) ⊎ IsSessionBegun system others mid last
   left_either true others mid last left = inr left
   left_either false others mid last left = inl left
 
   -- the disk that the first life began with
-  found_disk : (blocks others : List Block) (first mid last : SessionState) (text : List ℕ) → Begins (setting_of state system source handed) first
-      → AreServed (setting_of state system source handed) blocks first mid text → (last ≡ mid) ⊎ IsBegun system others mid last → AskNoColdStart system blocks → is_some (last_life last.standing) ≡ true
+  found_disk : (blocks others : List Block) (first mid last : SessionState) (text : List ℕ) → BeginsSession (session_setting state system source handed) first
+      → AreServed (session_setting state system source handed) blocks first mid text → (last ≡ mid) ⊎ IsSessionBegun system others mid last → AskNoColdStart system blocks → is_some (last_life last.standing) ≡ true
       → HasSectors system (state handed) → IsFoundDisk system source (state handed)
   found_disk blocks others first mid last text begins served left warm some enough = record {
     size = enough;
-    right_text = λ tells. (opened_found (setting_of state system source handed) tells blocks others first mid last text begins served left warm some).right;
+    right_text = λ tells. (opened_found (session_setting state system source handed) tells blocks others first mid last text begins served left warm some).right;
     states = λ tells image there.
-        let f : IsFound (setting_of state system source handed) = opened_found (setting_of state system source handed) tells blocks others first mid last text begins served left warm some in
+        let f : IsFound (session_setting state system source handed) = opened_found (session_setting state system source handed) tells blocks others first mid last text begins served left warm some in
         record { state = f.opening; found = f.begins image there };
   }
 
   lived_by : (told mid : Option (List ℕ)) (held : List ℕ) (left w w' : Option (List ℕ)) (texts : List (List ℕ)) (disk : D) (first last : SessionState) (stopped : Bool) (ended : Ended)
-      (lives : List Life) (stops : List Stop) → IsSystem system → ReadsDefinition told texts mid → Begins (setting_of state system source handed) first → IsOpenedBy first.standing system source (state handed)
-      → HasDriven (setting_of state system source handed) (length texts) mid (unread held left) w w' first last ended → is_stopped last.standing ≡ stopped
+      (lives : List Life) (stops : List Stop) → IsSystem system → ReadsDefinition told texts mid → BeginsSession (session_setting state system source handed) first → IsOpenedBy first.standing system source (state handed)
+      → HasDriven (session_setting state system source handed) (length texts) mid (unread held left) w w' first last ended → is_session_stopped last.standing ≡ stopped
       → Remains state system source handed disk last lives stops → HasLived state system source told left w w' handed disk (by_standing stopped ended) (map life_of lives) stops
   lived_by told mid held left w w' texts disk first last stopped ended lives stops valid definition begins opened driven is rest = record {
     blocks = driven.blocks;
@@ -279,11 +279,11 @@ module _ {D : Type 0} (state : D → DiskState) (system : System) (source : List
         found_disk driven.blocks driven.others first driven.stops.mid last driven.stops.text begins driven.stops.served
         (left_either (is_undone ended) driven.others driven.stops.mid last driven.stops.unprinted) warm some (rest.enough some);
     session = driven.stops.served;
-    unprinted = by_stopped (λ s. left_by s system driven.others driven.stops.mid last) stopped ended driven.stops.unprinted (λ one. one);
-    undone = by_stopped (λ s. UndoneAs s driven.others (setting_of state system source handed) last) stopped ended driven.stops.undone (λ one. tt);
+    unprinted = by_stopped (λ s. left_by_session s system driven.others driven.stops.mid last) stopped ended driven.stops.unprinted (λ one. one);
+    undone = by_stopped (λ s. UndoneAs s driven.others (session_setting state system source handed) last) stopped ended driven.stops.undone (λ one. tt);
     read = by_stopped (λ s. HasReadTold told left driven.blocks driven.others s) stopped ended (whole_session ended told mid held left texts driven.blocks driven.others definition driven.read)
         (read_down told left driven.blocks driven.others);
-    written = by_stopped (λ s. HasWritten w w' driven.stops.text s) stopped ended driven.stops.printed (λ one. one);
+    written = by_stopped (λ s. HasWrittenText w w' driven.stops.text s) stopped ended driven.stops.printed (λ one. one);
     lives_are = rest.lives_are;
     legal = rest.legal;
     stops_are = rest.stops_are;
@@ -294,10 +294,10 @@ module _ {D : Type 0} (state : D → DiskState) (system : System) (source : List
 
   -- a session that was driven from where it began
   pub is_session : (told mid : Option (List ℕ)) (held : List ℕ) (left w w' : Option (List ℕ)) (count : ℕ) (disk : D) (a b : Session D) (ended status : Ended)
-      (lives : List Life) (stops : List Stop) → IsRead told mid count system source → IfSome told (λ bytes. source ≡ definition_text (definition_lines (lines_of bytes)))
-      → Begins (setting_of state system source handed) (session_of a) → IsOpenedBy (session_of a).standing system source (state handed) → IsSound state system source handed a
-      → Leads state (λ setting x y. HasDriven setting count mid (unread held left) w w' x y ended) a b → status ≡ by_standing (is_stopped (standing_of b.place)) ended
-      → LeavesSo state b disk lives stops
+      (lives : List Life) (stops : List Stop) → IsDefinitionRead told mid count system source → IfSome told (λ bytes. source ≡ text_of_definition (definition_lines (lines_of bytes)))
+      → BeginsSession (session_setting state system source handed) (session_of a) → IsOpenedBy (session_of a).standing system source (state handed) → IsSessionSound state system source handed a
+      → Leads state (λ setting x y. HasDriven setting count mid (unread held left) w w' x y ended) a b → status ≡ by_standing (is_session_stopped (standing_of b.place)) ended
+      → SessionLeaves state b disk lives stops
       → IsSession state told left w w' handed disk status lives stops
   is_session told mid held left w w' count disk a b ended status lives stops definition text_is begins opened sound leads at over =
       let led : LeadsBy state (λ setting x y. HasDriven setting count mid (unread held left) w w' x y ended) system source handed a b = leads system source handed sound in
@@ -307,8 +307,8 @@ module _ {D : Type 0} (state : D → DiskState) (system : System) (source : List
         text = source;
         text_is = text_is;
         lived = subst (λ s. HasLived state system source told left w w' handed disk s (map life_of lives) stops) (sym at)
-            (lived_by told mid held left w w' definition.texts disk (session_of a) (session_of b) (is_stopped (standing_of b.place)) ended lives stops (valid_at a.place a.kept sound) definition.read begins opened
-            (subst (λ n. HasDriven (setting_of state system source handed) n mid (unread held left) w w' (session_of a) (session_of b) ended) (sym definition.counted) led.goes) refl
+            (lived_by told mid held left w w' definition.texts disk (session_of a) (session_of b) (is_session_stopped (standing_of b.place)) ended lives stops (valid_at a.place a.kept sound) definition.read begins opened
+            (subst (λ n. HasDriven (session_setting state system source handed) n mid (unread held left) w w' (session_of a) (session_of b) ended) (sym definition.counted) led.goes) refl
             (over system source handed led.sound));
       })
 

@@ -4,41 +4,41 @@ use Rattle.std.specs.Option.{is_some}
 use Rattle.std.specs.List.{AllByRecursion}
 use Rattle.tm_disk.specs.Disk.{Image, DiskState}
 use Rattle.model_system.specs.System.{System}
-use Rattle.system_types.specs.Valid.{IsSystem}
+use Rattle.system_types.specs.ValidSystem.{IsSystem}
 use Rattle.model_machine.specs.Machine.{LastingState}
 use Rattle.model_session.specs.declared.asked.Asked.TheVariants.{ColdStart}
 use Rattle.model_session.specs.Blocks.{Block}
 use Rattle.model_session.specs.Lines.{asked_of}
 use Rattle.model_session.specs.Lives.{LifeState, AreLegal}
-use Rattle.model_session.specs.Standing.{SessionState, Standing, Stop, AreAllLives, AreStops, last_life}
-use Rattle.model_session.specs.Standing.Standing.{Up, Down}
-use Rattle.model_session.specs.Session.{Begins, AreServed}
+use Rattle.model_session.specs.SessionState.{SessionState, Standing, Stop, AreAllLives, AreStops, last_life}
+use Rattle.model_session.specs.SessionState.Standing.{Up, Down}
+use Rattle.model_session.specs.Session.{BeginsSession, AreServed}
 use Rattle.tm_edge.specs.Lines.{lines_of}
 use Rattle.openings.specs.declared.how.How.TheVariants.{Found}
 use Rattle.model_machine.specs.declared.counts.Counter.{Counter}
 use Rattle.openings.specs.declared.refusals.OpenError.TheVariants.{Spent as SpentCounter}
-use Rattle.openings.specs.Opening.{WroteNothing}
-use Rattle.openings.specs.Opened.{Refuses}
+use Rattle.openings.specs.OpenedImage.{WroteNothing}
+use Rattle.openings.specs.LifeBeginning.{Refuses}
 use Rattle.openings.specs.declared.life.Life.{Life}
 use Rattle.tm_session.specs.declared.outcome.Ended.{Ended}
 use Rattle.tm_session.specs.declared.outcome.Ended.TheVariants.{BadLine, BadCross, Read, Memory, Limit, Image as BadImage, Spent}
-use Rattle.sysdef_text.specs.Ends.{definition_lines}
-use Rattle.tm_session.specs.Source.{judged, definition_text}
-use Rattle.tm_session.specs.Opening.{IsCutShort}
-use Rattle.tm_session.specs.Outcome.{ending_of, HasWritten, left_by, UndoneAs, IsBy}
-use Rattle.tm_session.specs.Sources.{HasReadTold}
+use Rattle.sysdef_text.specs.DefinitionEnd.{definition_lines}
+use Rattle.tm_session.specs.DefinedSystem.{judged_definition, text_of_definition}
+use Rattle.tm_session.specs.ReadDefinition.{IsCutShort}
+use Rattle.tm_session.specs.Outcome.{ending_of, HasWrittenText, left_by_session, UndoneAs, IsBy}
+use Rattle.tm_session.specs.ReadSources.{HasReadTold}
 use Rattle.tm_session.specs.Outcome.Ending.{NotBegun}
-use Rattle.session_lives.specs.Running.{life_of, setting_of, Holds, error_of, IsFoundAs, IsOfDefinition, IsValidDisk as IsValid, IsOpenedDisk as IsOpened}
-use Rattle.session_lives.specs.Closing.{HasSectors}
-pub use Rattle.session_lives.specs.Running.{CountsDisk}
+use Rattle.session_lives.specs.RunningSession.{life_of, session_setting, HoldsSession, error_of, IsFoundAs, IsOfDefinition, IsValidDisk as IsValid, IsOpenedDisk as IsOpened}
+use Rattle.session_lives.specs.ClosedSession.{HasSectors}
+pub use Rattle.session_lives.specs.RunningSession.{CountsDisk}
 
 -- the disk has sectors enough, and could be opened where it tells its contents
-abbrev pub IsOpenedDisk : System → List ℕ → DiskState → Type 0
-IsOpenedDisk system text disk = IsOpened system text disk
+abbrev pub IsDiskOpened : System → List ℕ → DiskState → Type 0
+IsDiskOpened system text disk = IsOpened system text disk
 
 -- where a life began with what was handed in
 abbrev pub IsOpenedBy : Standing → System → List ℕ → DiskState → Type 0
-IsOpenedBy (Up life) system text disk = IsOpenedDisk system text disk
+IsOpenedBy (Up life) system text disk = IsDiskOpened system text disk
 IsOpenedBy (Down outage) system text disk = Unit {0}
 
 -- An image that recovers as this one does recovers to a state.
@@ -75,43 +75,43 @@ pub record HasLived {D : Type 0} (state : D → DiskState) (system : System) (so
   pub last : SessionState
   pub text : List ℕ
   pub begun : ending_of ended ≢ NotBegun
-  pub begins : Begins (setting_of state system source handed) first
+  pub begins : BeginsSession (session_setting state system source handed) first
   pub opened : IsOpenedBy first.standing system source (state handed)
   pub enough : is_some (last_life last.standing) ≡ true → HasSectors system (state handed)
   pub found : is_some (last_life last.standing) ≡ true → AskNoColdStart system blocks → IsFoundDisk system source (state handed)
-  pub session : AreServed (setting_of state system source handed) blocks first mid text
-  pub unprinted : left_by ended system others mid last
-  pub undone : UndoneAs ended others (setting_of state system source handed) last
+  pub session : AreServed (session_setting state system source handed) blocks first mid text
+  pub unprinted : left_by_session ended system others mid last
+  pub undone : UndoneAs ended others (session_setting state system source handed) last
   pub read : HasReadTold told told' blocks others ended
-  pub written : HasWritten old new text ended
+  pub written : HasWrittenText old new text ended
   pub lives_are : AreAllLives system last lives
   pub legal : AreLegal system lives
   pub stops_are : stops ≡ last.stops
   pub counted : AreStops (state handed).faults stops (state disk).faults
-  pub images : (image : Image) → (state disk).may_leave image → Holds state system source handed last.standing image
+  pub images : (image : Image) → (state disk).may_leave image → HoldsSession state system source handed last.standing image
   pub by : IsBy ended last.standing
 
 -- the disk that is handed in can be opened for the system, whose definition has this text
-abbrev pub IsValidDisk : System → List ℕ → DiskState → Type 0
-IsValidDisk system text disk = IsValid system text disk
+abbrev pub IsDiskValid : System → List ℕ → DiskState → Type 0
+IsDiskValid system text disk = IsValid system text disk
 
 -- the source's definition defines this system; it breaks a rule
 abbrev pub Defines : List ℕ → System → Type 0
-Defines bytes system = judged (definition_lines (lines_of bytes)) ≡ Ok system
+Defines bytes system = judged_definition (definition_lines (lines_of bytes)) ≡ Ok system
 
 abbrev pub BreaksRule : List ℕ → Ended → Type 0
-BreaksRule bytes ended = judged (definition_lines (lines_of bytes)) ≡ Err ended
+BreaksRule bytes ended = judged_definition (definition_lines (lines_of bytes)) ≡ Err ended
 
 -- it does so, and was read to its end: none of its lines is too long
-pub record IsBroken (bytes : List ℕ) (ended : Ended) : Type 0 where
+pub record IsDefinitionBroken (bytes : List ℕ) (ended : Ended) : Type 0 where
   pub broken : BreaksRule bytes ended
   pub within : ¬ IsCutShort bytes
 
 -- how a run ends before its disk is looked at: the definition breaks a rule, or wasn't read to its end, or memory
 -- was wanting
 abbrev pub IsUnbegun : Option (List ℕ) → Ended → Type 0
-IsUnbegun told (BadLine line rule) = IfSome told (λ bytes. IsBroken bytes (BadLine line rule))
-IsUnbegun told (BadCross line rule) = IfSome told (λ bytes. IsBroken bytes (BadCross line rule))
+IsUnbegun told (BadLine line rule) = IfSome told (λ bytes. IsDefinitionBroken bytes (BadLine line rule))
+IsUnbegun told (BadCross line rule) = IfSome told (λ bytes. IsDefinitionBroken bytes (BadCross line rule))
 IsUnbegun told (Limit n) = (n ≡ 4097) × IfSome told IsCutShort
 IsUnbegun told Read = Unit {0}
 IsUnbegun told Memory = Unit {0}
@@ -127,19 +127,19 @@ pub record IsSpentDisk (system : System) (text : List ℕ) (disk : DiskState) : 
   pub refuses : Refuses Found system text disk (SpentCounter counter)
 
 -- why the disk that was handed in is not opened: it can't be, a counter is spent, or memory was wanting
-abbrev pub IsRefusal : System → List ℕ → DiskState → Ended → Type 0
-IsRefusal system text disk (BadImage refusal) = Refuses Found system text disk (error_of refusal)
-IsRefusal system text disk Spent = IsSpentDisk system text disk
-IsRefusal system text disk Memory = Unit {0}
-IsRefusal system text disk _ = ⊥
+abbrev pub IsDiskRefusal : System → List ℕ → DiskState → Ended → Type 0
+IsDiskRefusal system text disk (BadImage refusal) = Refuses Found system text disk (error_of refusal)
+IsDiskRefusal system text disk Spent = IsSpentDisk system text disk
+IsDiskRefusal system text disk Memory = Unit {0}
+IsDiskRefusal system text disk _ = ⊥
 
 -- The disk was not opened, and nothing was written to it.
 pub record IsNeverOpened {D : Type 0} (state : D → DiskState) (told : Option (List ℕ)) (handed disk : D) (ended : Ended) : Type 0 where
   pub system : System
   pub defines : IfSome told (λ bytes. Defines bytes system)
   pub text : List ℕ
-  pub text_is : IfSome told (λ bytes. text ≡ definition_text (definition_lines (lines_of bytes)))
-  pub refusal : IsRefusal system text (state handed) ended
+  pub text_is : IfSome told (λ bytes. text ≡ text_of_definition (definition_lines (lines_of bytes)))
+  pub refusal : IsDiskRefusal system text (state handed) ended
   pub wrote : WroteNothing (state handed) (state disk)
 
 -- no life, no stop, and nothing was printed
@@ -153,7 +153,7 @@ pub record HasSession {D : Type 0} (state : D → DiskState) (told told' old new
   pub system : System
   pub defines : IfSome told (λ bytes. Defines bytes system)
   pub text : List ℕ
-  pub text_is : IfSome told (λ bytes. text ≡ definition_text (definition_lines (lines_of bytes)))
+  pub text_is : IfSome told (λ bytes. text ≡ text_of_definition (definition_lines (lines_of bytes)))
   pub lived : HasLived state system text told told' old new handed disk ended (map life_of lives) stops
 
 abbrev pub IsSession : {D : Type 0} → (D → DiskState) → Option (List ℕ) → Option (List ℕ) → Option (List ℕ) → Option (List ℕ) → D → D → Ended → List Life → List Stop → Type 0

@@ -1,8 +1,8 @@
 pub mod Outcome
-pub mod Unread
-pub mod Driving
-pub mod Source
-pub mod Opening
-pub mod Sources
+pub mod UnreadLine
+pub mod DrivenSession
+pub mod DefinedSystem
+pub mod ReadDefinition
+pub mod ReadSources
 pub mod Headline
-pub mod Opened
+pub mod BegunSession

@@ -2,14 +2,14 @@
 use Rattle.std.specs.Prelude.{◌≡◌, ◌≢◌, ℕ, ◌<◌, ◌⊎◌, Bool, true, false, Option, Some, None, List, [], ◌∷◌, ◌++◌, map}
 use Rattle.std.specs.Io.KnownBytes.{append_known, IsAtEnd}
 use Rattle.model_system.specs.System.{System}
-use Rattle.model_session.specs.Blocks.{Block, blocks_of, closed}
+use Rattle.model_session.specs.Blocks.{Block, blocks_of, closed_blocks}
 use Rattle.model_session.specs.Lines.{asked_of}
-use Rattle.model_session.specs.Standing.{Setting, SessionState, Standing, is_stopped}
-use Rattle.model_session.specs.Session.{IsBegun}
+use Rattle.model_session.specs.SessionState.{Setting, SessionState, Standing, is_session_stopped}
+use Rattle.model_session.specs.Session.{IsSessionBegun}
 use Rattle.session_lives.specs.declared.called.Undone.TheVariants.{Spent as SpentCounter, Image as BadImage}
 use Rattle.session_lives.specs.Openings.{UndoneBy}
 use Rattle.tm_edge.specs.Fault.{HasRisen, AppendsFront}
-use Rattle.tm_edge.specs.Lines.{CutLine, IsTooLong}
+use Rattle.tm_edge.specs.Lines.{CutLine, IsLineTooLong}
 use Rattle.tm_session.specs.declared.outcome.Ended.{Ended}
 use Rattle.tm_session.specs.declared.outcome.Ended.TheVariants.{Done, Words, BadLine, BadCross, Down, Read, Write, Image, Memory, Limit, Spent}
 
@@ -43,7 +43,7 @@ ending_of (BadCross line rule) = NotBegun
 -- were read, and more bytes are there.
 abbrev pub IsLimit : ℕ → ℕ → List ℕ → Type 0
 IsLimit n count rest =
-    ((n ≡ 4097) × (count < 1000000) × IsTooLong rest)
+    ((n ≡ 4097) × (count < 1000000) × IsLineTooLong rest)
     ⊎ ((n ≡ 1000001) × (count ≡ 1000000) × (rest ≢ []))
 
 abbrev pub IsAtLimit : Ended → ℕ → List ℕ → Type 0
@@ -51,24 +51,24 @@ IsAtLimit (Limit n) count rest = IsLimit n count rest
 IsAtLimit _ count rest = Unit {0}
 
 -- the texts of lines that were read
-abbrev pub texts_of : List CutLine → List (List ℕ)
-texts_of cut = map (λ (line : CutLine). line.text) cut
+abbrev pub texts_of_lines : List CutLine → List (List ℕ)
+texts_of_lines cut = map (λ (line : CutLine). line.text) cut
 
 -- Which blocks of the lines that were read were served, and which weren't; these bytes lie behind the
 -- lines. At the source's end all were. Between two lines just the closed ones were. Where a session broke
 -- off, a front of the closed ones was, or at the source's end a front of all.
 abbrev pub AreSettled : Ending → List (List ℕ) → List ℕ → List Block → List Block → Type 0
 AreSettled Whole lines rest blocks others = (rest ≡ []) × (blocks_of lines ≡ blocks) × (others ≡ [])
-AreSettled Stopped lines rest blocks others = (closed (blocks_of lines) ≡ blocks) × (others ≡ [])
+AreSettled Stopped lines rest blocks others = (closed_blocks (blocks_of lines) ≡ blocks) × (others ≡ [])
 AreSettled BrokenOff lines rest blocks others =
-    (closed (blocks_of lines) ≡ blocks ++ others) ⊎ ((rest ≡ []) × (blocks_of lines ≡ blocks ++ others))
+    (closed_blocks (blocks_of lines) ≡ blocks ++ others) ⊎ ((rest ≡ []) × (blocks_of lines ≡ blocks ++ others))
 AreSettled NotBegun lines rest blocks others = ⊥
 
 -- bytes were taken from the front of those that are told, and from nowhere else
-abbrev pub IsBack : Option (List ℕ) → Option (List ℕ) → Type 0
-IsBack (Some old) (Some new) = (front : List ℕ) × (old ≡ front ++ new)
-IsBack (Some old) None = ⊥
-IsBack None new = new ≡ None
+abbrev pub IsTextBack : Option (List ℕ) → Option (List ℕ) → Type 0
+IsTextBack (Some old) (Some new) = (front : List ℕ) × (old ≡ front ++ new)
+IsTextBack (Some old) None = ⊥
+IsTextBack None new = new ≡ None
 
 -- a session that is done has read the source to its end
 abbrev pub IsReadToEnd : Ended → Option (List ℕ) → Type 0
@@ -79,9 +79,9 @@ IsReadToEnd _ left = Unit {0}
 -- ---- what was written
 
 -- The text was written behind what the sink had; where writing failed, a front of it.
-abbrev pub HasWritten : Option (List ℕ) → Option (List ℕ) → List ℕ → Ended → Type 0
-HasWritten old new text Write = AppendsFront old new text
-HasWritten old new text _ = new ≡ append_known old text
+abbrev pub HasWrittenText : Option (List ℕ) → Option (List ℕ) → List ℕ → Ended → Type 0
+HasWrittenText old new text Write = AppendsFront old new text
+HasWrittenText old new text _ = new ≡ append_known old text
 
 -- a block could not be served
 abbrev pub is_undone : Ended → Bool
@@ -93,11 +93,11 @@ is_undone _ = false
 -- Entries without a printed line: none; but where a block could not be served, the turns of a QUIET that broke
 -- off, which is the first block that was not served.
 abbrev pub left_if : Bool → System → List Block → SessionState → SessionState → Type 0
-left_if true system others old new = IsBegun system others old new
+left_if true system others old new = IsSessionBegun system others old new
 left_if false system others old new = new ≡ old
 
-abbrev pub left_by : Ended → System → List Block → SessionState → SessionState → Type 0
-left_by ended system others old new = left_if (is_undone ended) system others old new
+abbrev pub left_by_session : Ended → System → List Block → SessionState → SessionState → Type 0
+left_by_session ended system others old new = left_if (is_undone ended) system others old new
 
 -- Why the first of these blocks could not be served: a counter is spent, or no life has begun and the disk can't be opened.
 abbrev pub UndoneAs : Ended → List Block → Setting → SessionState → Type 0
@@ -109,8 +109,8 @@ UndoneAs _ others setting last = Unit {0}
 
 -- whether the system is down by a stop, at the end of the source
 abbrev pub IsBy : Ended → Standing → Type 0
-IsBy Done standing = is_stopped standing ≡ false
-IsBy Down standing = is_stopped standing ≡ true
+IsBy Done standing = is_session_stopped standing ≡ false
+IsBy Down standing = is_session_stopped standing ≡ true
 IsBy _ standing = Unit {0}
 
 -- ---- causes

@@ -3,10 +3,10 @@ ghost use Rattle.std.specs.Prelude.{◌≡◌, ◌<◌, ◌≤◌, ℕ, [], ◌�
 ghost use Rattle.text_rows.specs.Lines.{is_passed_over};
 ghost use Rattle.tm_edge.specs.Lines.{unread};
 ghost use Rattle.model_session.specs.Blocks as spec;
-ghost use Rattle.session_lives.specs.Running.{IsReady, Leads};
-ghost use Rattle.tm_session.specs.Driving.{Serves, FailsAt, Goes, Ends, EndsWhole, Steps, StopsHere, StopsLast, HasDriven, IsOpen, IsBroken, behind_last};
-ghost use Rattle.tm_session.specs.Outcome.{HasCause, IsBack, IsReadToEnd};
-ghost use Rattle.tm_session.specs.Driving.{ended_by, IsWritten, IsFinished};
+ghost use Rattle.session_lives.specs.RunningSession.{IsSessionReady, Leads};
+ghost use Rattle.tm_session.specs.DrivenSession.{ServesBlocks, FailsAt, SessionGoes, SessionEnds, EndsWhole, SessionSteps, StopsHere, StopsLast, HasDriven, IsBlockOpen, IsSessionBroken, behind_last};
+ghost use Rattle.tm_session.specs.Outcome.{HasCause, IsTextBack, IsReadToEnd};
+ghost use Rattle.tm_session.specs.DrivenSession.{session_ended_by, IsTextWritten, IsBlockFinished};
 
 use crate::outcome::Ended;
 use crate::reader::read_line;
@@ -32,12 +32,12 @@ fn serve_whole<K: Sink, D: Disk>(
     sink: &mut K,
     block: &Block,
 ) -> Option<Ended>
-    requires ready { IsReady D.state session.old }
+    requires ready { IsSessionReady D.state session.old }
     ensures step { Leads D.state (λ setting a b. MatchOption result
-        (Serves setting (block.now ∷ []) (K.written sink.old) (K.written sink.new) a b)
+        (ServesBlocks setting (block.now ∷ []) (K.written sink.old) (K.written sink.new) a b)
         (λ ended. FailsAt setting ended block.now (K.written sink.old) (K.written sink.new) a b)) session.old session.new }
-    ensures ready { IsReady D.state session.new }
-    ensures broken { IfSome result IsBroken }
+    ensures ready { IsSessionReady D.state session.new }
+    ensures broken { IfSome result IsSessionBroken }
     ensures calm { IsNone result → K.faults sink.new ≡ K.faults sink.old }
     ensures cause { IfSome result (λ ended. HasCause ended 0 0 (K.faults sink.old) (K.faults sink.new)) }
 {
@@ -47,8 +47,8 @@ fn serve_whole<K: Sink, D: Disk>(
 
 /// Writes the text of a block that was served so.
 fn finish<K: Sink>(printed: &Printed, sink: &mut K, served: Served) -> Option<Ended>
-    ensures finished { IsFinished printed.now.text served (K.written sink.old) (K.written sink.new) result }
-    ensures broken { IfSome result IsBroken }
+    ensures finished { IsBlockFinished printed.now.text served (K.written sink.old) (K.written sink.new) result }
+    ensures broken { IfSome result IsSessionBroken }
     ensures calm { IsNone result → K.faults sink.new ≡ K.faults sink.old }
     ensures cause { IfSome result (λ ended. HasCause ended 0 0 (K.faults sink.old) (K.faults sink.new)) }
 {
@@ -61,8 +61,8 @@ fn finish<K: Sink>(printed: &Printed, sink: &mut K, served: Served) -> Option<En
 
 /// Writes a text, or says how the session ended.
 fn write<K: Sink>(sink: &mut K, text: &[u8]) -> Option<Ended>
-    ensures written { IsWritten (K.written sink.old) (K.written sink.new) text.now result }
-    ensures broken { IfSome result IsBroken }
+    ensures written { IsTextWritten (K.written sink.old) (K.written sink.new) text.now result }
+    ensures broken { IfSome result IsSessionBroken }
     ensures calm { IsNone result → K.faults sink.new ≡ K.faults sink.old }
     ensures cause { IfSome result (λ ended. HasCause ended 0 0 (K.faults sink.old) (K.faults sink.new)) }
 {
@@ -74,7 +74,7 @@ fn write<K: Sink>(sink: &mut K, text: &[u8]) -> Option<Ended>
 
 /// How a session ends at a block that could not be served.
 fn ended_by(undone: Undone) -> Ended
-    ensures { result ≡ ended_by undone }
+    ensures { result ≡ session_ended_by undone }
 {
     match undone {
         Undone::Memory => Ended::Memory,
@@ -92,15 +92,15 @@ fn begin_block<K: Sink, D: Disk>(
     pending: &mut Option<Block>,
     line: Line,
 ) -> Option<Ended>
-    requires ready { IsReady D.state session.old }
+    requires ready { IsSessionReady D.state session.old }
     requires none { pending.old ≡ None }
     requires seen { is_passed_over line ≡ false }
     ensures step { Leads D.state (λ setting a b. MatchOption result
-        (Goes setting None line pending.new (K.written sink.old) (K.written sink.new) a b)
-        (λ ended. Ends setting ended None line (K.written sink.old) (K.written sink.new) a b)) session.old session.new }
-    ensures ready { IsReady D.state session.new }
-    ensures begun { IfSome pending.new IsOpen }
-    ensures broken { IfSome result IsBroken }
+        (SessionGoes setting None line pending.new (K.written sink.old) (K.written sink.new) a b)
+        (λ ended. SessionEnds setting ended None line (K.written sink.old) (K.written sink.new) a b)) session.old session.new }
+    ensures ready { IsSessionReady D.state session.new }
+    ensures begun { IfSome pending.new IsBlockOpen }
+    ensures broken { IfSome result IsSessionBroken }
     ensures calm { IsNone result → K.faults sink.new ≡ K.faults sink.old }
     ensures cause { IfSome result (λ ended. HasCause ended 0 0 (K.faults sink.old) (K.faults sink.new)) }
 {
@@ -115,9 +115,9 @@ fn begin_block<K: Sink, D: Disk>(
 /// Adds a `+` line to the line that it belongs to.
 #[tactic(auto, using(crate::proofs::Steps::stays_open))]
 fn lengthen(alloc: Global, pending: &mut Option<Block>, block: Block, line: Line) -> bool
-    requires { IsOpen block }
+    requires { IsBlockOpen block }
     ensures added { IsTrue result → pending.new ≡ Some (spec.and_line block line) }
-    ensures begun { IfSome pending.new IsOpen }
+    ensures begun { IfSome pending.new IsBlockOpen }
 {
     let mut block = block;
     let added = block.push(alloc, line).is_ok();
@@ -135,16 +135,16 @@ fn serve_both<K: Sink, D: Disk>(
     block: Block,
     line: Line,
 ) -> Option<Ended>
-    requires ready { IsReady D.state session.old }
+    requires ready { IsSessionReady D.state session.old }
     requires none { pending.old ≡ None }
     requires seen { is_passed_over line ≡ false }
     requires plain { spec.is_further line ≡ false }
     ensures step { Leads D.state (λ setting a b. MatchOption result
-        (Goes setting (Some block) line pending.new (K.written sink.old) (K.written sink.new) a b)
-        (λ ended. Ends setting ended (Some block) line (K.written sink.old) (K.written sink.new) a b)) session.old session.new }
-    ensures ready { IsReady D.state session.new }
-    ensures begun { IfSome pending.new IsOpen }
-    ensures broken { IfSome result IsBroken }
+        (SessionGoes setting (Some block) line pending.new (K.written sink.old) (K.written sink.new) a b)
+        (λ ended. SessionEnds setting ended (Some block) line (K.written sink.old) (K.written sink.new) a b)) session.old session.new }
+    ensures ready { IsSessionReady D.state session.new }
+    ensures begun { IfSome pending.new IsBlockOpen }
+    ensures broken { IfSome result IsSessionBroken }
     ensures calm { IsNone result → K.faults sink.new ≡ K.faults sink.old }
     ensures cause { IfSome result (λ ended. HasCause ended 0 0 (K.faults sink.old) (K.faults sink.new)) }
 {
@@ -164,14 +164,14 @@ fn serve_read<K: Sink, D: Disk>(
     pending: &mut Option<Block>,
     line: Line,
 ) -> Option<Ended>
-    requires ready { IsReady D.state session.old }
-    requires begun { IfSome pending.old IsOpen }
+    requires ready { IsSessionReady D.state session.old }
+    requires begun { IfSome pending.old IsBlockOpen }
     ensures step { Leads D.state (λ setting a b. MatchOption result
-        (Goes setting pending.old line pending.new (K.written sink.old) (K.written sink.new) a b)
-        (λ ended. Ends setting ended pending.old line (K.written sink.old) (K.written sink.new) a b)) session.old session.new }
-    ensures ready { IsReady D.state session.new }
-    ensures begun { IfSome pending.new IsOpen }
-    ensures broken { IfSome result IsBroken }
+        (SessionGoes setting pending.old line pending.new (K.written sink.old) (K.written sink.new) a b)
+        (λ ended. SessionEnds setting ended pending.old line (K.written sink.old) (K.written sink.new) a b)) session.old session.new }
+    ensures ready { IsSessionReady D.state session.new }
+    ensures begun { IfSome pending.new IsBlockOpen }
+    ensures broken { IfSome result IsSessionBroken }
     ensures calm { IsNone result → K.faults sink.new ≡ K.faults sink.old }
     ensures cause { IfSome result (λ ended. HasCause ended 0 0 (K.faults sink.old) (K.faults sink.new)) }
 {
@@ -198,9 +198,9 @@ fn serve_last<K: Sink, D: Disk>(
     sink: &mut K,
     block: &Block,
 ) -> Ended
-    requires ready { IsReady D.state session.old }
+    requires ready { IsSessionReady D.state session.old }
     ensures step { Leads D.state (λ setting a b. EndsWhole setting result (Some block.now) (K.written sink.old) (K.written sink.new) a b) session.old session.new }
-    ensures ready { IsReady D.state session.new }
+    ensures ready { IsSessionReady D.state session.new }
     ensures cause { HasCause result 0 0 (K.faults sink.old) (K.faults sink.new) }
 {
     let failed = serve_whole(alloc, session, printed, sink, block);
@@ -218,9 +218,9 @@ fn serve_end<K: Sink, D: Disk>(
     sink: &mut K,
     pending: &mut Option<Block>,
 ) -> Ended
-    requires ready { IsReady D.state session.old }
+    requires ready { IsSessionReady D.state session.old }
     ensures step { Leads D.state (λ setting a b. EndsWhole setting result pending.old (K.written sink.old) (K.written sink.new) a b) session.old session.new }
-    ensures ready { IsReady D.state session.new }
+    ensures ready { IsSessionReady D.state session.new }
     ensures none { pending.new ≡ None }
     ensures cause { HasCause result 0 0 (K.faults sink.old) (K.faults sink.new) }
 {
@@ -240,16 +240,16 @@ fn serve_next<S: Source, K: Sink, D: Disk>(
     printed: &mut Printed,
     pending: &mut Option<Block>,
 ) -> Option<Ended>
-    requires ready { IsReady D.state session.old }
-    requires begun { IfSome pending.old IsOpen }
+    requires ready { IsSessionReady D.state session.old }
+    requires begun { IfSome pending.old IsBlockOpen }
     ensures step { Leads D.state (λ setting a b. MatchOption result
-        (Steps setting (unread lines.old (S.left source.old)) (unread lines.new (S.left source.new)) pending.old pending.new (K.written sink.old) (K.written sink.new) a b)
+        (SessionSteps setting (unread lines.old (S.left source.old)) (unread lines.new (S.left source.new)) pending.old pending.new (K.written sink.old) (K.written sink.new) a b)
         (λ ended. (count : ℕ) → count < 1000000 → StopsHere setting count ended (unread lines.old (S.left source.old)) (unread lines.new (S.left source.new)) pending.old (K.written sink.old) (K.written sink.new) a b)) session.old session.new }
-    ensures ready { IsReady D.state session.new }
-    ensures begun { IfSome pending.new IsOpen }
+    ensures ready { IsSessionReady D.state session.new }
+    ensures begun { IfSome pending.new IsBlockOpen }
     ensures reads { IsNone result → S.faults source.new ≡ S.faults source.old }
     ensures writes { IsNone result → K.faults sink.new ≡ K.faults sink.old }
-    ensures back { IsBack (unread lines.old (S.left source.old)) (unread lines.new (S.left source.new)) }
+    ensures back { IsTextBack (unread lines.old (S.left source.old)) (unread lines.new (S.left source.new)) }
     ensures whole { IfSome result (λ ended. IsReadToEnd ended (unread lines.new (S.left source.new))) }
     ensures cause { IfSome result (λ ended. HasCause ended (S.faults source.old) (S.faults source.new) (K.faults sink.old) (K.faults sink.new)) }
 {
@@ -273,10 +273,10 @@ fn end_of<S: Source, K: Sink, D: Disk>(
     printed: &mut Printed,
     pending: &mut Option<Block>,
 ) -> Ended
-    requires ready { IsReady D.state session.old }
+    requires ready { IsSessionReady D.state session.old }
     ensures step { Leads D.state (λ setting a b. StopsLast setting 1000000 result (unread lines.old (S.left source.old)) (unread lines.new (S.left source.new)) pending.old (K.written sink.old) (K.written sink.new) a b) session.old session.new }
-    ensures ready { IsReady D.state session.new }
-    ensures back { IsBack (unread lines.old (S.left source.old)) (unread lines.new (S.left source.new)) }
+    ensures ready { IsSessionReady D.state session.new }
+    ensures back { IsTextBack (unread lines.old (S.left source.old)) (unread lines.new (S.left source.new)) }
     ensures whole { IsReadToEnd result (unread lines.new (S.left source.new)) }
     ensures cause { HasCause result (S.faults source.old) (S.faults source.new) (K.faults sink.old) (K.faults sink.new) }
 {
@@ -308,10 +308,10 @@ pub fn serve_lines<S: Source, K: Sink, D: Disk>(
     session: &mut Session<D>,
 ) -> Ended
     requires few { before ≤ 1000000 }
-    requires ready { IsReady D.state session.old }
+    requires ready { IsSessionReady D.state session.old }
     ensures driven { Leads D.state (λ setting a b. HasDriven setting before (unread lines.old (S.left source.old)) (unread lines.new (S.left source.new)) (K.written sink.old) (K.written sink.new) a b result) session.old session.new }
-    ensures ready { IsReady D.state session.new }
-    ensures taken { IsBack (unread lines.old (S.left source.old)) (S.left source.new) }
+    ensures ready { IsSessionReady D.state session.new }
+    ensures taken { IsTextBack (unread lines.old (S.left source.old)) (S.left source.new) }
     ensures whole { IsReadToEnd result (S.left source.new) }
     ensures cause { HasCause result (S.faults source.old) (S.faults source.new) (K.faults sink.old) (K.faults sink.new) }
 {

@@ -1,7 +1,7 @@
 //! The next line of a source, or how its session ends.
 ghost use Rattle.std.specs.Prelude.{◌≡◌, ◌≤◌, IfOk, IfErr, OnOk, OnErr};
 ghost use Rattle.tm_edge.specs.Lines.{ServesTold, unread};
-ghost use Rattle.tm_session.specs.Unread.{IsUnread};
+ghost use Rattle.tm_session.specs.UnreadLine.{IsUnread};
 
 use crate::outcome::Ended;
 use tm_edge::{Line, LineFault, Lines, Source};

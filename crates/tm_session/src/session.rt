@@ -2,12 +2,12 @@
 ghost use Rattle.std.specs.Prelude.{◌≡◌, ◌≤◌, length, IfOk, IfErr, OnOk};
 ghost use Rattle.tm_disk.specs.Disk.{Only};
 ghost use Rattle.tm_edge.specs.Lines.{unread};
-ghost use Rattle.model_session.specs.Standing.{is_stopped};
-ghost use Rattle.tm_session.specs.Opened as spec;
-ghost use Rattle.tm_session.specs.Opened.{IsRead, HasBegun, IsNothing};
-ghost use Rattle.tm_session.specs.Outcome.{HasCause, IsBack, IsReadToEnd};
-ghost use Rattle.session_lives.specs.Running.{IsReady, standing_of};
-ghost use Rattle.session_lives.specs.Closing.{IsClosed, LeavesSo};
+ghost use Rattle.model_session.specs.SessionState.{is_session_stopped};
+ghost use Rattle.tm_session.specs.BegunSession as spec;
+ghost use Rattle.tm_session.specs.BegunSession.{IsDefinitionRead, HasBegun, IsNothing};
+ghost use Rattle.tm_session.specs.Outcome.{HasCause, IsTextBack, IsReadToEnd};
+ghost use Rattle.session_lives.specs.RunningSession.{IsSessionReady, standing_of};
+ghost use Rattle.session_lives.specs.ClosedSession.{IsSessionClosed, SessionLeaves};
 ghost use Rattle.tm_session.specs.Headline.{IsSession, IsUnbegun};
 
 use crate::driver::serve_lines;
@@ -37,7 +37,7 @@ pub fn drill_session<S: Source, K: Sink, D: Disk>(
 ) -> Outcome<D>
     requires only { Only (D.state disk).shown (D.state disk) }
     ensures session { IsSession D.state (S.left source.old) (S.left source.new) (K.written sink.old) (K.written sink.new) disk result.disk result.status result.lives result.stops }
-    ensures taken { IsBack (S.left source.old) (S.left source.new) }
+    ensures taken { IsTextBack (S.left source.old) (S.left source.new) }
     ensures whole { IsReadToEnd result.status (S.left source.new) }
     ensures cause { HasCause result.status (S.faults source.old) (S.faults source.new) (K.faults sink.old) (K.faults sink.new) }
 {
@@ -79,11 +79,11 @@ fn read_system<S: Source>(
     lines: &mut Lines,
     source: &mut S,
 ) -> Result<(u32, System, Bytes), Ended>
-    ensures read { IfOk result (λ read. IsRead (unread lines.old (S.left source.old)) (unread lines.new (S.left source.new)) read.0 read.1 read.2) }
+    ensures read { IfOk result (λ read. IsDefinitionRead (unread lines.old (S.left source.old)) (unread lines.new (S.left source.new)) read.0 read.1 read.2) }
     ensures few { IfOk result (λ read. read.0 ≤ 1000000) }
     ensures short { IfOk result (λ read. length read.2 ≤ 262144) }
     ensures unbegun { IfErr result (IsUnbegun (unread lines.old (S.left source.old))) }
-    ensures back { IsBack (unread lines.old (S.left source.old)) (unread lines.new (S.left source.new)) }
+    ensures back { IsTextBack (unread lines.old (S.left source.old)) (unread lines.new (S.left source.new)) }
     ensures cause { IfErr result (λ ended. HasCause ended (S.faults source.old) (S.faults source.new) 0 0) }
     ensures calm { OnOk result (S.faults source.new ≡ S.faults source.old) }
 {
@@ -115,7 +115,7 @@ fn begin<D: Disk>(
     requires text { length text ≤ 262144 }
     requires only { Only (D.state disk).shown (D.state disk) }
     ensures begun { HasBegun D.state system text disk result.0 result.1 }
-    ensures ready { IsReady D.state result.0 }
+    ensures ready { IsSessionReady D.state result.0 }
 {
     let _ = system.logs();
     let idle = Idle {
@@ -145,10 +145,10 @@ fn refusal(opening: Opening) -> Option<Ended>
 
 /// What a session came to.
 fn finish<D: Disk>(session: Session<D>, status: Ended) -> Outcome<D>
-    requires ready { IsReady D.state session }
-    ensures closed { IsClosed D.state session result.disk result.lives result.stops }
-    ensures leaves { LeavesSo D.state session result.disk result.lives result.stops }
-    ensures status { result.status ≡ spec.by_standing (is_stopped (standing_of session.place)) status }
+    requires ready { IsSessionReady D.state session }
+    ensures closed { IsSessionClosed D.state session result.disk result.lives result.stops }
+    ensures leaves { SessionLeaves D.state session result.disk result.lives result.stops }
+    ensures status { result.status ≡ spec.by_standing (is_session_stopped (standing_of session.place)) status }
 {
     let Over {
         disk,

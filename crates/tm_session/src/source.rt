@@ -1,9 +1,9 @@
 //! The definition that a source begins with, and the system that it defines.
 ghost use Rattle.std.specs.Prelude.{◌≡◌, ◌++◌, Ok, Err, false, IfOk, IfErr, OnOk};
 ghost use Rattle.tm_edge.specs.Lines.{unread};
-ghost use Rattle.tm_session.specs.Source as spec;
-ghost use Rattle.tm_session.specs.Opening.{ReadsDefinition, StopsBefore, IsJudged};
-ghost use Rattle.tm_session.specs.Outcome.{HasCause, IsBack};
+ghost use Rattle.tm_session.specs.DefinedSystem as spec;
+ghost use Rattle.tm_session.specs.ReadDefinition.{ReadsDefinition, StopsBefore, IsDefinitionJudged};
+ghost use Rattle.tm_session.specs.Outcome.{HasCause, IsTextBack};
 
 use crate::outcome::Ended;
 use crate::reader::read_line;
@@ -24,7 +24,7 @@ pub(crate) fn read_definition<S: Source>(
     ensures read { IfOk result (λ read. ReadsDefinition (unread lines.old (S.left source.old)) read.lines (unread lines.new (S.left source.new))) }
     ensures calm { OnOk result (S.faults source.new ≡ S.faults source.old) }
     ensures stops { IfErr result (λ ended. StopsBefore ended (unread lines.old (S.left source.old))) }
-    ensures back { IsBack (unread lines.old (S.left source.old)) (unread lines.new (S.left source.new)) }
+    ensures back { IsTextBack (unread lines.old (S.left source.old)) (unread lines.new (S.left source.new)) }
     ensures cause { IfErr result (λ ended. HasCause ended (S.faults source.old) (S.faults source.new) 0 0) }
 {
     let mut reader = DefinitionReader::new(alloc);
@@ -44,9 +44,9 @@ pub(crate) fn read_definition<S: Source>(
 }
 
 /// The system that the lines of a definition define, or the rule that they break.
-#[tactic(auto, unfolding(crate::specs::Source::judged))]
+#[tactic(auto, unfolding(crate::specs::DefinedSystem::judged_definition))]
 pub(crate) fn judge(alloc: Global, definition: &DefinitionReader) -> Result<System, Ended>
-    ensures { IsJudged (spec.judged definition.now.lines) result }
+    ensures { IsDefinitionJudged (spec.judged_definition definition.now.lines) result }
 {
     let definition = match definition.read() {
         Ok(definition) => definition,
@@ -62,7 +62,7 @@ pub(crate) fn judge(alloc: Global, definition: &DefinitionReader) -> Result<Syst
 
 /// The text that the lines of a definition make, each of them ended by LF.
 pub(crate) fn text_of(alloc: Global, lines: &[Line]) -> Result<Bytes, Memory>
-    ensures { IfOk result (λ text. text ≡ spec.definition_text lines.now) }
+    ensures { IfOk result (λ text. text ≡ spec.text_of_definition lines.now) }
 {
     let mut text = Bytes::new(alloc);
     for line in lines {

@@ -10,7 +10,7 @@ use Rattle.std.proofs.lemmas.Slice.Eq.{bytes_eq-Decides}
 use Rattle.std.proofs.Math.Seq.{take-append_seam, drop-append-add}
 use Rattle.tm_types.specs.Name.{IsName, is_name, is_name_byte}
 use Rattle.tm_types.specs.Words.{first_word, operands}
-use Rattle.tm_types.specs.Commands.{spelling, name_in, named, Spells, start_in, stop_in, purge_in, dequeue_in, command_in}
+use Rattle.tm_types.specs.Commands.{command_spelling, name_in, named, SpellsCommand, start_in, stop_in, purge_in, dequeue_in, command_in}
 use Rattle.tm_types.specs.declared.command.LastingCommand.{LastingCommand}
 use Rattle.tm_types.specs.declared.command.LastingCommand.TheVariants.{StartTransaction, StopTransaction, StartTerminal, StopTerminal, DequeueFirst, DequeueAll, Exit}
 
@@ -112,11 +112,11 @@ two_words text verb keyword first second name =
     ∙ ap (λ o. verb ++ 32 ∷ o) rest
 
 spells_named : (text word : List ℕ) (command : List ℕ → LastingCommand) (c : LastingCommand) → IsNamed command word c
-    → text ≡ spelling (command word) → name_in (command word) ≡ word → Spells text c
+    → text ≡ command_spelling (command word) → name_in (command word) ≡ word → SpellsCommand text c
 spells_named text word command c h spelled named =
-    subst (Spells text) (sym h.is) (record { spelled = spelled; named = subst IsName (sym named) (name_of word h.name) })
+    subst (SpellsCommand text) (sym h.is) (record { spelled = spelled; named = subst IsName (sym named) (name_of word h.name) })
 
-start_spells : (text : List ℕ) (c : LastingCommand) → bytes_eq (first_word text) (codes "/START") ≡ true → start_in (operands text) ≡ Some c → Spells text c
+start_spells : (text : List ℕ) (c : LastingCommand) → bytes_eq (first_word text) (codes "/START") ≡ true → start_in (operands text) ≡ Some c → SpellsCommand text c
 unfolding start_in
 start_spells text c verb is = by (bytes_eq (first_word (operands text)) (codes "TRANSACTION")) (bytes_eq (first_word (operands text)) (codes "LTERM")) refl refl is
   where
@@ -125,7 +125,7 @@ start_spells text c verb is = by (bytes_eq (first_word (operands text)) (codes "
 
     by : (a b : Bool) → bytes_eq (first_word (operands text)) (codes "TRANSACTION") ≡ a → bytes_eq (first_word (operands text)) (codes "LTERM") ≡ b
         → (if a then named (λ code. StartTransaction code) (operands (operands text))
-        else if b then named (λ terminal. StartTerminal terminal) (operands (operands text)) else None) ≡ Some c → Spells text c
+        else if b then named (λ terminal. StartTerminal terminal) (operands (operands text)) else None) ≡ Some c → SpellsCommand text c
     by true b first second e =
         let h = named_is (λ code. StartTransaction code) (operands (operands text)) c e in
         spells_named text (operands (operands text)) (λ code. StartTransaction code) c h (two_words text (codes "/START") (codes "TRANSACTION") verb first h.name) refl
@@ -134,13 +134,13 @@ start_spells text c verb is = by (bytes_eq (first_word (operands text)) (codes "
         spells_named text (operands (operands text)) (λ terminal. StartTerminal terminal) c h (two_words text (codes "/START") (codes "LTERM") verb second h.name) refl
     by false false first second e = cc
 
-stop_spells : (text : List ℕ) (c : LastingCommand) → bytes_eq (first_word text) (codes "/STOP") ≡ true → stop_in (operands text) ≡ Some c → Spells text c
+stop_spells : (text : List ℕ) (c : LastingCommand) → bytes_eq (first_word text) (codes "/STOP") ≡ true → stop_in (operands text) ≡ Some c → SpellsCommand text c
 unfolding stop_in
 stop_spells text c verb is = by (bytes_eq (first_word (operands text)) (codes "TRANSACTION")) (bytes_eq (first_word (operands text)) (codes "LTERM")) refl refl is
   where
     by : (a b : Bool) → bytes_eq (first_word (operands text)) (codes "TRANSACTION") ≡ a → bytes_eq (first_word (operands text)) (codes "LTERM") ≡ b
         → (if a then named (λ code. StopTransaction code) (operands (operands text))
-        else if b then named (λ terminal. StopTerminal terminal) (operands (operands text)) else None) ≡ Some c → Spells text c
+        else if b then named (λ terminal. StopTerminal terminal) (operands (operands text)) else None) ≡ Some c → SpellsCommand text c
     by true b first second e =
         let h = named_is (λ code. StopTransaction code) (operands (operands text)) c e in
         spells_named text (operands (operands text)) (λ code. StopTransaction code) c h (two_words text (codes "/STOP") (codes "TRANSACTION") verb first h.name) refl
@@ -167,13 +167,13 @@ long_name : (name rest : List ℕ) → 0 < length (name ++ 32 ∷ rest)
 long_name name rest = long_behind name rest
 
 purge_spells : (text : List ℕ) (c : LastingCommand) → bytes_eq (first_word text) (codes "/DEQUEUE") ≡ true → bytes_eq (first_word (operands text)) (codes "LTERM") ≡ true
-    → purge_in (operands (operands text)) ≡ Some c → Spells text c
+    → purge_in (operands (operands text)) ≡ Some c → SpellsCommand text c
 unfolding purge_in
 purge_spells text c verb keyword is = by (operands (operands text)) refl (bytes_eq (operands (operands (operands text))) (codes "PURGE1")) (bytes_eq (operands (operands (operands text))) (codes "PURGE")) refl refl is
   where
     by : (rest : List ℕ) → operands (operands text) ≡ rest → (a b : Bool) → bytes_eq (operands rest) (codes "PURGE1") ≡ a → bytes_eq (operands rest) (codes "PURGE") ≡ b
         → (if a then named (λ terminal. DequeueFirst terminal) (first_word rest)
-        else if b then named (λ terminal. DequeueAll terminal) (first_word rest) else None) ≡ Some c → Spells text c
+        else if b then named (λ terminal. DequeueAll terminal) (first_word rest) else None) ≡ Some c → SpellsCommand text c
     by rest at true b first second e =
         let h = named_is (λ terminal. DequeueFirst terminal) (first_word rest) c e in
         let all = purged rest (codes "PURGE1") first (omega arith) in
@@ -186,27 +186,27 @@ purge_spells text c verb keyword is = by (operands (operands text)) refl (bytes_
         (lterm_parted text (first_word rest ++ codes " PURGE") verb keyword (at ∙ all) (long_name (first_word rest) (codes "PURGE"))) refl
     by rest at false false first second e = cc
 
-dequeue_spells : (text : List ℕ) (c : LastingCommand) → bytes_eq (first_word text) (codes "/DEQUEUE") ≡ true → dequeue_in (operands text) ≡ Some c → Spells text c
+dequeue_spells : (text : List ℕ) (c : LastingCommand) → bytes_eq (first_word text) (codes "/DEQUEUE") ≡ true → dequeue_in (operands text) ≡ Some c → SpellsCommand text c
 unfolding dequeue_in
 dequeue_spells text c verb is = by (bytes_eq (first_word (operands text)) (codes "LTERM")) refl is
   where
-    by : (a : Bool) → bytes_eq (first_word (operands text)) (codes "LTERM") ≡ a → (if a then purge_in (operands (operands text)) else None) ≡ Some c → Spells text c
+    by : (a : Bool) → bytes_eq (first_word (operands text)) (codes "LTERM") ≡ a → (if a then purge_in (operands (operands text)) else None) ≡ Some c → SpellsCommand text c
     by true keyword e = purge_spells text c verb keyword e
     by false keyword e = cc
 
-exit_spells : (text : List ℕ) (c : LastingCommand) → bytes_eq (first_word text) (codes "/EXIT") ≡ true → named (λ terminal. Exit terminal) (operands text) ≡ Some c → Spells text c
+exit_spells : (text : List ℕ) (c : LastingCommand) → bytes_eq (first_word text) (codes "/EXIT") ≡ true → named (λ terminal. Exit terminal) (operands text) ≡ Some c → SpellsCommand text c
 exit_spells text c verb is =
     let h = named_is (λ terminal. Exit terminal) (operands text) c is in
     spells_named text (operands text) (λ terminal. Exit terminal) c h (word_parted text (codes "/EXIT") verb (some_name (operands text) h.name)) refl
 
-pub read_spells : (text : List ℕ) (c : LastingCommand) → command_in text ≡ Some c → Spells text c
+pub read_spells : (text : List ℕ) (c : LastingCommand) → command_in text ≡ Some c → SpellsCommand text c
 unfolding command_in
 read_spells text c is = by (bytes_eq (first_word text) (codes "/START")) (bytes_eq (first_word text) (codes "/STOP")) (bytes_eq (first_word text) (codes "/DEQUEUE")) (bytes_eq (first_word text) (codes "/EXIT")) refl refl refl refl is
   where
     by : (a b d e : Bool) → bytes_eq (first_word text) (codes "/START") ≡ a → bytes_eq (first_word text) (codes "/STOP") ≡ b
         → bytes_eq (first_word text) (codes "/DEQUEUE") ≡ d → bytes_eq (first_word text) (codes "/EXIT") ≡ e
         → (if a then start_in (operands text) else if b then stop_in (operands text) else if d then dequeue_in (operands text)
-        else if e then named (λ terminal. Exit terminal) (operands text) else None) ≡ Some c → Spells text c
+        else if e then named (λ terminal. Exit terminal) (operands text) else None) ≡ Some c → SpellsCommand text c
     by true b d e ia ib id ie h = start_spells text c ia h
     by false true d e ia ib id ie h = stop_spells text c ib h
     by false false true e ia ib id ie h = dequeue_spells text c id h
@@ -246,7 +246,7 @@ purge_all name is =
         else if bytes_eq o (codes "PURGE") then named (λ terminal. DequeueAll terminal) front else None) b
         ∙ ap (λ o. named (λ terminal. DequeueAll terminal) o) f ∙ taken (λ terminal. DequeueAll terminal) name is
 
-command_spelled : (c : LastingCommand) → IsName (name_in c) → command_in (spelling c) ≡ Some c
+command_spelled : (c : LastingCommand) → IsName (name_in c) → command_in (command_spelling c) ≡ Some c
 unfolding command_in start_in stop_in dequeue_in
 command_spelled (StartTransaction code) is = taken (λ c. StartTransaction c) code is
 command_spelled (StopTransaction code) is = taken (λ c. StopTransaction c) code is
@@ -256,9 +256,9 @@ command_spelled (DequeueFirst terminal) is = purge_first terminal is
 command_spelled (DequeueAll terminal) is = purge_all terminal is
 command_spelled (Exit terminal) is = taken (λ t. Exit t) terminal is
 
-pub spelled_read : (text : List ℕ) (c : LastingCommand) → Spells text c → command_in text ≡ Some c
+pub spelled_read : (text : List ℕ) (c : LastingCommand) → SpellsCommand text c → command_in text ≡ Some c
 spelled_read text c is = ap command_in is.spelled ∙ command_spelled c is.named
 
 -- what is read is what is spelled, and the other way round
-pub reads_spelled : (text : List ℕ) (c : LastingCommand) → (command_in text ≡ Some c) ↔ Spells text c
+pub reads_spelled : (text : List ℕ) (c : LastingCommand) → (command_in text ≡ Some c) ↔ SpellsCommand text c
 reads_spelled text c = (read_spells text c, spelled_read text c)

@@ -3,3 +3,8 @@ pub mod Hierarchy
 pub mod Places
 pub mod Commands
 pub mod DigitSteps
+pub mod KeyOrder
+pub mod Parted
+pub mod Positions
+pub mod Ordered
+pub mod Truths

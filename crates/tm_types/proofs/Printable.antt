@@ -5,16 +5,16 @@ use Rattle.std.specs.Prelude.{Some, None, cond, nat_lt}
 use Rattle.std.proofs.lemmas.Bool.Decides.{nat_tests}
 use Rattle.tm_types.specs.Segment.{is_printable}
 
-one_more : (p : ℕ → Bool) (x : ℕ) (xs : List ℕ) (b : Bool) → p x ≡ b → length (x ∷ xs) ≤ prefix_len (λ x. not (not (p x))) (x ∷ xs) →
+pub one_more : (p : ℕ → Bool) (x : ℕ) (xs : List ℕ) (b : Bool) → p x ≡ b → length (x ∷ xs) ≤ prefix_len (λ x. not (not (p x))) (x ∷ xs) →
     (length xs ≤ prefix_len (λ x. not (not (p x))) xs → list_all p xs ≡ true) → list_all p (x ∷ xs) ≡ true
 one_more p x xs true e h rest = let more = rw e at h in rw e (rest (omega arith))
 one_more p x xs false e h rest = let none = rw e at h in absurd (omega arith)
 
-all_from_prefix : (p : ℕ → Bool) (xs : List ℕ) → length xs ≤ prefix_len (λ x. not (not (p x))) xs → list_all p xs ≡ true
+pub all_from_prefix : (p : ℕ → Bool) (xs : List ℕ) → length xs ≤ prefix_len (λ x. not (not (p x))) xs → list_all p xs ≡ true
 all_from_prefix p [] h = refl
 all_from_prefix p (x ∷ xs) h = one_more p x xs (p x) refl h (all_from_prefix p xs)
 
-none_from_cond : (b : Bool) (n : ℕ) → cond b (Some n) None ≡ None → b ≡ false
+pub none_from_cond : (b : Bool) (n : ℕ) → cond b (Some n) None ≡ None → b ≡ false
 none_from_cond true n h = cc
 none_from_cond false n h = refl
 

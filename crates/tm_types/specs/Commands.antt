@@ -7,14 +7,14 @@ use Rattle.tm_types.specs.declared.command.LastingCommand.{LastingCommand}
 use Rattle.tm_types.specs.declared.command.LastingCommand.TheVariants.{StartTransaction, StopTransaction, StartTerminal, StopTerminal, DequeueFirst, DequeueAll, Exit}
 
 -- the one spelling of each
-abbrev pub spelling : LastingCommand → List ℕ
-spelling (StartTransaction code) = codes "/START TRANSACTION " ++ code
-spelling (StopTransaction code) = codes "/STOP TRANSACTION " ++ code
-spelling (StartTerminal terminal) = codes "/START LTERM " ++ terminal
-spelling (StopTerminal terminal) = codes "/STOP LTERM " ++ terminal
-spelling (DequeueFirst terminal) = codes "/DEQUEUE LTERM " ++ (terminal ++ codes " PURGE1")
-spelling (DequeueAll terminal) = codes "/DEQUEUE LTERM " ++ (terminal ++ codes " PURGE")
-spelling (Exit terminal) = codes "/EXIT " ++ terminal
+abbrev pub command_spelling : LastingCommand → List ℕ
+command_spelling (StartTransaction code) = codes "/START TRANSACTION " ++ code
+command_spelling (StopTransaction code) = codes "/STOP TRANSACTION " ++ code
+command_spelling (StartTerminal terminal) = codes "/START LTERM " ++ terminal
+command_spelling (StopTerminal terminal) = codes "/STOP LTERM " ++ terminal
+command_spelling (DequeueFirst terminal) = codes "/DEQUEUE LTERM " ++ (terminal ++ codes " PURGE1")
+command_spelling (DequeueAll terminal) = codes "/DEQUEUE LTERM " ++ (terminal ++ codes " PURGE")
+command_spelling (Exit terminal) = codes "/EXIT " ++ terminal
 
 -- the code or terminal that it names
 abbrev pub name_in : LastingCommand → List ℕ
@@ -27,8 +27,8 @@ name_in (DequeueAll terminal) = terminal
 name_in (Exit terminal) = terminal
 
 -- the text is the command's spelling, and what it names is a name
-pub record Spells (text : List ℕ) (command : LastingCommand) : Type 0 where
-  pub spelled : text ≡ spelling command
+pub record SpellsCommand (text : List ℕ) (command : LastingCommand) : Type 0 where
+  pub spelled : text ≡ command_spelling command
   pub named : IsName (name_in command)
 
 -- ---- the command that a text spells, by its words

@@ -27,14 +27,14 @@ impl LastingCommand {
     /// The command that a text spells, or None exactly where it spells none. This takes no memory.
     pub fn read(text: &[u8]) -> Option<LastingCommand>
         ensures value { result ≡ spec.command_in text.now }
-        ensures spelled { (c : LastingCommand) → (result ≡ Some c) ↔ spec.Spells text.now c }
+        ensures spelled { (c : LastingCommand) → (result ≡ Some c) ↔ spec.SpellsCommand text.now c }
     {
         command_of(text)
     }
 
     /// Adds the command's spelling at the end, or nothing where there is no memory.
     pub fn write(&self, out: &mut Vec<u8>) -> Result<(), Memory>
-        ensures written { OnOk result (out.new.items ≡ out.old.items ++ spec.spelling self.now) }
+        ensures written { OnOk result (out.new.items ≡ out.old.items ++ spec.command_spelling self.now) }
         ensures unwritten { OnErr result (out.new.items ≡ out.old.items) }
     {
         match self {

@@ -1,10 +1,10 @@
 //! The keys of segments.
-ghost use Rattle.std.specs.Prelude.{◌≡◌, ◌↔◌, IsTrue, IsSome, IfSome, nat_eq};
+ghost use Rattle.std.specs.Prelude.{◌≡◌, ◌≤◌, ◌<◌, ◌+◌, ℕ, slice_index, ◌↔◌, IsTrue, IsSome, IfSome, nat_eq};
 ghost use Rattle.std.specs.Ordering.{nat_cmp, as_partial_cmp};
 ghost use Rattle.std.specs.Cmp.{partial_equiv_from_equiv};
 ghost use Rattle.std.specs.Cmp.Lexicographic.{pointwise, slice_cmp, nat_list_eq_equiv, nat_list_cmp_total, texts_po, texts_ties};
 ghost use Rattle.std.proofs.Common.{rules};
-ghost use Rattle.tm_types.specs.Key.{IsKey};
+ghost use Rattle.tm_types.specs.Key.{IsKey, spelled};
 
 use std::cmp::Ordering;
 use std::marker::Model;
@@ -35,6 +35,24 @@ impl Model for Key {
     ghost inverse = { λ bytes. record { len = length bytes; bytes = bytes ++ drop (length bytes) key_padding } };
 
     ghost inverse_ok = { λ k h i. let fields = padded_key k.len k.bytes h.1 h.2 h.3 in record { len = fields.0 i; bytes = fields.1 i } };
+}
+
+// Eight bytes as a number, the first counting most.
+fn word(bytes: &[u8; 32], at: usize) -> u64
+    requires { at + 8 ≤ 32 }
+    ensures value { result ≡ spelled bytes.now at 0 0 8 }
+    ensures bytes { (i : ℕ) → slice_index bytes.now i < 256 }
+{
+    u64::from_be_bytes([
+        bytes[at],
+        bytes[at + 1],
+        bytes[at + 2],
+        bytes[at + 3],
+        bytes[at + 4],
+        bytes[at + 5],
+        bytes[at + 6],
+        bytes[at + 7],
+    ])
 }
 
 impl Key {
@@ -96,7 +114,15 @@ impl Ord for Key {
 
     ghost matches_eq = { texts_ties };
 
+    // Eight bytes at once; those behind a key are zeros, and come before all others.
     fn cmp(&self, other: &Key) -> Ordering {
-        self.as_bytes().cmp(other.as_bytes())
+        for index in 0..4usize {
+            let mine = word(&self.bytes, index * 8);
+            let theirs = word(&other.bytes, index * 8);
+            if mine != theirs {
+                return mine.cmp(&theirs);
+            }
+        }
+        self.len.cmp(&other.len)
     }
 }

@@ -14,8 +14,8 @@ use Rattle.model_messages.specs.Queue.{AreInOrder, ids_of, has_id, queued_at, is
 use Rattle.model_system.specs.declared.code.Code.{Code}
 use Rattle.model_system.specs.declared.code_state.CodeState.{CodeState}
 use Rattle.model_system.specs.Codes.{code_at}
-use Rattle.model_machine.specs.Pick.{Candidate, candidate_by, candidate_of, is_served, goes_first, better, best_of, pick_among}
-use Rattle.msg_queues.proofs.Keys.{equal_from}
+use Rattle.model_machine.specs.Pick.{Candidate, candidate_by, candidate_of, is_code_served, goes_first, better, best_of, pick_among}
+use Rattle.tm_types.proofs.Ordered.{equal_from}
 
 -- ---- the message
 -- the message of the id is there, and no region has it
@@ -77,7 +77,7 @@ first_is_free code qs id ordered e = by (find (is_free_of code) qs) refl e
         (no_holder q.holder (and_parts (bytes_eq q.message.code code) (is_none q.holder) passes).1))
 
 -- where an id is below all others, none of these has it
-none_above : (code : List ℕ) (id : ℕ) (qs : List Queued) → AllByRecursion (λ k. nat_cmp id k ≡ Less) (ids_of qs) → AllByRecursion (λ q. has_id id q ≡ true → q.message.code ≡ code) qs
+pub none_above : (code : List ℕ) (id : ℕ) (qs : List Queued) → AllByRecursion (λ k. nat_cmp id k ≡ Less) (ids_of qs) → AllByRecursion (λ q. has_id id q ≡ true → q.message.code ≡ code) qs
 none_above code id [] below = tt
 none_above code id (q ∷ qs) below =
     (λ same. let clash : Less ≡ Equal = sym below.0 ∙ equal_from id q.message.id (sym (eqb-true q.message.id id same)) in absurd (cc), none_above code id qs below.1)
@@ -128,7 +128,7 @@ first_code code codes =
 
 candidate_code : (waits : List ℕ → Option ℕ) (class : ℕ) (code : Code) (codes : List Code) (state : CodeState)
     → IfSome (candidate_of waits class code state) (IsOf (code ∷ codes))
-candidate_code waits class code codes state = by (is_served class code state) (waits code.transaction.code)
+candidate_code waits class code codes state = by (is_code_served class code state) (waits code.transaction.code)
   where
     by : (b : Bool) (first : Option ℕ) → IfSome (cond b (candidate_by code state first) None) (IsOf (code ∷ codes))
     by false first = tt

@@ -4,7 +4,7 @@ use Rattle.std.specs.Option.{option_or}
 use Rattle.model_system.specs.declared.code.Code.{Code}
 use Rattle.model_system.specs.declared.code_state.CodeState.{CodeState}
 use Rattle.model_machine.specs.Pick.{Candidate, candidate_of, goes_first, better, best_of, pick_among}
-use Rattle.tran_pick.specs.Picked.{IsEligible, NoneEligible, IsFirst, IsPicked, NonePicked}
+use Rattle.tran_pick.specs.RegionPick.{IsEligible, NoneEligible, IsFirstToServe, IsPicked, NonePicked}
 use Rattle.tran_pick.proofs.Better.{GoesFirst, GoesAlong, first_from, along_from, along_by, along_along}
 
 not_itself : (a : Candidate) → goes_first a a ≡ false
@@ -37,40 +37,40 @@ module _ (waits : List ℕ → Option ℕ) (class : ℕ) where
       let both = both_none (candidate_of waits class code state) (best_of waits class codes states) e in
       ⊎_elim (λ q. no_value (candidate_of waits class code state) c both.0 q) (none_from codes states both.1 c) h
 
-  pub first_of : (codes : List Code) (states : List CodeState) (c : Candidate) → best_of waits class codes states ≡ Some c → IsFirst waits class codes states c
+  pub first_of : (codes : List Code) (states : List CodeState) (c : Candidate) → best_of waits class codes states ≡ Some c → IsFirstToServe waits class codes states c
   first_of [] states c e = no_value None c refl e
   first_of (code ∷ codes) [] c e = no_value None c refl e
   first_of (code ∷ codes) (state ∷ states) c e =
       by (candidate_of waits class code state) (best_of waits class codes states) refl refl e (first_of codes states)
     where
       Whole : Candidate → Type 0
-      Whole d = IsFirst waits class (code ∷ codes) (state ∷ states) d
+      Whole d = IsFirstToServe waits class (code ∷ codes) (state ∷ states) d
 
       here : (a : Candidate) → candidate_of waits class code state ≡ Some a → ((d : Candidate) → IsEligible waits class codes states d → goes_first d a ≡ false)
-          → IsFirst waits class (code ∷ codes) (state ∷ states) a
+          → IsFirstToServe waits class (code ∷ codes) (state ∷ states) a
       here a q others =
           record {
             eligible = inl q;
             before = λ d h. ⊎_elim (λ r. let same : a ≡ d = the_value a d (sym q ∙ r) in subst (λ x. goes_first x a ≡ false) same (not_itself a)) (others d) h;
           }
 
-      later : (b : Candidate) → IsFirst waits class codes states b → ((d : Candidate) → candidate_of waits class code state ≡ Some d → goes_first d b ≡ false)
-          → IsFirst waits class (code ∷ codes) (state ∷ states) b
+      later : (b : Candidate) → IsFirstToServe waits class codes states b → ((d : Candidate) → candidate_of waits class code state ≡ Some d → goes_first d b ≡ false)
+          → IsFirstToServe waits class (code ∷ codes) (state ∷ states) b
       later b h this = record { eligible = inr h.eligible; before = λ d g. ⊎_elim (this d) (h.before d) g }
 
       by : (o r : Option Candidate) → candidate_of waits class code state ≡ o → best_of waits class codes states ≡ r → better o r ≡ Some c
-          → ((b : Candidate) → best_of waits class codes states ≡ Some b → IsFirst waits class codes states b) → IsFirst waits class (code ∷ codes) (state ∷ states) c
+          → ((b : Candidate) → best_of waits class codes states ≡ Some b → IsFirstToServe waits class codes states b) → IsFirstToServe waits class (code ∷ codes) (state ∷ states) c
       by None r q s f rec = later c (rec c (s ∙ f)) (λ d t. no_value (candidate_of waits class code state) d q t)
       by (Some a) None q s f rec =
-          subst (λ x. IsFirst waits class (code ∷ codes) (state ∷ states) x) (the_value a c f) (here a q (λ d h. absurd (none_from codes states s d h)))
+          subst (λ x. IsFirstToServe waits class (code ∷ codes) (state ∷ states) x) (the_value a c f) (here a q (λ d h. absurd (none_from codes states s d h)))
       by (Some a) (Some b) q s f rec = choose (goes_first b a) refl f
         where
-          choose : (t : Bool) → goes_first b a ≡ t → cond t (Some b) (Some a) ≡ Some c → IsFirst waits class (code ∷ codes) (state ∷ states) c
+          choose : (t : Bool) → goes_first b a ≡ t → cond t (Some b) (Some a) ≡ Some c → IsFirstToServe waits class (code ∷ codes) (state ∷ states) c
           choose true u g =
-              subst (λ x. IsFirst waits class (code ∷ codes) (state ∷ states) x) (the_value b c g)
+              subst (λ x. IsFirstToServe waits class (code ∷ codes) (state ∷ states) x) (the_value b c g)
               (later b (rec b s) (λ d t. subst (λ x. goes_first x b ≡ false) (the_value a d (sym q ∙ t)) (along_by b a (along_after b a (first_from b a u)))))
           choose false u g =
-              subst (λ x. IsFirst waits class (code ∷ codes) (state ∷ states) x) (the_value a c g)
+              subst (λ x. IsFirstToServe waits class (code ∷ codes) (state ∷ states) x) (the_value a c g)
               (here a q (λ d h. along_by a d (along_along a b d (along_from a b u) (along_from b d ((rec b s).before d h)))))
 
 module _ (waits : List ℕ → Option ℕ) (codes : List Code) (states : List CodeState) where

@@ -1,8 +1,8 @@
 //! Codes that a region may serve.
 ghost use Rattle.std.specs.Prelude.{◌≡◌, if◌then◌else◌, IfSome};
 ghost use Rattle.model_messages.specs.Queue.{first_free};
-ghost use Rattle.tran_pick.specs.Picked.{IsFirstFree};
-ghost use Rattle.model_machine.specs.Pick.{current_priority, is_served, candidate_of, better, goes_first};
+ghost use Rattle.tran_pick.specs.RegionPick.{IsFirstFree};
+ghost use Rattle.model_machine.specs.Pick.{current_priority, is_code_served, candidate_of, better, goes_first};
 
 use model_system::{Code, CodeState};
 use msg_queues::Queues;
@@ -59,7 +59,7 @@ pub fn current_priority(code: &Code, state: &CodeState) -> u8
 }
 
 fn is_served(class: u8, code: &Code, state: &CodeState) -> bool
-    ensures { result ≡ is_served class code.now state.now }
+    ensures { result ≡ is_code_served class code.now state.now }
 {
     state.class == class && !state.stopped && current_priority(code, state) > 0
 }

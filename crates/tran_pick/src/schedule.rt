@@ -4,7 +4,7 @@ ghost use Rattle.std.specs.Option.{option_map, IsSome};
 ghost use Rattle.model_messages.specs.Queue.{first_free};
 ghost use Rattle.model_system.specs.Codes.{code_at};
 ghost use Rattle.model_machine.specs.Pick.{Candidate, best_of, pick_among, pick_of};
-ghost use Rattle.tran_pick.specs.Picked.{IsFirstFree, IsPicked, NonePicked};
+ghost use Rattle.tran_pick.specs.RegionPick.{IsFirstFree, IsPicked, NonePicked};
 
 use crate::Pick;
 use crate::candidate::{Candidate, better, candidate_of};

@@ -8,12 +8,12 @@ use Rattle.std.proofs.lemmas.Option.{slice_get_within}
 use Rattle.model_data.specs.declared.row.Row.{Row}
 use Rattle.model_data.specs.Path.{key_cmp}
 use Rattle.model_data.proofs.Lists.{all_then, all_front, all_back}
-use Rattle.seg_store.specs.Slots.{Stored, has_root, is_free, without_root}
+use Rattle.seg_store.specs.Slots.{Stored, has_root, is_slot_free, without_root}
 use Rattle.seg_store.proofs.Places as places
 use Rattle.seg_store.proofs.SlotRows.{rooted, record_has, set_itself}
 use Rattle.unit_work.specs.declared.change.Change.{Change}
-use Rattle.unit_work.specs.Changes.{AreOther, AreOnce, Pairs}
-use Rattle.unit_work.specs.BackOut.{is_touched, was_in, backed_slot, cleared_slot, cleared_slots, backed_slots, cleared_from, backed_from, cleared, IsStored, FitsStore, FitsOption, CanGoBack, AreApart, with_image_back, with_back, with_record_back}
+use Rattle.unit_work.specs.Changes.{AreOther, AreRecordsOnce, Pairs}
+use Rattle.unit_work.specs.BackOut.{is_touched, was_in, backed_slot, cleared_slot, cleared_slots, backed_slots, cleared_from, backed_from, cleared, IsStored, FitsStore, FitsOption, CanGoBack, AreInOtherSlots, with_image_back, with_back, with_record_back}
 use Rattle.unit_work.proofs.Keeping.{pairs_last}
 
 -- an element after a change of one
@@ -100,16 +100,16 @@ not_there front c db n (image ∷ slots) h =
     ∷ not_there front c db (suc n) slots (λ m le. h m (omega arith)) t
 
 was_other_db : (c : Change) (db m : ℕ) → c.db ≢ db → was_in db m c ≡ false
-was_other_db c db m other = ap (λ b. b && (eqb c.slot m && not (is_free c.before))) (ne_eqb c.db db other)
+was_other_db c db m other = ap (λ b. b && (eqb c.slot m && not (is_slot_free c.before))) (ne_eqb c.db db other)
 
 was_other_slot : (c : Change) (db m : ℕ) → c.slot ≢ m → was_in db m c ≡ false
-was_other_slot c db m other = ap (λ b. eqb c.db db && (b && not (is_free c.before))) (ne_eqb c.slot m other) ∙ by (eqb c.db db)
+was_other_slot c db m other = ap (λ b. eqb c.db db && (b && not (is_slot_free c.before))) (ne_eqb c.slot m other) ∙ by (eqb c.db db)
   where
-    by : (b : Bool) → (b && (false && not (is_free c.before))) ≡ false
+    by : (b : Bool) → (b && (false && not (is_slot_free c.before))) ≡ false
     by true = refl
     by false = refl
 
-pub was_not_there : (c : Change) (db m : ℕ) → is_free c.before ≡ true → was_in db m c ≡ false
+pub was_not_there : (c : Change) (db m : ℕ) → is_slot_free c.before ≡ true → was_in db m c ≡ false
 was_not_there c db m free = ap (λ b. eqb c.db db && (eqb c.slot m && not b)) free ∙ by (eqb c.db db) (eqb c.slot m)
   where
     by : (a b : Bool) → (a && (b && false)) ≡ false
@@ -117,10 +117,10 @@ was_not_there c db m free = ap (λ b. eqb c.db db && (eqb c.slot m && not b)) fr
     by true false = refl
     by false b = refl
 
-pub was_there : (c : Change) (db m : ℕ) → c.db ≡ db → c.slot ≡ m → is_free c.before ≡ false → was_in db m c ≡ true
+pub was_there : (c : Change) (db m : ℕ) → c.db ≡ db → c.slot ≡ m → is_slot_free c.before ≡ false → was_in db m c ≡ true
 was_there c db m d s t = λ k. eq-eqb c.db db d k && (eq-eqb c.slot m s k && not (t k))
 
-own_back : (front : List Change) (c : Change) (db n i : ℕ) (slots : List (List Row)) → c.db ≡ db → c.slot ≡ n + i → is_free c.before ≡ false → i < length slots
+own_back : (front : List Change) (c : Change) (db n i : ℕ) (slots : List (List Row)) → c.db ≡ db → c.slot ≡ n + i → is_slot_free c.before ≡ false → i < length slots
     → backed_slots (front ++ c ∷ []) db n slots ≡ backed_slots front db n (set slots i c.before)
 own_back front c db n i [] d e t lt = absurd (omega arith)
 own_back front c db n zero (image ∷ slots) d e t lt =
@@ -136,7 +136,7 @@ stores_not_there front c n [] h = refl
 stores_not_there front c n (s ∷ stores) h =
     λ k. record { dbd = s.dbd; slots = not_there front c n 0 s.slots (λ m le. h n m (omega arith)) k } ∷ stores_not_there front c (suc n) stores (λ db m le. h db m (omega arith)) k
 
-stores_back : (front : List Change) (c : Change) (n i : ℕ) (stores : List Stored) (s : Stored) → c.db ≡ n + i → slice_get stores i ≡ Some s → is_free c.before ≡ false → c.slot < length s.slots
+stores_back : (front : List Change) (c : Change) (n i : ℕ) (stores : List Stored) (s : Stored) → c.db ≡ n + i → slice_get stores i ≡ Some s → is_slot_free c.before ≡ false → c.slot < length s.slots
     → backed_from (front ++ c ∷ []) n stores ≡ backed_from front n (set stores i (record { dbd = s.dbd; slots = set s.slots c.slot c.before }))
 stores_back front c n i [] s e g t lt = let clash : None ≡ Some s = g in absurd (cc)
 stores_back front c n zero (x ∷ stores) s e g t lt =
@@ -158,17 +158,17 @@ back_none c stores none = by (slice_get stores (c.db - 1)) refl
     by : (o : Option Stored) → slice_get stores (c.db - 1) ≡ o → stores ≡ with_back c (slice_get stores (c.db - 1)) stores
     by None e = sym (ap (λ o. with_back c o stores) e)
     by (Some s) e =
-        let same : with_image_back c s ≡ s = ap (λ b. record { dbd = s.dbd; slots = cond b s.slots (set s.slots c.slot c.before) }) (ap is_free none) in
+        let same : with_image_back c s ≡ s = ap (λ b. record { dbd = s.dbd; slots = cond b s.slots (set s.slots c.slot c.before) }) (ap is_slot_free none) in
         sym (ap (λ o. with_back c o stores) e ∙ (ap (set stores (c.db - 1)) same ∙ set_itself stores (c.db - 1) s e))
 
 -- what putting back needs, of the records that are left
 pub record CanPut (records : List Change) (stores : List Stored) : Type 0 where
   pub stored : AllByRecursion (IsStored stores) records
   pub fits : AllByRecursion (CanGoBack stores) records
-  pub apart : Pairs AreApart records
-  pub once : AreOnce records
+  pub apart : Pairs AreInOtherSlots records
+  pub once : AreRecordsOnce records
 
-back_there : (c : Change) (stores : List Stored) (s : Stored) → slice_get stores (c.db - 1) ≡ Some s → is_free c.before ≡ false
+back_there : (c : Change) (stores : List Stored) (s : Stored) → slice_get stores (c.db - 1) ≡ Some s → is_slot_free c.before ≡ false
     → with_record_back c stores ≡ set stores (c.db - 1) (record { dbd = s.dbd; slots = set s.slots c.slot c.before })
 back_there c stores s e t =
     ap (λ o. with_back c o stores) e ∙ ap (λ b. set stores (c.db - 1) (record { dbd = s.dbd; slots = cond b s.slots (set s.slots c.slot c.before) })) t
@@ -186,11 +186,11 @@ goes_back stores c h = by (slice_get stores (c.db - 1)) refl h
     by None e f = absurd f
     by (Some s) e f = record { s = s; at = e; fits = f }
 
-taken_goes : (stores : List Stored) (c : Change) → CanGoBack stores c → is_free c.before ≡ false → GoesBack stores c
+taken_goes : (stores : List Stored) (c : Change) → CanGoBack stores c → is_slot_free c.before ≡ false → GoesBack stores c
 taken_goes stores c h t =
-    ⊎_elim (λ e. absurd (false≢true (sym t ∙ ap is_free e))) (λ f. goes_back stores c f) h
+    ⊎_elim (λ e. absurd (false≢true (sym t ∙ ap is_slot_free e))) (λ f. goes_back stores c f) h
 
-still_fits : (x c : Change) (s : Stored) → x.db ≡ c.db → FitsStore s x → FitsStore s c → AreApart x c → AreOther x c → is_free c.before ≡ false
+still_fits : (x c : Change) (s : Stored) → x.db ≡ c.db → FitsStore s x → FitsStore s c → AreInOtherSlots x c → AreOther x c → is_slot_free c.before ≡ false
     → FitsStore (record { dbd = s.dbd; slots = set s.slots c.slot c.before }) x
 still_fits x c s d fx fc apart other t =
     let has : has_root c.root c.before ≡ true = record_has s.dbd.types c.root c.before fc.valid.whole in
@@ -201,11 +201,11 @@ still_fits x c s d fx fc apart other t =
       new = (places.set_apart (has_root x.root) s.slots c.slot [] c.before fc.free refl (rooted c.root c.before has x.root ∙ turned)).0 ∙ fx.new;
     }
 
-can_stay : (x c : Change) (stores : List Stored) → IsStored stores x → IsStored stores c → CanGoBack stores x → CanGoBack stores c → AreApart x c → AreOther x c
-    → (b : Bool) → is_free c.before ≡ b → CanGoBack (with_record_back c stores) x
+can_stay : (x c : Change) (stores : List Stored) → IsStored stores x → IsStored stores c → CanGoBack stores x → CanGoBack stores c → AreInOtherSlots x c → AreOther x c
+    → (b : Bool) → is_slot_free c.before ≡ b → CanGoBack (with_record_back c stores) x
 can_stay x c stores sx sc hx hc apart other true t = subst (λ (ss : List Stored). CanGoBack ss x) (back_none c stores (free_none c.before t)) hx
   where
-    free_none : (image : List Row) → is_free image ≡ true → image ≡ []
+    free_none : (image : List Row) → is_slot_free image ≡ true → image ≡ []
     free_none [] e = refl
     free_none (row ∷ image) e = absurd (false≢true e)
 can_stay x c stores sx sc hx hc apart other false t =
@@ -240,12 +240,12 @@ stays_stored : (x c : Change) (stores : List Stored) → IsStored stores x → I
 stays_stored x c stores h = record { least = h.least; most = omega (arith, h.most, back_length c stores) }
 
 -- the step: the last record goes back
-pub next_back : (front : List Change) (c : Change) (stores : List Stored) → IsStored stores c → CanGoBack stores c → (b : Bool) → is_free c.before ≡ b
+pub next_back : (front : List Change) (c : Change) (stores : List Stored) → IsStored stores c → CanGoBack stores c → (b : Bool) → is_slot_free c.before ≡ b
     → backed_from (front ++ c ∷ []) 1 stores ≡ backed_from front 1 (with_record_back c stores)
 next_back front c stores sc hc true t =
     stores_not_there front c 1 stores (λ db m le. was_not_there c db m t) ∙ ap (backed_from front 1) (back_none c stores (free_none c.before t))
   where
-    free_none : (image : List Row) → is_free image ≡ true → image ≡ []
+    free_none : (image : List Row) → is_slot_free image ≡ true → image ≡ []
     free_none [] e = refl
     free_none (row ∷ image) e = absurd (false≢true e)
 next_back front c stores sc hc false t =
@@ -267,13 +267,13 @@ last_fits front c stores h = (all_back (CanGoBack stores) front (c ∷ []) h.fit
 
 pub put_next : (front : List Change) (c : Change) (stores : List Stored) → CanPut (front ++ c ∷ []) stores → CanPut front (with_record_back c stores)
 put_next front c stores h =
-    let apart = pairs_last AreApart front c h.apart in
+    let apart = pairs_last AreInOtherSlots front c h.apart in
     let once = pairs_last AreOther front c h.once in
     let stored : AllByRecursion (IsStored stores) front = all_front (IsStored stores) front (c ∷ []) h.stored in
     record {
       stored = all_then (IsStored stores) (IsStored (with_record_back c stores)) front (λ x sx. stays_stored x c stores sx) stored;
-      fits = all_four (IsStored stores) (CanGoBack stores) (λ x. AreApart x c) (λ x. AreOther x c) (CanGoBack (with_record_back c stores)) front
-          (λ x sx hx a o. can_stay x c stores sx (last_stored front c stores h) hx (last_fits front c stores h) a o (is_free c.before) refl)
+      fits = all_four (IsStored stores) (CanGoBack stores) (λ x. AreInOtherSlots x c) (λ x. AreOther x c) (CanGoBack (with_record_back c stores)) front
+          (λ x sx hx a o. can_stay x c stores sx (last_stored front c stores h) hx (last_fits front c stores h) a o (is_slot_free c.before) refl)
           stored (all_front (CanGoBack stores) front (c ∷ []) h.fits) apart.1 once.1;
       apart = apart.0;
       once = once.0;
@@ -281,7 +281,7 @@ put_next front c stores h =
 
 pub put_ahead : (front : List Change) (c : Change) (stores : List Stored) → CanPut (front ++ c ∷ []) stores
     → backed_from (front ++ c ∷ []) 1 stores ≡ backed_from front 1 (with_record_back c stores)
-put_ahead front c stores h = next_back front c stores (last_stored front c stores h) (last_fits front c stores h) (is_free c.before) refl
+put_ahead front c stores h = next_back front c stores (last_stored front c stores h) (last_fits front c stores h) (is_slot_free c.before) refl
 
 -- all have gone back
 none_backed_slots : (db n : ℕ) (slots : List (List Row)) → backed_slots [] db n slots ≡ slots

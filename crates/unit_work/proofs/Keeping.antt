@@ -6,16 +6,16 @@ use Rattle.std.proofs.lemmas.List.{length_push}
 use Rattle.model_data.proofs.Lists.{all_append, all_front, all_back}
 use Rattle.model_data.specs.declared.row.Row.{Row}
 use Rattle.unit_work.specs.declared.change.Change.{Change}
-use Rattle.unit_work.specs.Changes.{is_of, is_changed, is_before, is_slot, is_seen, with_change, with_slot, AreOther, Pairs, AreKept, is_full}
+use Rattle.unit_work.specs.Changes.{is_change_of_record, is_record_changed, is_slot_before, is_slot, is_seen, with_change, with_slot, AreOther, Pairs, AreChangesKept, is_full}
 
 -- how many slots go before this one
 abbrev pub place_in : ℕ → ℕ → List Change → ℕ
-place_in db slot slots = prefix_len (is_before db slot) slots
+place_in db slot slots = prefix_len (is_slot_before db slot) slots
 
-place_here : (db slot : ℕ) (s : Change) (slots : List Change) (b : Bool) → is_before db slot s ≡ b → place_in db slot (s ∷ slots) ≡ cond b (suc (place_in db slot slots)) 0
+place_here : (db slot : ℕ) (s : Change) (slots : List Change) (b : Bool) → is_slot_before db slot s ≡ b → place_in db slot (s ∷ slots) ≡ cond b (suc (place_in db slot slots)) 0
 place_here db slot s slots b e =
     let more : 1 + place_in db slot slots ≡ suc (place_in db slot slots) = omega arith in
-    ap (λ n. cond (is_before db slot s) n 0) more ∙ ap (λ c. cond c (suc (place_in db slot slots)) 0) e
+    ap (λ n. cond (is_slot_before db slot s) n 0) more ∙ ap (λ c. cond c (suc (place_in db slot slots)) 0) e
 
 -- what stands at the place tells whether the slot is there
 abbrev pub seen_at : ℕ → ℕ → Option Change → Bool
@@ -24,9 +24,9 @@ seen_at db slot (Some s) = is_slot db slot s
 
 pub seen_is : (db slot : ℕ) (slots : List Change) → is_seen db slot slots ≡ seen_at db slot (slice_get slots (place_in db slot slots))
 seen_is db slot [] = refl
-seen_is db slot (s ∷ slots) = by (is_before db slot s) refl (seen_is db slot slots)
+seen_is db slot (s ∷ slots) = by (is_slot_before db slot s) refl (seen_is db slot slots)
   where
-    by : (b : Bool) → is_before db slot s ≡ b → is_seen db slot slots ≡ seen_at db slot (slice_get slots (place_in db slot slots))
+    by : (b : Bool) → is_slot_before db slot s ≡ b → is_seen db slot slots ≡ seen_at db slot (slice_get slots (place_in db slot slots))
         → is_seen db slot (s ∷ slots) ≡ seen_at db slot (slice_get (s ∷ slots) (place_in db slot (s ∷ slots)))
     by true e rec =
         ap (λ b. cond b (is_seen db slot slots) (is_slot db slot s)) e
@@ -37,9 +37,9 @@ seen_is db slot (s ∷ slots) = by (is_before db slot s) refl (seen_is db slot s
 
 pub seen_within : (db slot : ℕ) (slots : List Change) → is_seen db slot slots ≡ true → place_in db slot slots < length slots
 seen_within db slot [] e = absurd (false≢true e)
-seen_within db slot (s ∷ slots) e = by (is_before db slot s) refl (seen_within db slot slots)
+seen_within db slot (s ∷ slots) e = by (is_slot_before db slot s) refl (seen_within db slot slots)
   where
-    by : (b : Bool) → is_before db slot s ≡ b → (is_seen db slot slots ≡ true → place_in db slot slots < length slots) → place_in db slot (s ∷ slots) < suc (length slots)
+    by : (b : Bool) → is_slot_before db slot s ≡ b → (is_seen db slot slots ≡ true → place_in db slot slots < length slots) → place_in db slot (s ∷ slots) < suc (length slots)
     by true q rec =
         omega (arith, place_here db slot s slots true q, rec (sym (ap (λ b. cond b (is_seen db slot slots) (is_slot db slot s)) q) ∙ e))
     by false q rec = omega (arith, place_here db slot s slots false q)
@@ -47,7 +47,7 @@ seen_within db slot (s ∷ slots) e = by (is_before db slot s) refl (seen_within
 pub place_within : (db slot : ℕ) (slots : List Change) → place_in db slot slots ≤ length slots
 place_within db slot [] = omega arith
 place_within db slot (s ∷ slots) =
-    elim (is_before db slot s) as (λ b. cond b (1 + place_in db slot slots) 0 ≤ suc (length slots)) [
+    elim (is_slot_before db slot s) as (λ b. cond b (1 + place_in db slot slots) 0 ≤ suc (length slots)) [
       | true ↦ omega (arith, place_within db slot slots)
       | false ↦ omega arith
     ]
@@ -56,7 +56,7 @@ place_within db slot (s ∷ slots) =
 pub slot_again : (c : Change) (slots : List Change) (d : Change) → is_seen c.db c.slot slots ≡ true
     → set slots (place_in c.db c.slot slots) (record (get_or slots (place_in c.db c.slot slots) d) { root = c.root }) ≡ with_slot c slots
 slot_again c [] d e = absurd (false≢true e)
-slot_again c (s ∷ slots) d e = by (is_before c.db c.slot s) refl (slot_again c slots d)
+slot_again c (s ∷ slots) d e = by (is_slot_before c.db c.slot s) refl (slot_again c slots d)
   where
     put : ℕ → List Change
     put p = set (s ∷ slots) p (record (get_or (s ∷ slots) p d) { root = c.root })
@@ -64,9 +64,9 @@ slot_again c (s ∷ slots) d e = by (is_before c.db c.slot s) refl (slot_again c
     goes : Bool → Bool → List Change
     goes b a = cond b (s ∷ with_slot c slots) (cond a (record s { root = c.root } ∷ slots) (c ∷ s ∷ slots))
 
-    by : (b : Bool) → is_before c.db c.slot s ≡ b
+    by : (b : Bool) → is_slot_before c.db c.slot s ≡ b
         → (is_seen c.db c.slot slots ≡ true → set slots (place_in c.db c.slot slots) (record (get_or slots (place_in c.db c.slot slots) d) { root = c.root }) ≡ with_slot c slots)
-        → put (place_in c.db c.slot (s ∷ slots)) ≡ goes (is_before c.db c.slot s) (is_slot c.db c.slot s)
+        → put (place_in c.db c.slot (s ∷ slots)) ≡ goes (is_slot_before c.db c.slot s) (is_slot c.db c.slot s)
     by true q rec =
         ap put (place_here c.db c.slot s slots true q)
         ∙ (ap (λ xs. s ∷ xs) (rec (sym (ap (λ b. cond b (is_seen c.db c.slot slots) (is_slot c.db c.slot s)) q) ∙ e))
@@ -79,13 +79,13 @@ slot_again c (s ∷ slots) d e = by (is_before c.db c.slot s) refl (slot_again c
 -- a new one goes in at its place
 pub slot_new : (c : Change) (slots : List Change) → is_seen c.db c.slot slots ≡ false → insert slots (place_in c.db c.slot slots) c ≡ with_slot c slots
 slot_new c [] e = refl
-slot_new c (s ∷ slots) e = by (is_before c.db c.slot s) refl (slot_new c slots)
+slot_new c (s ∷ slots) e = by (is_slot_before c.db c.slot s) refl (slot_new c slots)
   where
     goes : Bool → Bool → List Change
     goes b a = cond b (s ∷ with_slot c slots) (cond a (record s { root = c.root } ∷ slots) (c ∷ s ∷ slots))
 
-    by : (b : Bool) → is_before c.db c.slot s ≡ b → (is_seen c.db c.slot slots ≡ false → insert slots (place_in c.db c.slot slots) c ≡ with_slot c slots)
-        → insert (s ∷ slots) (place_in c.db c.slot (s ∷ slots)) c ≡ goes (is_before c.db c.slot s) (is_slot c.db c.slot s)
+    by : (b : Bool) → is_slot_before c.db c.slot s ≡ b → (is_seen c.db c.slot slots ≡ false → insert slots (place_in c.db c.slot slots) c ≡ with_slot c slots)
+        → insert (s ∷ slots) (place_in c.db c.slot (s ∷ slots)) c ≡ goes (is_slot_before c.db c.slot s) (is_slot c.db c.slot s)
     by true q rec =
         ap (λ p. insert (s ∷ slots) p c) (place_here c.db c.slot s slots true q)
         ∙ (ap (λ xs. s ∷ xs) (rec (sym (ap (λ b. cond b (is_seen c.db c.slot slots) (is_slot c.db c.slot s)) q) ∙ e))
@@ -100,7 +100,7 @@ pub slot_image : (db slot : ℕ) (root : List ℕ) (image : List Row) (slots : L
     → with_slot (record { db = db; slot = slot; root = root; before = cond b [] image }) slots ≡ with_slot (record { db = db; slot = slot; root = root; before = image }) slots
 slot_image db slot root image slots false e = refl
 slot_image db slot root image [] true e = absurd (false≢true e)
-slot_image db slot root image (s ∷ slots) true e = by (is_before db slot s) refl (slot_image db slot root image slots true)
+slot_image db slot root image (s ∷ slots) true e = by (is_slot_before db slot s) refl (slot_image db slot root image slots true)
   where
     c : List Row → Change
     c before = record { db = db; slot = slot; root = root; before = before }
@@ -108,8 +108,8 @@ slot_image db slot root image (s ∷ slots) true e = by (is_before db slot s) re
     goes : List Row → Bool → Bool → List Change
     goes before b a = cond b (s ∷ with_slot (c before) slots) (cond a (record s { root = root } ∷ slots) (c before ∷ s ∷ slots))
 
-    by : (b : Bool) → is_before db slot s ≡ b → (is_seen db slot slots ≡ true → with_slot (c []) slots ≡ with_slot (c image) slots)
-        → goes [] (is_before db slot s) (is_slot db slot s) ≡ goes image (is_before db slot s) (is_slot db slot s)
+    by : (b : Bool) → is_slot_before db slot s ≡ b → (is_seen db slot slots ≡ true → with_slot (c []) slots ≡ with_slot (c image) slots)
+        → goes [] (is_slot_before db slot s) (is_slot db slot s) ≡ goes image (is_slot_before db slot s) (is_slot db slot s)
     by true q rec =
         ap (λ b. goes [] b (is_slot db slot s)) q
         ∙ (ap (λ xs. s ∷ xs) (rec (sym (ap (λ b. cond b (is_seen db slot slots) (is_slot db slot s)) q) ∙ e)) ∙ sym (ap (λ b. goes image b (is_slot db slot s)) q))
@@ -119,10 +119,10 @@ slot_image db slot root image (s ∷ slots) true e = by (is_before db slot s) re
         ∙ (ap (λ a. goes [] false a) own ∙ sym (ap (λ b. goes image b (is_slot db slot s)) q ∙ ap (λ a. goes image false a) own))
 
 pub change_image : (db slot : ℕ) (root : List ℕ) (image : List Row) (records : List Change)
-    → with_change (record { db = db; slot = slot; root = root; before = cond (is_changed db root records) [] image }) records
+    → with_change (record { db = db; slot = slot; root = root; before = cond (is_record_changed db root records) [] image }) records
     ≡ with_change (record { db = db; slot = slot; root = root; before = image }) records
 change_image db slot root image records =
-    elim (is_changed db root records) as (λ b. cond b records (records ++ record { db = db; slot = slot; root = root; before = cond b [] image } ∷ [])
+    elim (is_record_changed db root records) as (λ b. cond b records (records ++ record { db = db; slot = slot; root = root; before = cond b [] image } ∷ [])
     ≡ cond b records (records ++ record { db = db; slot = slot; root = root; before = image } ∷ [])) [
       | true ↦ refl
       | false ↦ refl
@@ -147,15 +147,15 @@ pairs_last R (x ∷ xs) c p =
     let rec = pairs_last R xs c p.1 in
     ((all_front (R x) xs (c ∷ []) p.0, rec.0), ((all_back (R x) xs (c ∷ []) p.0).0, rec.1))
 
-pub kept_touch : (c : Change) (records new : List Change) → AreKept records → is_full c.db c.root records ≡ false → new ≡ with_change c records → AreKept new
-kept_touch c records new h room e = subst AreKept (sym e) (by (is_changed c.db c.root records) refl)
+pub kept_touch : (c : Change) (records new : List Change) → AreChangesKept records → is_full c.db c.root records ≡ false → new ≡ with_change c records → AreChangesKept new
+kept_touch c records new h room e = subst AreChangesKept (sym e) (by (is_record_changed c.db c.root records) refl)
   where
-    by : (b : Bool) → is_changed c.db c.root records ≡ b → AreKept (with_change c records)
-    by true q = subst (λ b. AreKept (cond b records (records ++ c ∷ []))) (sym q) h
+    by : (b : Bool) → is_record_changed c.db c.root records ≡ b → AreChangesKept (with_change c records)
+    by true q = subst (λ b. AreChangesKept (cond b records (records ++ c ∷ []))) (sym q) h
     by false q =
         let less : leb 32 (length records) ≡ false = sym (ap (λ b. cond b false (leb 32 (length records))) q) ∙ room in
-        subst (λ b. AreKept (cond b records (records ++ c ∷ []))) (sym q)
+        subst (λ b. AreChangesKept (cond b records (records ++ c ∷ []))) (sym q)
         (record {
-          once = pairs_push AreOther records c h.once (none_pass (is_of c.db c.root) records q);
+          once = pairs_push AreOther records c h.once (none_pass (is_change_of_record c.db c.root) records q);
           few = omega (arith, leb-false 32 (length records) less, length_push records c, h.few);
         })

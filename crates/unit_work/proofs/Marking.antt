@@ -7,8 +7,8 @@ use Rattle.std.proofs.lemmas.Bool.{false≢true, eqb-true, eq-eqb, cases_eq}
 use Rattle.std.proofs.lemmas.List.Folds.{list_any_at}
 use Rattle.std.proofs.lemmas.Option.{slice_get-get_or, slice_get_within}
 use Rattle.model_data.specs.declared.row.Row.{Row}
-use Rattle.seg_store.specs.Slots.{Stored, has_root, is_free, slot_of, with_root}
-use Rattle.seg_store.specs.Changed.{Kept, AllStores, stored, with_number, with_changed}
+use Rattle.seg_store.specs.Slots.{Stored, has_root, is_slot_free, slot_of_root, with_root}
+use Rattle.seg_store.specs.ChangedSlots.{Kept, AllStores, stored, with_number, with_changed_number}
 use Rattle.seg_store.specs.Stores.{IsStoreOf, with_store}
 use Rattle.seg_store.proofs.Places.{place_passes}
 use Rattle.seg_store.proofs.SlotRows.{root_there, root_absent}
@@ -184,11 +184,11 @@ ArePartly old new = (d k : ℕ) → 1 ≤ d → (image_at d k new.stores ≡ [])
 -- the record of a change in the list, from stores in which a part is gone already
 module _ (first all : AllStores) (records : List Change) (db : ℕ) (root : List ℕ) (s t : Kept) (least : 1 ≤ db) (of : IsStoreOf all db s)
     (among : (image : List Row) → has_root root image ≡ true → is_touched records db image ≡ true) (partly : ArePartly first all)
-    (changed : t.changed ≡ with_changed (slot_of root s.slots) s.changed) (slots : t.slots ≡ with_root root [] s.slots) where
+    (changed : t.changed ≡ with_changed_number (slot_of_root root s.slots) s.changed) (slots : t.slots ≡ with_root root [] s.slots) where
   abbrev passing : ℕ → ℕ → Bool
   passing d k = is_touched records d (image_at d k first.stores)
 
-  here : (n : ℕ) → slot_of root s.slots ≡ Some n → passing db n ≡ true
+  here : (n : ℕ) → slot_of_root root s.slots ≡ Some n → passing db n ≡ true
   here n e =
       let found = place_passes (has_root root) s.slots n e in
       let image : image_at db n all.stores ≡ found.0 = image_old passing all db s t least of n ∙ get_there s.slots n found.0 [] found.1 in
@@ -197,24 +197,24 @@ module _ (first all : AllStores) (records : List Change) (db : ℕ) (root : List
       (λ same. among (image_at db n first.stores) (ap (has_root root) (sym same ∙ image) ∙ found.2)) (partly db n least)
 
   pub removed_marks : AreMarked passing all (with_store all db t)
-  removed_marks = by (slot_of root s.slots) refl
+  removed_marks = by (slot_of_root root s.slots) refl
     where
-      by : (o : Option ℕ) → slot_of root s.slots ≡ o → AreMarked passing all (with_store all db t)
-      by None e = marks_same passing all db s t least of (changed ∙ ap (λ o. with_changed o s.changed) e) (slots ∙ root_absent root s.slots e)
-      by (Some n) e = marks_one passing all db s t least of n (changed ∙ ap (λ o. with_changed o s.changed) e) [] (slots ∙ root_there root [] s.slots n e) (here n e)
+      by : (o : Option ℕ) → slot_of_root root s.slots ≡ o → AreMarked passing all (with_store all db t)
+      by None e = marks_same passing all db s t least of (changed ∙ ap (λ o. with_changed_number o s.changed) e) (slots ∙ root_absent root s.slots e)
+      by (Some n) e = marks_one passing all db s t least of n (changed ∙ ap (λ o. with_changed_number o s.changed) e) [] (slots ∙ root_there root [] s.slots n e) (here n e)
 
   pub removed_partly : ArePartly first (with_store all db t)
   removed_partly d k positive =
       ⊎_elim
       (λ (same : d ≡ db). subst (λ n. (image_at n k (with_store all db t).stores ≡ []) ⊎ (image_at n k (with_store all db t).stores ≡ image_at n k first.stores)) (sym same)
-      (by (slot_of root s.slots) refl))
+      (by (slot_of_root root s.slots) refl))
       (λ other. ⊎_elim (λ none. inl (else_image passing all db s t least of d k positive other ∙ none)) (λ was. inr (else_image passing all db s t least of d k positive other ∙ was)) (partly d k positive))
       (cases_eq d db)
     where
       stays : image_at db k (with_store all db t).stores ≡ image_at db k all.stores → (image_at db k (with_store all db t).stores ≡ []) ⊎ (image_at db k (with_store all db t).stores ≡ image_at db k first.stores)
       stays same = ⊎_elim (λ none. inl (same ∙ none)) (λ was. inr (same ∙ was)) (partly db k least)
 
-      by : (o : Option ℕ) → slot_of root s.slots ≡ o → (image_at db k (with_store all db t).stores ≡ []) ⊎ (image_at db k (with_store all db t).stores ≡ image_at db k first.stores)
+      by : (o : Option ℕ) → slot_of_root root s.slots ≡ o → (image_at db k (with_store all db t).stores ≡ []) ⊎ (image_at db k (with_store all db t).stores ≡ image_at db k first.stores)
       by None e = stays (image_new passing all db s t least of k ∙ (ap (λ xs. get_or xs k []) (slots ∙ root_absent root s.slots e) ∙ sym (image_old passing all db s t least of k)))
       by (Some n) e =
           ⊎_elim
@@ -223,7 +223,7 @@ module _ (first all : AllStores) (records : List Change) (db : ℕ) (root : List
           inl (image_new passing all db s t least of k
           ∙ (ap (λ xs. get_or xs k []) (slots ∙ root_there root [] s.slots n e)
           ∙ (ap (λ j. get_or (set s.slots n []) j []) at ∙ get_same s.slots n [] [] (slice_get_within s.slots n found.0 found.1)))))
-          (λ other. stays (image_else passing all db s t least of n (changed ∙ ap (λ o. with_changed o s.changed) e) [] (slots ∙ root_there root [] s.slots n e) k other)) (cases_eq k n)
+          (λ other. stays (image_else passing all db s t least of n (changed ∙ ap (λ o. with_changed_number o s.changed) e) [] (slots ∙ root_there root [] s.slots n e) k other)) (cases_eq k n)
 
 pub partly_none : (all : AllStores) → ArePartly all all
 partly_none all d k least = inr refl
@@ -289,12 +289,12 @@ back_marked all c s t least of changed = record { each = λ d k positive e. by d
     by d k true p true q e =
         subst (λ n. is_marked (with_store all c.db t).changed n k ≡ true) (eqb-true c.db d p)
         (subst (λ n. is_marked (with_store all c.db t).changed c.db n ≡ true) (eqb-true c.slot k q) (set_marked (λ d k. true) all c.db s t least of c.slot changed))
-    by d k true p false q e = absurd (false≢true (sym (λ i. p i && (q i && not (is_free c.before))) ∙ e))
-    by d k false p b q e = absurd (false≢true (sym (ap (λ x. x && (eqb c.slot k && not (is_free c.before))) p) ∙ e))
+    by d k true p false q e = absurd (false≢true (sym (λ i. p i && (q i && not (is_slot_free c.before))) ∙ e))
+    by d k false p b q e = absurd (false≢true (sym (ap (λ x. x && (eqb c.slot k && not (is_slot_free c.before))) p) ∙ e))
 
 -- one that wasn't there has none
 pub back_no_mark : (all : AllStores) (c : Change) → c.before ≡ [] → AreAllMarked (λ d k. was_in d k c) all
-back_no_mark all c none = record { each = λ d k least e. absurd (false≢true (sym (was_not_there c d k (ap is_free none)) ∙ e)) }
+back_no_mark all c none = record { each = λ d k least e. absurd (false≢true (sym (was_not_there c d k (ap is_slot_free none)) ∙ e)) }
 
 -- each slot in which one of these was is marked, or its record is still to be put back
 abbrev pub AreToMark : List Change → List Change → AllStores → Type 0
@@ -325,7 +325,7 @@ none_to_mark records left all none h = record {
   each = λ d k least e. ⊎_elim (λ still. absurd (false≢true (subst (λ xs. list_any (was_in d k) xs ≡ true) none still))) (λ m. m) (h d k least e);
 }
 
-pub not_free : (image : List Row) (b : Bool) → (image ≡ [] → IsTrue b) → b ≡ false → is_free image ≡ false
+pub not_free : (image : List Row) (b : Bool) → (image ≡ [] → IsTrue b) → b ≡ false → is_slot_free image ≡ false
 not_free [] b h e = absurd (false≢true (sym e ∙ h refl))
 not_free (row ∷ image) b h e = refl
 

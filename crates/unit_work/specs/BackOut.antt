@@ -3,7 +3,7 @@ use Rattle.std.specs.Prelude.{◌≡◌, ℕ, ◌-◌, ◌≤◌, ◌⊎◌, Boo
 use Rattle.std.specs.List.{AllByRecursion, list_any}
 use Rattle.model_data.specs.declared.row.Row.{Row}
 use Rattle.model_data.specs.Record.{IsRecord}
-use Rattle.seg_store.specs.Slots.{Stored, has_root, is_free, slot_of}
+use Rattle.seg_store.specs.Slots.{Stored, has_root, is_slot_free, slot_of_root}
 use Rattle.unit_work.specs.declared.change.Change.{Change}
 use Rattle.unit_work.specs.Changes.{Pairs}
 
@@ -13,7 +13,7 @@ is_touched records db image = list_any (λ c. c.db == db && has_root c.root imag
 
 -- whether the change is of a record that was there, in this slot
 abbrev pub was_in : ℕ → ℕ → Change → Bool
-was_in db slot c = c.db == db && (c.slot == slot && not (is_free c.before))
+was_in db slot c = c.db == db && (c.slot == slot && not (is_slot_free c.before))
 
 -- the image of a slot after backing out: that of the changed record that was in it, else none where
 -- the record in it is a changed one, else the same as before
@@ -64,7 +64,7 @@ pub record IsStored (stores : List Stored) (c : Change) : Type 0 where
 pub record FitsStore (s : Stored) (c : Change) : Type 0 where
   pub valid : IsRecord s.dbd c.root c.before
   pub free : slice_get s.slots c.slot ≡ Some []
-  pub new : slot_of c.root s.slots ≡ None
+  pub new : slot_of_root c.root s.slots ≡ None
 
 -- so in the store of its database
 abbrev pub FitsOption : Option Stored → Change → Type 0
@@ -76,18 +76,18 @@ abbrev pub CanGoBack : List Stored → Change → Type 0
 CanGoBack stores c = (c.before ≡ []) ⊎ FitsOption (slice_get stores (c.db - 1)) c
 
 -- two records that were there were in different slots
-abbrev pub AreApart : Change → Change → Type 0
-AreApart c d = was_in c.db c.slot d ≡ true → c.before ≡ []
+abbrev pub AreInOtherSlots : Change → Change → Type 0
+AreInOtherSlots c d = was_in c.db c.slot d ≡ true → c.before ≡ []
 
 -- what backing out needs
 pub record CanBackOut (records : List Change) (stores : List Stored) : Type 0 where
   pub stored : AllByRecursion (IsStored stores) records
   pub fits : AllByRecursion (CanGoBack (cleared records stores)) records
-  pub apart : Pairs AreApart records
+  pub apart : Pairs AreInOtherSlots records
 
 -- one store with the record back in its slot, where it was there
 abbrev pub with_image_back : Change → Stored → Stored
-with_image_back c s = record { dbd = s.dbd; slots = if is_free c.before then s.slots else slice_set s.slots c.slot c.before }
+with_image_back c s = record { dbd = s.dbd; slots = if is_slot_free c.before then s.slots else slice_set s.slots c.slot c.before }
 
 -- these stores with the record back
 abbrev pub with_back : Change → Option Stored → List Stored → List Stored

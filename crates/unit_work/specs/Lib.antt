@@ -1,8 +1,8 @@
 pub mod Changes
-pub mod Shown
+pub mod ShownTouch
 pub mod TouchRefused
 pub mod BackOut
-pub mod Touching
+pub mod ReadyTouch
 pub mod Images
-pub mod Told
+pub mod ToldChanges
 pub mod Marks

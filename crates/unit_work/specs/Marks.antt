@@ -1,7 +1,7 @@
 -- Which slots count as changed since they were written, and what a step does to that.
 use Rattle.std.specs.Prelude.{◌≡◌, ◌⊎◌, ◌≤◌, ℕ, ◌-◌, ◌==◌, Bool, true, false, List, [], slice_index_or}
 use Rattle.std.specs.List.{list_any}
-use Rattle.seg_store.specs.Changed.{AllStores}
+use Rattle.seg_store.specs.ChangedSlots.{AllStores}
 use Rattle.unit_work.specs.Images.{image_at}
 
 -- whether a slot of the database of this number, counted from 1, is marked as changed

@@ -3,7 +3,7 @@ ghost use Rattle.std.specs.Prelude.{◌≡◌, ◌<◌, true, [], IfOk, OnOk, On
 ghost use Rattle.std.specs.Option.{option_copied};
 ghost use Rattle.std.specs.List.{prefix_len};
 ghost use Rattle.std.specs.Vec.{vec_len, vec_capacity};
-ghost use Rattle.unit_work.specs.Changes.{is_of, is_changed, is_before, is_slot, is_seen, has_place, with_change, with_slot};
+ghost use Rattle.unit_work.specs.Changes.{is_change_of_record, is_record_changed, is_slot_before, is_slot, is_seen, has_place, with_change, with_slot};
 
 use seg_rows::RecordImage;
 use std::alloc::Global;
@@ -110,19 +110,19 @@ fn has_place(slots: &[Change], db: u8, slot: u16) -> bool
 
 /// Whether the record of this root is among the changes.
 pub fn is_changed(records: &[Change], db: u8, root: &Key) -> bool
-    ensures { result ≡ is_changed db root.now records.now }
+    ensures { result ≡ is_record_changed db root.now records.now }
 {
     records.iter().any(|change| is_of(change, db, root))
 }
 
 fn is_of(change: &Change, db: u8, root: &Key) -> bool
-    ensures { result ≡ is_of db root.now change.now }
+    ensures { result ≡ is_change_of_record db root.now change.now }
 {
     change.db == db && change.root.cmp(root).is_eq()
 }
 
 fn is_before(change: &Change, db: u8, slot: u16) -> bool
-    ensures { result ≡ is_before db slot change.now }
+    ensures { result ≡ is_slot_before db slot change.now }
 {
     change.db < db || (change.db == db && change.slot < slot)
 }
@@ -145,7 +145,7 @@ fn image_unless(alloc: Global, known: bool, before: &RecordImage) -> Result<Reco
 
 // How many slots go before this one.
 fn place_among(slots: &[Change], db: u8, slot: u16) -> usize
-    ensures { result ≡ prefix_len (is_before db slot) slots.now }
+    ensures { result ≡ prefix_len (is_slot_before db slot) slots.now }
 {
     for (i, change) in slots.iter().enumerate() {
         if !is_before(change, db, slot) {

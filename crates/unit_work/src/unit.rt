@@ -4,8 +4,8 @@ ghost use Rattle.std.specs.Option.{option_map};
 ghost use Rattle.std.specs.List.{AllByRecursion, list_any};
 ghost use Rattle.unit_work.specs.Images.{image_at};
 ghost use Rattle.unit_work.specs.Marks.{AreMarked, AreAllMarked};
-ghost use Rattle.unit_work.specs.Changes.{is_full, AreInOrder, AreOnce, Pairs};
-ghost use Rattle.unit_work.specs.BackOut.{IsStored, CanGoBack, AreApart, CanBackOut, is_touched, was_in, backs, cleared, backed_from, backed_out, with_record_back};
+ghost use Rattle.unit_work.specs.Changes.{is_full, AreSlotsInOrder, AreRecordsOnce, Pairs};
+ghost use Rattle.unit_work.specs.BackOut.{IsStored, CanGoBack, AreInOtherSlots, CanBackOut, is_touched, was_in, backs, cleared, backed_from, backed_out, with_record_back};
 ghost use Rattle.unit_work.specs.TouchRefused.{RefusesTouch};
 
 use crate::change::{Change, Touch, UnitSlot, add_change, add_slot, is_changed, keep, ready};
@@ -58,20 +58,20 @@ pub struct Prepared {
 impl Model for Prepared {
     ghost use Rattle.std.specs.Vec.{vec_len, vec_capacity};
     ghost use Rattle.unit_work.specs.Changes.{with_change, with_slot};
-    ghost use Rattle.unit_work.specs.Touching.{Touching, HasRoom};
+    ghost use Rattle.unit_work.specs.ReadyTouch.{Touching, HasRoomForTouch};
 
     ghost Value = { Touching };
 
     ghost view = { λ p. record { unit = record { records = p.records.items; slots = p.slots.items }; touched = record { records = with_change p.touch.record p.records.items; slots = with_slot p.touch.slot p.slots.items } } };
 
-    ghost invariant = { λ p. HasRoom (record { unit = record { records = p.records.items; slots = p.slots.items }; touched = record { records = with_change p.touch.record p.records.items; slots = with_slot p.touch.slot p.slots.items } }) (vec_len p.records) (vec_capacity p.records) (vec_len p.slots) (vec_capacity p.slots) };
+    ghost invariant = { λ p. HasRoomForTouch (record { unit = record { records = p.records.items; slots = p.slots.items }; touched = record { records = with_change p.touch.record p.records.items; slots = with_slot p.touch.slot p.slots.items } }) (vec_len p.records) (vec_capacity p.records) (vec_len p.slots) (vec_capacity p.slots) };
 }
 
 impl Prepared {
     /// Keeps the touch. This takes no memory.
     pub fn keep(self) -> Unit
         ensures value { result ≡ self.touched }
-        ensures order { AreInOrder self.touched.slots }
+        ensures order { AreSlotsInOrder self.touched.slots }
     {
         let Prepared {
             alloc,
@@ -102,7 +102,7 @@ impl Prepared {
 
 impl Unit {
     ghost use Rattle.unit_work.specs.Changes.{no_changes, with_touch};
-    ghost use Rattle.unit_work.specs.Shown.{shown};
+    ghost use Rattle.unit_work.specs.ShownTouch.{shown_slot};
 
     /// A unit that has changed nothing. This takes no memory.
     pub fn new(alloc: Global) -> Unit
@@ -200,14 +200,14 @@ impl Unit {
     /// The touched slots, by database and slot, each with the image that it had before the unit.
     pub fn touched(&self) -> &[Change]
         ensures value { result.now ≡ self.now.slots }
-        ensures order { AreInOrder self.now.slots }
+        ensures order { AreSlotsInOrder self.now.slots }
     {
         &self.slots
     }
 
     /// The touched slot at this place, by database and slot; None exactly past the last.
     pub fn slot(&self, place: u32) -> Option<UnitSlot<'_>>
-        ensures { option_map shown result ≡ slice_get self.now.slots place }
+        ensures { option_map shown_slot result ≡ slice_get self.now.slots place }
     {
         match self.slots.get(place as usize) {
             Some(change) => Some(UnitSlot {
@@ -262,8 +262,8 @@ fn remove_all(records: &[Change], stores: &mut Stores)
 fn put_all(records: &mut Vec<Change>, stores: &mut Stores)
     requires stored { AllByRecursion (IsStored stores.old.stores) records.old.items }
     requires fits { AllByRecursion (CanGoBack stores.old.stores) records.old.items }
-    requires apart { Pairs AreApart records.old.items }
-    requires once { AreOnce records.old.items }
+    requires apart { Pairs AreInOtherSlots records.old.items }
+    requires once { AreRecordsOnce records.old.items }
     ensures records { records.new.items ≡ [] }
     ensures stores { stores.new.stores ≡ backed_from records.old.items 1 stores.old.stores }
     ensures marks { AreMarked (λ db slot. list_any (was_in db slot) records.old.items) stores.old stores.new }

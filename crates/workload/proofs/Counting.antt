@@ -7,7 +7,7 @@ use Rattle.std.proofs.lemmas.List.Concat.{flat_map-append}
 use Rattle.model_machine.specs.declared.entry.Entry.{Entry}
 use Rattle.openings.specs.declared.life.Life.{Life}
 use Rattle.workload.specs.declared.counts.Counts.{Counts}
-use Rattle.workload.specs.Counts.{is_accepted, is_completion, is_abend, victims_in, one_if, counts_of, count_of, entries_of, plus, with_found}
+use Rattle.workload.specs.Counts.{is_accepted, is_completion, is_abend, victim_count_in, one_entry_if, counts_of, count_of, entries_of, plus, with_found}
 
 abbrev counts : ℕ → ℕ → ℕ → ℕ → Counts
 counts a b c d = record { accepted = a; completed = b; abended = c; victims = d }
@@ -32,10 +32,10 @@ plus_plus a b c = four _ _ _ _ _ _ _ _ (omega arith) (omega arith) (omega arith)
 counts-append : (xs ys : List Entry) → counts_of (xs ++ ys) ≡ plus (counts_of xs) (counts_of ys)
 counts-append xs ys =
     four _ _ _ _ _ _ _ _
-    (sum_by-append (λ e. one_if (is_accepted e)) xs ys)
-    (sum_by-append (λ e. one_if (is_completion e)) xs ys)
-    (sum_by-append (λ e. one_if (is_abend e)) xs ys)
-    (sum_by-append victims_in xs ys)
+    (sum_by-append (λ e. one_entry_if (is_accepted e)) xs ys)
+    (sum_by-append (λ e. one_entry_if (is_completion e)) xs ys)
+    (sum_by-append (λ e. one_entry_if (is_abend e)) xs ys)
+    (sum_by-append victim_count_in xs ys)
 
 counts_one : (e : Entry) → counts_of (e ∷ []) ≡ count_of e
 counts_one e = four _ _ _ _ _ _ _ _ (omega arith) (omega arith) (omega arith) (omega arith)

@@ -4,7 +4,7 @@ use Rattle.std.proofs.lemmas.Bool.Decides.{nat_tests}
 use Rattle.std.specs.Prelude.{Option, Some, None, nat_lt, if◌then◌else◌}
 use Rattle.std.specs.List.{position_or_len}
 use Rattle.text_rows.specs.Lines.{split_at}
-use Rattle.workload.specs.Shown.{printed_lines, with_front, last_shown, later, shown_on}
+use Rattle.workload.specs.ShownReply.{printed_lines, with_line_front, last_shown, later, shown_on}
 
 -- where the first LF stands, or the length where there is none
 abbrev lf_at : List ℕ → ℕ
@@ -20,7 +20,7 @@ lines_here : (b : ℕ) (bytes : List ℕ) → (b == 10) ≡ true → printed_lin
 unfolding printed_lines
 lines_here b bytes lf = rw lf refl
 
-lines_later : (b : ℕ) (bytes : List ℕ) → (b == 10) ≡ false → printed_lines (b ∷ bytes) ≡ with_front b (printed_lines bytes)
+lines_later : (b : ℕ) (bytes : List ℕ) → (b == 10) ≡ false → printed_lines (b ∷ bytes) ≡ with_line_front b (printed_lines bytes)
 unfolding printed_lines
 lines_later b bytes no_lf = rw no_lf refl
 
@@ -36,7 +36,7 @@ cut_by : (b : ℕ) (bytes : List ℕ) (test : Bool) → (b == 10) ≡ test → (
 cut_by b bytes true lf on within = subst (IsCut (b ∷ bytes)) (sym (lf_here b bytes lf)) (lines_here b bytes lf)
 cut_by b bytes false no_lf on within =
     let less : lf_at bytes < length bytes = omega (arith, lf_later b bytes no_lf) in
-    subst (IsCut (b ∷ bytes)) (sym (lf_later b bytes no_lf)) (lines_later b bytes no_lf ∙ ap (with_front b) (on less))
+    subst (IsCut (b ∷ bytes)) (sym (lf_later b bytes no_lf)) (lines_later b bytes no_lf ∙ ap (with_line_front b) (on less))
 
 cut : (text : List ℕ) → lf_at text < length text → IsCut text (lf_at text)
 cut [] within = absurd (omega arith)
@@ -46,7 +46,7 @@ uncut_by : (b : ℕ) (bytes : List ℕ) (test : Bool) → (b == 10) ≡ test →
 uncut_by b bytes true lf on past = absurd (omega (arith, lf_here b bytes lf))
 uncut_by b bytes false no_lf on past =
     let more : length bytes ≤ lf_at bytes = omega (arith, lf_later b bytes no_lf) in
-    lines_later b bytes no_lf ∙ ap (with_front b) (on more)
+    lines_later b bytes no_lf ∙ ap (with_line_front b) (on more)
 
 uncut : (text : List ℕ) → length text ≤ lf_at text → printed_lines text ≡ []
 uncut [] past = no_lines

@@ -26,9 +26,9 @@ is_abend (Turn region (Ok (Abended code id abend))) = true
 is_abend _ = false
 
 -- how many regions gave way in a turn; their messages keep their places, and are no completions and no abends
-abbrev pub victims_in : Entry → ℕ
-victims_in (Turn region (Ok (Backed victims))) = length victims
-victims_in _ = 0
+abbrev pub victim_count_in : Entry → ℕ
+victim_count_in (Turn region (Ok (Backed victims))) = length victims
+victim_count_in _ = 0
 
 -- what these entries come to
 abbrev pub counts_of : List Entry → Counts
@@ -36,7 +36,7 @@ counts_of entries = record {
   accepted = count_by is_accepted entries;
   completed = count_by is_completion entries;
   abended = count_by is_abend entries;
-  victims = sum_by victims_in entries;
+  victims = sum_by victim_count_in entries;
 }
 
 -- the entries of all lives, one life after the other
@@ -54,15 +54,15 @@ plus before more = record {
   victims = before.victims + more.victims;
 }
 
-abbrev pub one_if : Bool → ℕ
-one_if test = if test then 1 else 0
+abbrev pub one_entry_if : Bool → ℕ
+one_entry_if test = if test then 1 else 0
 
 abbrev pub count_of : Entry → Counts
 count_of entry = record {
-  accepted = one_if (is_accepted entry);
-  completed = one_if (is_completion entry);
-  abended = one_if (is_abend entry);
-  victims = victims_in entry;
+  accepted = one_entry_if (is_accepted entry);
+  completed = one_entry_if (is_completion entry);
+  abended = one_entry_if (is_abend entry);
+  victims = victim_count_in entry;
 }
 
 abbrev pub with_found : Counts → Option Entry → Counts

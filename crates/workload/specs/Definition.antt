@@ -35,11 +35,11 @@ psb_line code = psb_head code ++ codes "P\n"
 unfoldable pub pcb_line : List ℕ → List ℕ
 pcb_line allowed = codes "PCB TYPE=DB,DBDNAME=ACC,PROCOPT=" ++ allowed ++ codes "\n"
 
-unfoldable pub code_word : List ℕ
-code_word = codes "TRANSACT CODE="
+unfoldable pub code_macro_word : List ℕ
+code_macro_word = codes "TRANSACT CODE="
 
 unfoldable pub code_head : List ℕ → List ℕ
-code_head code = code_word ++ code
+code_head code = code_macro_word ++ code
 
 unfoldable pub code_line : List ℕ → List ℕ
 code_line code = code_head code ++ codes "\n"
@@ -56,7 +56,7 @@ account_codes =
     ++ account_code (codes "SCAN") (codes "A") ++ account_code (codes "SUM") (codes "G")
 
 -- the whole definition
-unfoldable pub definition_text : List ℕ
-definition_text =
+unfoldable pub workload_definition : List ℕ
+workload_definition =
     databases ++ plain_codes ++ terminals ++ regions ++ screen ++ account_codes
     ++ plain_programs ++ account_programs ++ codes "END\n"

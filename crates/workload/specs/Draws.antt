@@ -10,8 +10,8 @@ unfoldable pub seeded : ℕ → Lcg
 seeded seed = pcg32_of_seed (pcg32_seed 16 seed)
 
 -- the word of 32 bits that is drawn next, and the generator behind it
-unfoldable pub word : Lcg → ℕ
-word generator = (pcg32 generator).0
+unfoldable pub drawn_word : Lcg → ℕ
+drawn_word generator = (pcg32 generator).0
 
 unfoldable pub moved : Lcg → Lcg
 moved generator = (pcg32 generator).1
@@ -29,7 +29,7 @@ transfer_of from to amount =
 -- which takes, the third how much it is, from 1 to 9
 unfoldable pub transfer_text : Lcg → List ℕ
 transfer_text generator =
-    transfer_of (1 + word generator % 100) (1 + word (moved generator) % 100) (1 + word (moved (moved generator)) % 9)
+    transfer_of (1 + drawn_word generator % 100) (1 + drawn_word (moved generator) % 100) (1 + drawn_word (moved (moved generator)) % 9)
 
 -- the generator behind a transfer
 unfoldable pub behind_transfer : Lcg → Lcg

@@ -4,5 +4,5 @@ pub mod Draws
 pub mod Session
 pub mod Workload
 pub mod Counts
-pub mod Shown
+pub mod ShownReply
 pub mod Summary

@@ -22,8 +22,8 @@ reply_lines terminal number =
     codes "RECV " ++ terminal ++ codes "\nACK " ++ terminal ++ codes " " ++ decimal number ++ codes "\n"
 
 -- the replies of these numbers are taken: from `first` on, up to the one before `past`
-unfoldable pub replies : List ℕ → ℕ → ℕ → List ℕ
-replies terminal first past = flat_map (reply_lines terminal) (numbers first (past - first))
+unfoldable pub reply_requests : List ℕ → ℕ → ℕ → List ℕ
+reply_requests terminal first past = flat_map (reply_lines terminal) (numbers first (past - first))
 
 -- 50 inputs are a block; the last block may be shorter
 unfoldable pub ends_block : ℕ → ℕ → Bool
@@ -38,15 +38,15 @@ first_of_block number = number - (number - 1) % 50
 unfoldable pub behind_input : List ℕ → ℕ → ℕ → List ℕ
 behind_input terminal count number =
     if ends_block count number
-    then codes "QUIET 1000000\n" ++ replies terminal (first_of_block number) (number + 1)
+    then codes "QUIET 1000000\n" ++ reply_requests terminal (first_of_block number) (number + 1)
     else []
 
 -- these texts are sent from a terminal under the numbers from this one on, `count` being the last
-unfoldable pub sent : List ℕ → ℕ → ℕ → List (List ℕ) → List ℕ
-sent terminal count number [] = []
-sent terminal count number (text ∷ texts) =
+unfoldable pub input_requests : List ℕ → ℕ → ℕ → List (List ℕ) → List ℕ
+input_requests terminal count number [] = []
+input_requests terminal count number (text ∷ texts) =
     (input_line terminal number text ++ behind_input terminal count number)
-    ++ sent terminal count (number + 1) texts
+    ++ input_requests terminal count (number + 1) texts
 
 -- an account is opened with 1000
 unfoldable pub opening_text : ℕ → List ℕ
@@ -54,8 +54,8 @@ opening_text number = codes "OPEN " ++ account number ++ codes "1000"
 
 -- T9 opens the accounts up to `count`
 unfoldable pub openings : ℕ → List ℕ
-openings count = sent (codes "T9") count 1 (map opening_text (numbers 1 count))
+openings count = input_requests (codes "T9") count 1 (map opening_text (numbers 1 count))
 
 -- T1 sends so many transfers, drawn from this generator on
 unfoldable pub transfers : Lcg → ℕ → List ℕ
-transfers generator count = sent (codes "T1") count 1 (map transfer_text (states count generator))
+transfers generator count = input_requests (codes "T1") count 1 (map transfer_text (states count generator))

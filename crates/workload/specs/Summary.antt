@@ -7,9 +7,9 @@ unfoldable pub count_line : List ℕ → ℕ → List ℕ
 count_line word number = word ++ codes " " ++ decimal number ++ codes "\n"
 
 -- the last line: the text of the reply that was shown last. Where none was there is no such line.
-unfoldable pub last_line : Option (List ℕ) → List ℕ
-last_line None = []
-last_line (Some text) = text ++ codes "\n"
+unfoldable pub reply_summary_line : Option (List ℕ) → List ℕ
+reply_summary_line None = []
+reply_summary_line (Some text) = text ++ codes "\n"
 
 -- the line of the seed and of how many transfers there were
 unfoldable pub workload_line : ℕ → ℕ → List ℕ
@@ -23,4 +23,4 @@ count_lines counts =
     ++ count_line (codes "U0777") counts.victims
 
 unfoldable pub summary_text : ℕ → ℕ → Counts → Option (List ℕ) → List ℕ
-summary_text seed transfers counts last = workload_line seed transfers ++ count_lines counts ++ last_line last
+summary_text seed transfers counts last = workload_line seed transfers ++ count_lines counts ++ reply_summary_line last

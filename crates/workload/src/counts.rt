@@ -76,7 +76,7 @@ fn sum(count: u64, more: u64) -> Result<u64, Memory>
 
 /// How many inputs were accepted as new ones: one, or none.
 fn accepted_in(entry: &Entry) -> u64
-    ensures { result ≡ spec.one_if (spec.is_accepted entry.now) }
+    ensures { result ≡ spec.one_entry_if (spec.is_accepted entry.now) }
 {
     match entry {
         Entry::Accept(_, _, _, Ok(Taken::New(_))) => 1,
@@ -86,7 +86,7 @@ fn accepted_in(entry: &Entry) -> u64
 
 /// How many messages were completed: one, or none.
 fn completed_in(entry: &Entry) -> u64
-    ensures { result ≡ spec.one_if (spec.is_completion entry.now) }
+    ensures { result ≡ spec.one_entry_if (spec.is_completion entry.now) }
 {
     match entry {
         Entry::Turn(_, Ok(Turned::Next(_, _, _))) => 1,
@@ -98,7 +98,7 @@ fn completed_in(entry: &Entry) -> u64
 
 /// How many messages were ended by an abend: one, or none.
 fn abended_in(entry: &Entry) -> u64
-    ensures { result ≡ spec.one_if (spec.is_abend entry.now) }
+    ensures { result ≡ spec.one_entry_if (spec.is_abend entry.now) }
 {
     match entry {
         Entry::Turn(_, Ok(Turned::Abended(_, _, _))) => 1,
@@ -108,7 +108,7 @@ fn abended_in(entry: &Entry) -> u64
 
 /// How many regions gave way.
 fn victims_in(entry: &Entry) -> u64
-    ensures { result ≡ spec.victims_in entry.now }
+    ensures { result ≡ spec.victim_count_in entry.now }
 {
     match entry {
         Entry::Turn(_, Ok(Turned::Backed(victims))) => victims.as_slice().len() as u64,

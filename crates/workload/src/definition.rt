@@ -6,9 +6,9 @@ use crate::programs::{add_account_programs, add_plain_programs};
 use tm_types::{Bytes, Memory};
 
 /// Adds the whole definition.
-#[tactic(auto, unfolding(crate::specs::Definition::definition_text))]
+#[tactic(auto, unfolding(crate::specs::Definition::workload_definition))]
 pub(crate) fn add_definition(out: &mut Bytes) -> Result<(), Memory>
-    ensures { OnOk result (out.new ≡ out.old ++ spec.definition_text) }
+    ensures { OnOk result (out.new ≡ out.old ++ spec.workload_definition) }
 {
     add_databases(out)?;
     add_plain_codes(out)?;
@@ -143,9 +143,9 @@ fn add_psb_word(out: &mut Bytes) -> Result<(), Memory>
     out.append(b"APPLCTN PSB=")
 }
 
-#[tactic(auto, unfolding(crate::specs::Definition::code_word))]
+#[tactic(auto, unfolding(crate::specs::Definition::code_macro_word))]
 fn add_code_word(out: &mut Bytes) -> Result<(), Memory>
-    ensures { OnOk result (out.new ≡ out.old ++ spec.code_word) }
+    ensures { OnOk result (out.new ≡ out.old ++ spec.code_macro_word) }
 {
     out.append(b"TRANSACT CODE=")
 }

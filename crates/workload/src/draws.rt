@@ -25,9 +25,9 @@ pub(crate) fn seeded(seed: u64) -> Lcg64Xsh32
 /// Draws the three numbers of a transfer, one after another.
 #[tactic(auto, unfolding(crate::specs::Draws::behind_transfer))]
 pub(crate) fn draw_transfer(generator: &mut Lcg64Xsh32) -> Transfer
-    ensures from { result.from ≡ 1 + spec.word generator.old % 100 }
-    ensures to { result.to ≡ 1 + spec.word (spec.moved generator.old) % 100 }
-    ensures amount { result.amount ≡ 1 + spec.word (spec.moved (spec.moved generator.old)) % 9 }
+    ensures from { result.from ≡ 1 + spec.drawn_word generator.old % 100 }
+    ensures to { result.to ≡ 1 + spec.drawn_word (spec.moved generator.old) % 100 }
+    ensures amount { result.amount ≡ 1 + spec.drawn_word (spec.moved (spec.moved generator.old)) % 9 }
     ensures generator { generator.new ≡ spec.behind_transfer generator.old }
 {
     let from = 1 + (draw(generator) % 100) as u16;
@@ -37,9 +37,9 @@ pub(crate) fn draw_transfer(generator: &mut Lcg64Xsh32) -> Transfer
 }
 
 /// Draws the next word.
-#[tactic(auto, unfolding(crate::specs::Draws::word, crate::specs::Draws::moved))]
+#[tactic(auto, unfolding(crate::specs::Draws::drawn_word, crate::specs::Draws::moved))]
 fn draw(generator: &mut Lcg64Xsh32) -> u32
-    ensures value { result ≡ spec.word generator.old }
+    ensures value { result ≡ spec.drawn_word generator.old }
     ensures generator { generator.new ≡ spec.moved generator.old }
 {
     generator.next_word()

@@ -1,10 +1,10 @@
 //! The session of the workload: what is sent, and how its replies are taken.
-ghost use Rattle.std.specs.Prelude.{◌≡◌, ◌≤◌, ◌++◌, codes, decimal, OnOk};
+ghost use Rattle.std.specs.Prelude.{◌≡◌, ◌≤◌, ◌++◌, codes, OnOk};
 ghost use Rattle.workload.specs.Draws.{seeded, account, transfer_of, transfer_text, behind_transfer};
 ghost use Rattle.workload.specs.Session as spec;
 
 use crate::draws::{Transfer, draw_transfer, seeded};
-use itoa::Buffer;
+use crate::text::add_number;
 use rand_pcg::Lcg64Xsh32;
 use tm_types::{Bytes, Memory, four_digits};
 
@@ -82,7 +82,7 @@ fn add_transfer_text(out: &mut Bytes, transfer: &Transfer) -> Result<(), Memory>
     out.append(b"XFER ")?;
     add_account(out, transfer.from)?;
     add_account(out, transfer.to)?;
-    add_number(out, transfer.amount)
+    add_number(out, u64::from(transfer.amount))
 }
 
 /// Adds an account's number and a blank.
@@ -102,7 +102,7 @@ fn add_input(out: &mut Bytes, terminal: &[u8], number: u32) -> Result<(), Memory
     out.append(b"IN ")?;
     out.append(terminal)?;
     out.append(b" ")?;
-    add_number(out, number)?;
+    add_number(out, u64::from(number))?;
     out.append(b" ")
 }
 
@@ -132,7 +132,7 @@ fn ends_block(count: u32, number: u32) -> bool
 #[tactic(auto, using(crate::proofs::Numbers::reply_steps))]
 fn add_replies(out: &mut Bytes, terminal: &[u8], first: u32, past: u32) -> Result<(), Memory>
     requires { first ≤ past }
-    ensures { OnOk result (out.new ≡ out.old ++ spec.replies terminal.now first past) }
+    ensures { OnOk result (out.new ≡ out.old ++ spec.reply_requests terminal.now first past) }
 {
     for number in first..past {
         add_reply(out, terminal, number)?;
@@ -150,14 +150,6 @@ fn add_reply(out: &mut Bytes, terminal: &[u8], number: u32) -> Result<(), Memory
     out.append(b"\nACK ")?;
     out.append(terminal)?;
     out.append(b" ")?;
-    add_number(out, number)?;
+    add_number(out, u64::from(number))?;
     out.append(b"\n")
-}
-
-/// Adds a number's decimal digits.
-fn add_number(out: &mut Bytes, number: u32) -> Result<(), Memory>
-    ensures { OnOk result (out.new ≡ out.old ++ decimal number) }
-{
-    let mut digits = Buffer::new();
-    out.append(digits.format(number).as_bytes())
 }

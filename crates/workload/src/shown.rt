@@ -1,7 +1,7 @@
 //! The reply that was shown last.
 ghost use Rattle.std.specs.Prelude.{◌≡◌};
 ghost use Rattle.std.specs.Option.{option_map};
-ghost use Rattle.workload.specs.Shown as spec;
+ghost use Rattle.workload.specs.ShownReply as spec;
 
 use text_rows::split_at;
 use tm_types::{first_word, operands};

@@ -2,7 +2,7 @@
 ghost use Rattle.std.specs.Prelude.{◌≡◌, ◌++◌, codes, decimal, IfOk, OnOk};
 ghost use Rattle.std.specs.Option.{option_map};
 ghost use Rattle.workload.specs.Counts.{counts_of, entries_of};
-ghost use Rattle.workload.specs.Shown.{last_reply};
+ghost use Rattle.workload.specs.ShownReply.{last_reply};
 ghost use Rattle.workload.specs.Summary as spec;
 
 use crate::counts::{Counts, count_lives};
@@ -81,9 +81,9 @@ fn add_count_line(out: &mut Bytes, word: &[u8], number: u64) -> Result<(), Memor
 }
 
 /// Adds the text of the last reply, if there is one.
-#[tactic(auto, unfolding(crate::specs::Summary::last_line))]
+#[tactic(auto, unfolding(crate::specs::Summary::reply_summary_line))]
 fn add_last_line(out: &mut Bytes, last: Option<&[u8]>) -> Result<(), Memory>
-    ensures { OnOk result (out.new ≡ out.old ++ spec.last_line (option_map (λ text. text.now) last.entry)) }
+    ensures { OnOk result (out.new ≡ out.old ++ spec.reply_summary_line (option_map (λ text. text.now) last.entry)) }
 {
     match last {
         Some(text) => add_line(out, text),
@@ -99,7 +99,7 @@ fn add_line(out: &mut Bytes, text: &[u8]) -> Result<(), Memory>
 }
 
 /// Adds a number's decimal digits.
-fn add_number(out: &mut Bytes, number: u64) -> Result<(), Memory>
+pub fn add_number(out: &mut Bytes, number: u64) -> Result<(), Memory>
     ensures { OnOk result (out.new ≡ out.old ++ decimal number) }
 {
     let mut digits = Buffer::new();

@@ -1,26 +1,26 @@
 use Rattle.std.proofs.Common.{arith, ◌≡◌, refl, sym, ◌∙◌, ap, subst}
 use Rattle.tm_disk.specs.Disk.{Within, Follows, MayWrite}
-use Rattle.log_sectors.proofs.Links.{at_ok}
 use Rattle.restart_data.specs.declared.restart.RestartSector.{RestartSector}
 use Rattle.restart_data.specs.Restart.{restart_sector}
-use Rattle.restart_data.specs.Images.{Restarts}
+use Rattle.restart_data.specs.WrittenSectors.{Restarts}
 use Rattle.log_writer.specs.Writer.{Writer}
-use Rattle.log_writer.specs.Log.{log_of, IsReady}
-use Rattle.checkpointing.specs.Parts.{CheckpointParts, parts_of, next_restart, next_writer, restart_behind, sequence_behind}
-use Rattle.checkpointing.specs.Steps.{WritesSnapshot}
+use Rattle.log_writer.specs.ForcedLog.{log_of_writer, IsWriterReady}
+use Rattle.checkpointing.specs.CheckpointParts.{CheckpointParts, checkpoint_parts_of, next_restart, next_writer, restart_behind, sequence_behind}
+use Rattle.checkpointing.specs.CheckpointSteps.{WritesSnapshot}
 use Rattle.checkpointing.specs.Checkpoint.{IsCheckpointed}
 use Rattle.checkpointing.proofs.Slots.{slots_end}
 use Rattle.checkpointing.proofs.Taking.{Asked, all_asked, next_of_forced, same_writer, begins_empty, prepared_within, taken_within, prepared_text, prepared_steps, taken_text, taken_steps, taken_follows, taken_ahead, taken_ready}
 use Rattle.checkpointing.proofs.checkpoint.take.Goals as goal
+use Rattle.tm_disk.proofs.States.{at_ok}
 
 pub prepare-requires-clause-area : goal.prepare-requires-clause-area
 prepare-requires-clause-area g c =
-    let parts : CheckpointParts = parts_of c.args.parts.now in
+    let parts : CheckpointParts = checkpoint_parts_of c.args.parts.now in
     omega (arith, c.data_at.ensures, slots_end parts.system c.args.stores.now c.requires.stores, c.requires.areas)
 
 pub returns-in-Err-clause-any_moment : goal.returns-in-Err-clause-any_moment
 returns-in-Err-clause-any_moment g c =
-    let parts : CheckpointParts = parts_of c.args.parts.now in
+    let parts : CheckpointParts = checkpoint_parts_of c.args.parts.now in
     let old = g.D.Disk.state c.args.disk.now in
     let disk = g.met.D.Disk.is_disk c.args.disk.now in
     let asked : Asked parts c.args.log.now c.args.stores.now old =
@@ -29,7 +29,7 @@ returns-in-Err-clause-any_moment g c =
 
 pub returns-then-is_err-clause-any_moment : goal.returns-then-is_err-clause-any_moment
 returns-then-is_err-clause-any_moment g c =
-    let parts : CheckpointParts = parts_of c.args.parts.now in
+    let parts : CheckpointParts = checkpoint_parts_of c.args.parts.now in
     let old = g.D.Disk.state c.args.disk.now in
     let disk = g.met.D.Disk.is_disk c.args.disk.now in
     let asked : Asked parts c.args.log.now c.args.stores.now old =
@@ -44,7 +44,7 @@ returns-then-is_err-clause-any_moment g c =
 
 pub returns-clause-any_moment : goal.returns-clause-any_moment
 returns-clause-any_moment g c =
-    let parts : CheckpointParts = parts_of c.args.parts.now in
+    let parts : CheckpointParts = checkpoint_parts_of c.args.parts.now in
     let old = g.D.Disk.state c.args.disk.now in
     let disk = g.met.D.Disk.is_disk c.args.disk.now in
     let asked : Asked parts c.args.log.now c.args.stores.now old =
@@ -59,7 +59,7 @@ returns-clause-any_moment g c =
 
 pub returns-clause-done : goal.returns-clause-done
 returns-clause-done g c =
-    let parts : CheckpointParts = parts_of c.args.parts.now in
+    let parts : CheckpointParts = checkpoint_parts_of c.args.parts.now in
     let old = g.D.Disk.state c.args.disk.now in
     let disk = g.met.D.Disk.is_disk c.args.disk.now in
     let asked : Asked parts c.args.log.now c.args.stores.now old =
@@ -74,7 +74,7 @@ returns-clause-done g c =
 
 pub returns-clause-ready : goal.returns-clause-ready
 returns-clause-ready g c =
-    let parts : CheckpointParts = parts_of c.args.parts.now in
+    let parts : CheckpointParts = checkpoint_parts_of c.args.parts.now in
     let old = g.D.Disk.state c.args.disk.now in
     let disk = g.met.D.Disk.is_disk c.args.disk.now in
     let asked : Asked parts c.args.log.now c.args.stores.now old =
@@ -87,11 +87,11 @@ returns-clause-ready g c =
     let restarts : Follows (Restarts c.next_restart-next.result) mid new = at_ok c.write_restart.result (Follows (Restarts c.next_restart-next.result) mid new) (sym c.if-is_err.ensures.value) c.write_restart.ensures.done in
     let done : Follows (IsCheckpointed parts c.args.log.now c.args.stores.now) old new = taken_follows parts c.args.log.now c.args.stores.now old disk asked mid new saved (subst (λ (r : RestartSector). Follows (Restarts r) mid new) next restarts) in
     let writer : c.new.result ≡ next_writer parts c.args.log.now = c.new.ensures ∙ same_writer c.args.parts.now.log_at c.args.parts.now.log_sectors c.next_restart-next.result (next_restart parts c.args.log.now) next in
-    subst (λ (w : Writer). IsReady w new) (sym writer) (taken_ready parts c.args.log.now c.args.stores.now old disk asked new done)
+    subst (λ (w : Writer). IsWriterReady w new) (sym writer) (taken_ready parts c.args.log.now c.args.stores.now old disk asked new done)
 
 pub returns-clause-ahead : goal.returns-clause-ahead
 returns-clause-ahead g c =
-    let parts : CheckpointParts = parts_of c.args.parts.now in
+    let parts : CheckpointParts = checkpoint_parts_of c.args.parts.now in
     let old = g.D.Disk.state c.args.disk.now in
     let disk = g.met.D.Disk.is_disk c.args.disk.now in
     let asked : Asked parts c.args.log.now c.args.stores.now old =
@@ -107,7 +107,7 @@ returns-clause-ahead g c =
 
 pub returns-clause-empty : goal.returns-clause-empty
 returns-clause-empty g c =
-    let parts : CheckpointParts = parts_of c.args.parts.now in
+    let parts : CheckpointParts = checkpoint_parts_of c.args.parts.now in
     let old = g.D.Disk.state c.args.disk.now in
     let disk = g.met.D.Disk.is_disk c.args.disk.now in
     let asked : Asked parts c.args.log.now c.args.stores.now old =
@@ -120,11 +120,11 @@ returns-clause-empty g c =
     let restarts : Follows (Restarts c.next_restart-next.result) mid new = at_ok c.write_restart.result (Follows (Restarts c.next_restart-next.result) mid new) (sym c.if-is_err.ensures.value) c.write_restart.ensures.done in
     let done : Follows (IsCheckpointed parts c.args.log.now c.args.stores.now) old new = taken_follows parts c.args.log.now c.args.stores.now old disk asked mid new saved (subst (λ (r : RestartSector). Follows (Restarts r) mid new) next restarts) in
     let writer : c.new.result ≡ next_writer parts c.args.log.now = c.new.ensures ∙ same_writer c.args.parts.now.log_at c.args.parts.now.log_sectors c.next_restart-next.result (next_restart parts c.args.log.now) next in
-    λ image left. ap (λ (w : Writer). log_of w image) writer ∙ begins_empty (next_writer parts c.args.log.now) image (taken_ready parts c.args.log.now c.args.stores.now old disk asked new done image left) refl
+    λ image left. ap (λ (w : Writer). log_of_writer w image) writer ∙ begins_empty (next_writer parts c.args.log.now) image (taken_ready parts c.args.log.now c.args.stores.now old disk asked new done image left) refl
 
 pub returns-in-Err-clause-texts : goal.returns-in-Err-clause-texts
 returns-in-Err-clause-texts g c =
-    let parts : CheckpointParts = parts_of c.args.parts.now in
+    let parts : CheckpointParts = checkpoint_parts_of c.args.parts.now in
     let old = g.D.Disk.state c.args.disk.now in
     let disk = g.met.D.Disk.is_disk c.args.disk.now in
     let asked : Asked parts c.args.log.now c.args.stores.now old =
@@ -133,7 +133,7 @@ returns-in-Err-clause-texts g c =
 
 pub returns-then-is_err-clause-texts : goal.returns-then-is_err-clause-texts
 returns-then-is_err-clause-texts g c =
-    let parts : CheckpointParts = parts_of c.args.parts.now in
+    let parts : CheckpointParts = checkpoint_parts_of c.args.parts.now in
     let old = g.D.Disk.state c.args.disk.now in
     let disk = g.met.D.Disk.is_disk c.args.disk.now in
     let asked : Asked parts c.args.log.now c.args.stores.now old =
@@ -148,7 +148,7 @@ returns-then-is_err-clause-texts g c =
 
 pub returns-clause-texts : goal.returns-clause-texts
 returns-clause-texts g c =
-    let parts : CheckpointParts = parts_of c.args.parts.now in
+    let parts : CheckpointParts = checkpoint_parts_of c.args.parts.now in
     let old = g.D.Disk.state c.args.disk.now in
     let disk = g.met.D.Disk.is_disk c.args.disk.now in
     let asked : Asked parts c.args.log.now c.args.stores.now old =
@@ -163,7 +163,7 @@ returns-clause-texts g c =
 
 pub returns-in-Err-clause-steps : goal.returns-in-Err-clause-steps
 returns-in-Err-clause-steps g c =
-    let parts : CheckpointParts = parts_of c.args.parts.now in
+    let parts : CheckpointParts = checkpoint_parts_of c.args.parts.now in
     let old = g.D.Disk.state c.args.disk.now in
     let disk = g.met.D.Disk.is_disk c.args.disk.now in
     let asked : Asked parts c.args.log.now c.args.stores.now old =
@@ -172,7 +172,7 @@ returns-in-Err-clause-steps g c =
 
 pub returns-then-is_err-clause-steps : goal.returns-then-is_err-clause-steps
 returns-then-is_err-clause-steps g c =
-    let parts : CheckpointParts = parts_of c.args.parts.now in
+    let parts : CheckpointParts = checkpoint_parts_of c.args.parts.now in
     let old = g.D.Disk.state c.args.disk.now in
     let disk = g.met.D.Disk.is_disk c.args.disk.now in
     let asked : Asked parts c.args.log.now c.args.stores.now old =
@@ -187,7 +187,7 @@ returns-then-is_err-clause-steps g c =
 
 pub returns-clause-steps : goal.returns-clause-steps
 returns-clause-steps g c =
-    let parts : CheckpointParts = parts_of c.args.parts.now in
+    let parts : CheckpointParts = checkpoint_parts_of c.args.parts.now in
     let old = g.D.Disk.state c.args.disk.now in
     let disk = g.met.D.Disk.is_disk c.args.disk.now in
     let asked : Asked parts c.args.log.now c.args.stores.now old =

@@ -2,9 +2,10 @@ use Rattle.std.proofs.Common.{map, drop, ◌+◌, ap, List, length, refl, arith}
 use Rattle.std.proofs.lemmas.Option.{slice_get_read}
 use Rattle.model_system.specs.declared.code_state.CodeState.{CodeState}
 use Rattle.model_machine.specs.Machine.{setting_of}
-use Rattle.checkpointing.specs.Records.{code_record}
-use Rattle.checkpointing.proofs.Adding.{comes_more, drop_more}
+use Rattle.checkpointing.specs.SnapshotRecords.{code_record}
+use Rattle.checkpointing.proofs.Adding.{comes_more}
 use Rattle.checkpointing.proofs.codes.append_codes.Goals as goal
+use Rattle.tm_types.proofs.Parted.{drop_more}
 
 pub loop-code-preserved : goal.loop-code-preserved
 loop-code-preserved c =

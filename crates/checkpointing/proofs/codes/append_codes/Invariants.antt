@@ -1,6 +1,6 @@
 use Rattle.std.proofs.Common.{drop, map}
 use Rattle.model_machine.specs.Machine.{setting_of}
-use Rattle.checkpointing.specs.Records.{code_record}
+use Rattle.checkpointing.specs.SnapshotRecords.{code_record}
 use Rattle.checkpointing.proofs.Adding.{Comes}
 use Rattle.checkpointing.proofs.codes.append_codes.Given as goal
 

@@ -2,8 +2,8 @@ use Rattle.std.proofs.Common.{◌≡◌, ◌∷◌, List, map, ap, subst}
 use Rattle.model_messages.specs.declared.queued.Queued.{Queued}
 use Rattle.model_messages.specs.Queue.{messages_of}
 use Rattle.log_records.specs.declared.record.Record.{Record}
-use Rattle.image_law.specs.Counted.{AreCounted}
-use Rattle.checkpointing.specs.Records.{message_record}
+use Rattle.image_law.specs.SegmentCounts.{AreCounted}
+use Rattle.checkpointing.specs.SnapshotRecords.{message_record}
 use Rattle.checkpointing.proofs.Adding.{comes_more}
 use Rattle.checkpointing.proofs.messages.append_messages.Goals as goal
 

@@ -1,7 +1,7 @@
 use Rattle.std.proofs.Common.{map}
 use Rattle.model_messages.specs.Queue.{messages_of}
-use Rattle.image_law.specs.Counted.{AreCounted}
-use Rattle.checkpointing.specs.Records.{message_record}
+use Rattle.image_law.specs.SegmentCounts.{AreCounted}
+use Rattle.checkpointing.specs.SnapshotRecords.{message_record}
 use Rattle.checkpointing.proofs.Adding.{Comes}
 use Rattle.checkpointing.proofs.messages.append_messages.Given as goal
 

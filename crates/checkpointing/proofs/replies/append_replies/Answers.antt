@@ -2,10 +2,11 @@ use Rattle.std.proofs.Common.{◌≡◌, ◌+◌, List, map, drop, ap, refl, ari
 use Rattle.std.specs.Prelude.{slice_get}
 use Rattle.std.proofs.lemmas.Option.{slice_get_read}
 use Rattle.model_messages.specs.declared.replies.TerminalReplies.{TerminalReplies}
-use Rattle.image_law.specs.Counted.{AreRepliesCounted}
-use Rattle.checkpointing.specs.Records.{reply_record, reply_records}
-use Rattle.checkpointing.proofs.Adding.{comes_some, comes_end, drop_more, drop_end, all_more}
+use Rattle.image_law.specs.SegmentCounts.{AreRepliesCounted}
+use Rattle.checkpointing.specs.SnapshotRecords.{reply_record, reply_records}
+use Rattle.checkpointing.proofs.Adding.{comes_some, comes_end, drop_end, all_more}
 use Rattle.checkpointing.proofs.replies.append_replies.Goals as goal
+use Rattle.tm_types.proofs.Parted.{drop_more}
 
 pub loop-terminal-preserved : goal.loop-terminal-preserved
 loop-terminal-preserved c =

@@ -1,6 +1,6 @@
 use Rattle.std.proofs.Common.{drop}
-use Rattle.image_law.specs.Counted.{AreAllCounted}
-use Rattle.checkpointing.specs.Records.{reply_records}
+use Rattle.image_law.specs.SegmentCounts.{AreAllCounted}
+use Rattle.checkpointing.specs.SnapshotRecords.{reply_records}
 use Rattle.checkpointing.proofs.Adding.{Comes}
 use Rattle.checkpointing.proofs.replies.append_replies.Given as goal
 

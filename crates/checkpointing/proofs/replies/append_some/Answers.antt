@@ -1,10 +1,11 @@
 use Rattle.std.proofs.Common.{◌≡◌, ◌+◌, List, map, drop, ap, sym, arith, Some}
 use Rattle.std.specs.Prelude.{slice_get}
 use Rattle.tm_types.specs.declared.message.Reply.{Reply}
-use Rattle.log_records.specs.Spelling.{IsCount}
-use Rattle.checkpointing.specs.Records.{reply_record}
-use Rattle.checkpointing.proofs.Adding.{comes_more, comes_end, drop_more, drop_end, all_more}
+use Rattle.log_records.specs.RecordSpelling.{IsCount}
+use Rattle.checkpointing.specs.SnapshotRecords.{reply_record}
+use Rattle.checkpointing.proofs.Adding.{comes_more, comes_end, drop_end, all_more}
 use Rattle.checkpointing.proofs.replies.append_some.Goals as goal
+use Rattle.tm_types.proofs.Parted.{drop_more}
 
 pub loop-place-preserved : goal.loop-place-preserved
 loop-place-preserved c =

@@ -1,6 +1,6 @@
 use Rattle.std.proofs.Common.{map, drop}
-use Rattle.image_law.specs.Counted.{AreRepliesCounted}
-use Rattle.checkpointing.specs.Records.{reply_record}
+use Rattle.image_law.specs.SegmentCounts.{AreRepliesCounted}
+use Rattle.checkpointing.specs.SnapshotRecords.{reply_record}
 use Rattle.checkpointing.proofs.Adding.{Comes}
 use Rattle.checkpointing.proofs.replies.append_some.Given as goal
 

@@ -2,7 +2,7 @@ use Rattle.std.proofs.Common.{◌≡◌, drop, ◌+◌, length, refl, Some}
 use Rattle.std.proofs.lemmas.Option.{slice_get_read}
 use Rattle.std.specs.Prelude.{slice_get}
 use Rattle.log_records.specs.declared.record.Record.TheVariants.{Terminal}
-use Rattle.checkpointing.specs.Records.{terminal_records}
+use Rattle.checkpointing.specs.SnapshotRecords.{terminal_records}
 use Rattle.checkpointing.proofs.Adding.{comes_more, terminals_more}
 use Rattle.checkpointing.proofs.terminals.append_terminals.Goals as goal
 

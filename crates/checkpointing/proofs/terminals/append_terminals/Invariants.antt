@@ -1,5 +1,5 @@
 use Rattle.std.proofs.Common.{drop}
-use Rattle.checkpointing.specs.Records.{terminal_records}
+use Rattle.checkpointing.specs.SnapshotRecords.{terminal_records}
 use Rattle.checkpointing.proofs.Adding.{Comes}
 use Rattle.checkpointing.proofs.terminals.append_terminals.Given as goal
 

@@ -1,5 +1,5 @@
 use Rattle.std.proofs.Common.{sym, None}
-use Rattle.seg_store.specs.Changed.{stored}
+use Rattle.seg_store.specs.ChangedSlots.{stored}
 use Rattle.checkpointing.proofs.Present.{image_is, image_short}
 use Rattle.checkpointing.proofs.touches.present_rows.Goals as goal
 

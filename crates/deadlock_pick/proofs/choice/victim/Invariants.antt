@@ -1,7 +1,7 @@
 use Rattle.std.proofs.Common.{◌≡◌, drop}
 use Rattle.std.specs.Prelude.{fold}
 use Rattle.model_data.specs.Cycle.{gives_way}
-use Rattle.deadlock_pick.specs.Weighed.{IsWeighed}
+use Rattle.deadlock_pick.specs.Weights.{IsWeighed}
 use Rattle.deadlock_pick.proofs.choice.victim.Given as goal
 
 abbrev pub invariant-loop-region : goal.invariant-loop-region

@@ -1,6 +1,6 @@
 use Rattle.std.proofs.Common.{◌≡◌, ◌<◌, ◌+◌, ◌∷◌, [], sym, ◌∙◌, arith, ap, subst, length, length-append}
 use Rattle.deadlock_pick.proofs.Ways.{ring_here, none_outside, none_skipped, way_longer, fits, none_from, none_to, least_from}
-use Rattle.model_data.specs.Cycle.{IsRegion}
+use Rattle.model_data.specs.Cycle.{IsTableRegion}
 use Rattle.deadlock_pick.specs.Way.{HasNoneOf}
 use Rattle.deadlock_pick.proofs.search.+search.Goals as goal
 use Rattle.deadlock_pick.proofs.search.+search.Goals.{then-goes_on+in-None, else-goes_on}
@@ -23,7 +23,7 @@ longer-requires-clause-room t c =
 
 pub search-requires : goal.search-requires
 search-requires t c =
-    let is : IsRegion c.args.table.now c.loop-next.next = (omega arith, omega (arith, c.regions-next-end.ensures.value)) in
+    let is : IsTableRegion c.args.table.now c.loop-next.next = (omega arith, omega (arith, c.regions-next-end.ensures.value)) in
     let short : length c.args.way < 8 =
     fits c.args.table.now c.args.region c.args.way c.args.last c.requires.way c.requires.few c.loop-next.next is (sym c.goes_on.ensures ∙ c.if-goes_on.true) in
     let more : length c.longer.result ≡ length c.args.way + 1 = ap length c.longer.ensures ∙ length-append c.args.way (c.loop-next.next ∷ []) in (

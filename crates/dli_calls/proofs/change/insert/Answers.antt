@@ -3,7 +3,7 @@ use Rattle.model_data.specs.declared.row.Row.{Row}
 use Rattle.model_data.specs.Path.{IsPath}
 use Rattle.model_data.specs.Row.{IsRow}
 use Rattle.model_data.specs.Rows.{AreRows}
-use Rattle.model_data.specs.Change.{insert_path, insert_row, insert_fault}
+use Rattle.model_data.specs.ChangeCalls.{insert_path, insert_row, insert_fault}
 use Rattle.model_data.specs.Conditions.{IsPosition}
 use Rattle.dli_calls.specs.declared.planned.Planned.{Planned}
 use Rattle.dli_calls.proofs.NewRows.{insert_is_path, insert_is_row}

@@ -1,6 +1,6 @@
 use Rattle.std.proofs.Common.{subst, ap}
 use Rattle.model_data.specs.Rows.{record_of, AreRows}
-use Rattle.model_data.specs.Change.{with_row}
+use Rattle.model_data.specs.ChangeCalls.{with_row}
 use Rattle.dli_calls.proofs.Edits.{row_added, under_with_row, image_with_row}
 use Rattle.dli_calls.proofs.Removing.{some_with}
 use Rattle.dli_calls.proofs.Setting.{edits}

@@ -1,5 +1,5 @@
 use Rattle.std.proofs.Common.{◌≡◌, ◌++◌, drop}
-use Rattle.model_data.specs.Change.{with_data}
+use Rattle.model_data.specs.ChangeCalls.{with_data}
 use Rattle.dli_calls.proofs.edit.with_data.Given as goal
 
 abbrev pub invariant-loop-row : goal.invariant-loop-row

@@ -6,11 +6,11 @@ use Rattle.tm_types.specs.declared.resource.Mode.TheVariants.{Shared}
 use Rattle.model_data.specs.Rows.{record_of, roots, AreRows}
 use Rattle.model_data.specs.Footprint.{record_need, sequence_need}
 use Rattle.model_data.specs.Search.{first_after}
-use Rattle.row_search.specs.Lent.{lent_root, IsLentOf}
+use Rattle.row_search.specs.LentRecord.{lent_root, IsLentOf}
 use Rattle.row_search.specs.Walk.{roots_left}
 use Rattle.row_search.proofs.Needing.{walk, next_fits}
 use Rattle.row_search.proofs.Walking.{fewer_left}
-use Rattle.dli_calls.specs.Along.{keys_behind, keys_from, records_of}
+use Rattle.dli_calls.specs.NamedRecords.{keys_behind, keys_from, rows_of_roots}
 use Rattle.dli_calls.proofs.Naming.{next_keys, walk_ends, walk_goes, records_end, records_go, closes, goes}
 use Rattle.dli_calls.proofs.footprint.along.Goals as goal
 
@@ -24,7 +24,7 @@ loop-next-init g c =
       named = ap (λ keys. c.push.new.self ++ walk (next_fits c.args.asked.now.dbd c.args.asked.now.ssas (option_copied c.args.place)) c.args.mode rows keys)
           (ap (λ o. keys_from o (roots rows)) c.next_record-next.ensures.root
           ∙ next_keys c.args.asked.now.dbd valid.types rows valid (option_copied c.args.after));
-      found = ap (λ keys. first_after c.args.asked.now.dbd.types c.args.asked.now.ssas (option_copied c.args.place) (records_of keys rows))
+      found = ap (λ keys. first_after c.args.asked.now.dbd.types c.args.asked.now.ssas (option_copied c.args.place) (rows_of_roots keys rows))
           (ap (λ o. keys_from o (roots rows)) c.next_record-next.ensures.root
           ∙ next_keys c.args.asked.now.dbd valid.types rows valid (option_copied c.args.after));
     }
@@ -53,13 +53,13 @@ returns-in-Some-first_after-clause-found g c =
     sym (c.in-Some-first_after.ensures ∙ ap (first_after c.args.asked.now.dbd.types c.args.asked.now.ssas (option_copied c.args.place)) lent) in
     sym (records_end c.args.asked.now.dbd c.loop-next.invariant.valid.types rows c.loop-next.invariant.valid c.args.asked.now.ssas (option_copied c.args.place) c.args.mode c.in-Some.lent.root
     c.in-Some-first_after.row.now there)
-    ∙ (ap (λ o. first_after c.args.asked.now.dbd.types c.args.asked.now.ssas (option_copied c.args.place) (records_of (keys_from (lent_root o) (roots rows)) rows)) (sym c.in-Some.is)
+    ∙ (ap (λ o. first_after c.args.asked.now.dbd.types c.args.asked.now.ssas (option_copied c.args.place) (rows_of_roots (keys_from (lent_root o) (roots rows)) rows)) (sym c.in-Some.is)
     ∙ c.loop-next.invariant.found)
 
 pub returns-clause-found : goal.returns-clause-found
 returns-clause-found g c =
     let rows = g.R.Rows.rows c.args.rows.now in
-    sym (ap (λ o. first_after c.args.asked.now.dbd.types c.args.asked.now.ssas (option_copied c.args.place) (records_of (keys_from (lent_root o) (roots rows)) rows)) c.in_default.is)
+    sym (ap (λ o. first_after c.args.asked.now.dbd.types c.args.asked.now.ssas (option_copied c.args.place) (rows_of_roots (keys_from (lent_root o) (roots rows)) rows)) c.in_default.is)
     ∙ c.loop-next.invariant.found
 
 pub loop-next-smaller : goal.loop-next-smaller
@@ -90,10 +90,10 @@ loop-next-preserved g c =
           (ap is_some none)
           ∙ ap (λ o. record_need c.args.mode c.in-Some.lent.root ∷ walk test c.args.mode rows (keys_from o (roots rows))) (sym c.next_record-next-in-Some.ensures.root)));
       found =
-          ap (λ o. first_after c.args.asked.now.dbd.types c.args.asked.now.ssas (option_copied c.args.place) (records_of (keys_from o (roots rows)) rows)) c.next_record-next-in-Some.ensures.root
+          ap (λ o. first_after c.args.asked.now.dbd.types c.args.asked.now.ssas (option_copied c.args.place) (rows_of_roots (keys_from o (roots rows)) rows)) c.next_record-next-in-Some.ensures.root
           ∙ (records_go c.args.asked.now.dbd c.loop-next.invariant.valid.types rows c.loop-next.invariant.valid c.args.asked.now.ssas (option_copied c.args.place) c.args.mode c.in-Some.lent.root
           none
-          ∙ (ap (λ o. first_after c.args.asked.now.dbd.types c.args.asked.now.ssas (option_copied c.args.place) (records_of (keys_from (lent_root o) (roots rows)) rows)) (sym c.in-Some.is)
+          ∙ (ap (λ o. first_after c.args.asked.now.dbd.types c.args.asked.now.ssas (option_copied c.args.place) (rows_of_roots (keys_from (lent_root o) (roots rows)) rows)) (sym c.in-Some.is)
           ∙ c.loop-next.invariant.found));
     }
 

@@ -1,7 +1,7 @@
 use Rattle.std.proofs.Common.{◌≡◌, drop}
 use Rattle.std.specs.Cmp.Lexicographic.{pointwise}
 use Rattle.model_data.specs.Search.{pair_eq}
-use Rattle.model_data.specs.Change.{insert_path}
+use Rattle.model_data.specs.ChangeCalls.{insert_path}
 use Rattle.dli_calls.proofs.inserting.are_asked_pairs.Given as goal
 
 abbrev pub invariant-loop-i : goal.invariant-loop-i

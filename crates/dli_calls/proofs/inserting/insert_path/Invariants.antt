@@ -1,5 +1,5 @@
 use Rattle.std.proofs.Common.{◌≡◌, ◌++◌, drop}
-use Rattle.model_data.specs.Change.{insert_path}
+use Rattle.model_data.specs.ChangeCalls.{insert_path}
 use Rattle.dli_calls.proofs.inserting.insert_path.Given as goal
 
 abbrev pub invariant-loop-ssa : goal.invariant-loop-ssa

@@ -1,8 +1,8 @@
 use Rattle.std.proofs.Common.{◌≡◌, ◌-◌, length, eqb, not, ◌&&◌, false, sym, ap, ◌∙◌, arith}
 use Rattle.std.proofs.lemmas.Bool.{ne_eqb}
 use Rattle.model_data.specs.Path.{parent_path}
-use Rattle.model_data.specs.Search.{is_there}
-use Rattle.model_data.specs.Change.{insert_path}
+use Rattle.model_data.specs.Search.{is_row_there}
+use Rattle.model_data.specs.ChangeCalls.{insert_path}
 use Rattle.dli_calls.proofs.Asking.{insert_named, insert_some, insert_length, insert_parent, named_front}
 use Rattle.dli_calls.proofs.inserting.lacks_parent.Goals as goal
 
@@ -18,5 +18,5 @@ returns g c =
     let some = insert_some types 0 ssas c.requires.ssas in
     let other : eqb (length (insert_path types ssas area)) 1 ≡ false =
     ap (λ n. eqb n 1) (insert_length types area ssas) ∙ ne_eqb (length ssas) 1 (λ e. absurd (omega arith)) in
-    ap not (c.is_asked_there.ensures.value ∙ ap (λ p. is_there p (g.R.Rows.rows c.args.rows.now)) (sym (insert_parent types area ssas (length ssas - 1) (omega arith))))
-    ∙ sym (ap (λ b. not b && not (is_there (parent_path (insert_path types ssas area)) (g.R.Rows.rows c.args.rows.now))) other)
+    ap not (c.is_asked_there.ensures.value ∙ ap (λ p. is_row_there p (g.R.Rows.rows c.args.rows.now)) (sym (insert_parent types area ssas (length ssas - 1) (omega arith))))
+    ∙ sym (ap (λ b. not b && not (is_row_there (parent_path (insert_path types ssas area)) (g.R.Rows.rows c.args.rows.now))) other)

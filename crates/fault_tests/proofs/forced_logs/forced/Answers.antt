@@ -1,5 +1,5 @@
 use Rattle.std.proofs.Common.{ap, ◌∙◌}
-use Rattle.tm_disk.specs.MemDisk.{state_of}
+use Rattle.tm_disk.specs.MemDisk.{mem_disk_state}
 use Rattle.log_writer.specs.Writer.{Writer}
 use Rattle.log_writer.proofs.Starting.{ready-zeros}
 use Rattle.fault_tests.proofs.forced_logs.forced.Goals as goal
@@ -7,4 +7,4 @@ use Rattle.fault_tests.proofs.forced_logs.forced.Goals as goal
 pub force-requires-clause-ready : goal.force-requires-clause-ready
 force-requires-clause-ready c =
     let place = ap (λ (w : Writer). w.place) c.in_ok-append.ensures.ok ∙ ap (λ (w : Writer). w.place) c.new-log.ensures in
-    ready-zeros c.append.new.self (state_of c.in_ok-disk.disk) 8 place c.in_ok-disk.ensures.zeros c.in_ok-disk.ensures.synced
+    ready-zeros c.append.new.self (mem_disk_state c.in_ok-disk.disk) 8 place c.in_ok-disk.ensures.zeros c.in_ok-disk.ensures.synced

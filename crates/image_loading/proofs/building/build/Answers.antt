@@ -3,8 +3,8 @@ use Rattle.std.specs.List.{AllByRecursion, slice_get}
 use Rattle.std.proofs.lemmas.List.{nil_from_length}
 use Rattle.model_data.proofs.Lists.{all_front, all_back}
 use Rattle.seg_store.specs.Slots.{IsSlot, free_slots}
-use Rattle.seg_store.specs.Changed.{Kept}
-use Rattle.image_loading.specs.Building.{shared_at, apart, is_there, with_new}
+use Rattle.seg_store.specs.ChangedSlots.{Kept}
+use Rattle.image_loading.specs.SharedRoots.{shared_at, apart, is_root_there, with_new}
 use Rattle.image_loading.proofs.Built.{slot_free, slots_more, found_more, all_apart, popped}
 use Rattle.image_loading.proofs.building.build.Goals as goal
 
@@ -42,7 +42,7 @@ loop-image-preserved c =
       slots = c.add-found.ensures.slots
           ∙ ((λ i. with_new (number i) image (slots_are i)) ∙ (slots_more k image later ∙ ap (λ xs. free_slots k ++ apart xs) (sym next)));
       found = c.add-found.ensures.found
-          ∙ ((λ i. cond (is_there image (slots_are i)) (Some (c.args.first + number i)) ((inv.found ∙ ap (λ n. shared_at (c.args.first + n) later) count) i))
+          ∙ ((λ i. cond (is_root_there image (slots_are i)) (Some (c.args.first + number i)) ((inv.found ∙ ap (λ n. shared_at (c.args.first + n) later) count) i))
           ∙ (found_more c.args.first k image later ∙ ap (shared_at (c.args.first + k)) (sym next)));
       valid = c.add-found.ensures.valid;
       database = c.add-found.ensures.database ∙ inv.database;

@@ -1,7 +1,7 @@
 use Rattle.std.proofs.Common.{◌≡◌, ◌+◌, ◌++◌, length, drop}
 use Rattle.std.specs.List.{AllByRecursion}
 use Rattle.seg_store.specs.Slots.{AreSlots, IsSlot, free_slots}
-use Rattle.image_loading.specs.Building.{shared_at, apart}
+use Rattle.image_loading.specs.SharedRoots.{shared_at, apart}
 use Rattle.image_loading.proofs.building.build.Given as goal
 
 abbrev pub invariant-loop-image : goal.invariant-loop-image

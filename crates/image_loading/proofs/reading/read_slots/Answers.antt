@@ -4,7 +4,7 @@ use Rattle.tm_disk.proofs.Words.{keeps_same, keeps_on}
 use Rattle.model_data.proofs.Lists.{all_append}
 use Rattle.model_image.specs.Slots.{is_image, slots_by}
 use Rattle.seg_store.specs.Slots.{IsSlot}
-use Rattle.image_loading.specs.Loading.{slots_in, slot_from}
+use Rattle.image_loading.specs.LoadedStore.{image_slots_in, slot_from}
 use Rattle.image_loading.proofs.SlotsRead.{IsAhead, IsReadTo, ahead_begins, ahead_next, behind_all, read_starts, read_next, left_next, rows_here, wrong_here, slot_or}
 use Rattle.image_loading.proofs.reading.read_slots.Goals as goal
 
@@ -20,7 +20,7 @@ loop-number-init g c =
       len = c.in-Ok.ensures.len;
       room = omega (arith, c.in-Ok.ensures.exact);
       read = λ tells.
-          subst (λ xs. IsReadTo (slots_in (g.D.Disk.state c.args.disk.now).shown c.args.dbd.now c.args.first c.args.given.now) (slots_by (slot_from (g.D.Disk.state c.args.disk.now).shown c.args.dbd.now c.args.first c.args.given.now) (c.args.dbd.now.roots - 0) 0) xs None)
+          subst (λ xs. IsReadTo (image_slots_in (g.D.Disk.state c.args.disk.now).shown c.args.dbd.now c.args.first c.args.given.now) (slots_by (slot_from (g.D.Disk.state c.args.disk.now).shown c.args.dbd.now c.args.first c.args.given.now) (c.args.dbd.now.roots - 0) 0) xs None)
           (sym c.in-Ok.ensures.items) (read_starts (g.D.Disk.state c.args.disk.now).shown c.args.dbd.now c.args.first c.args.given.now);
     }
 
@@ -30,7 +30,7 @@ returns-in-Err-clause-value g c tells =
     let mid = g.D.Disk.state c.loop-number.disk in
     let inv = c.loop-number.invariant in
     let number = c.loop-number.number in
-    let all = slots_in old.shown c.args.dbd.now c.args.first c.args.given.now in
+    let all = image_slots_in old.shown c.args.dbd.now c.args.first c.args.given.now in
     let left = slots_by (slot_from old.shown c.args.dbd.now c.args.first c.args.given.now) (c.args.dbd.now.roots - (number + 1)) (number + 1) in
     wrong_here old.shown mid.shown c.args.dbd.now c.args.first number (c.args.first + number) c.args.given.now c.loop-number.rest.now _ c.head_given-bytes.ensures inv.ahead inv.keeps.shown refl
     c.in-Err.fault all left c.loop-number.images.items c.loop-number.broken
@@ -46,7 +46,7 @@ loop-number-preserved g c =
     let number = c.loop-number.number in
     let rows = c.in-Ok-slot_rows.rows in
     let dbd = c.args.dbd.now in
-    let all = slots_in old.shown dbd c.args.first c.args.given.now in
+    let all = image_slots_in old.shown dbd c.args.first c.args.given.now in
     let slot = slot_from old.shown dbd c.args.first c.args.given.now in
     let left = slots_by slot (dbd.roots - (number + 1)) (number + 1) in
     record {

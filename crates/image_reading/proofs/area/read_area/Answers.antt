@@ -1,6 +1,6 @@
 use Rattle.std.proofs.Common.{◌+◌, ◌-◌, sym, ◌∙◌, ap, subst, arith, IsTrue}
 use Rattle.tm_disk.specs.Disk.{Image, sector_at}
-use Rattle.model_image.specs.Recovered.{first_later}
+use Rattle.model_image.specs.RecoveredState.{first_later}
 use Rattle.image_reading.proofs.Areas.{later_behind, none_behind}
 use Rattle.image_reading.proofs.area.read_area.Goals as goal
 

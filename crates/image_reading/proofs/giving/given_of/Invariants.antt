@@ -1,4 +1,4 @@
-use Rattle.image_reading.specs.Giving.{AreNamedBytes}
+use Rattle.image_reading.specs.NamedBytes.{AreNamedBytes}
 use Rattle.image_reading.proofs.giving.given_of.Given as goal
 
 abbrev pub invariant-loop-place : goal.invariant-loop-place

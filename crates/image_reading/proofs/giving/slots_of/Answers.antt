@@ -2,10 +2,10 @@ use Rattle.std.proofs.Common.{◌≡◌, ◌∷◌, ◌++◌, [], length, take, 
 use Rattle.std.specs.List.{AllByRecursion, slice_get}
 use Rattle.std.proofs.lemmas.Option.{slice_get_read}
 use Rattle.seg_store.proofs.Putting.{at_ok}
-use Rattle.image_reading.specs.Giving.{of_database}
+use Rattle.image_reading.specs.NamedBytes.{of_database}
 use Rattle.image_reading.proofs.Given.{before_all, of_both}
-use Rattle.image_reading.proofs.Taken.{take_next}
 use Rattle.image_reading.proofs.giving.slots_of.Goals as goal
+use Rattle.image_loading.proofs.Adding.{take_next}
 
 pub add-requires : goal.add-requires
 add-requires c here =

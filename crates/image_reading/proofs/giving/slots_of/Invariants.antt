@@ -1,5 +1,5 @@
 use Rattle.std.proofs.Common.{◌≡◌, take}
-use Rattle.image_reading.specs.Giving.{of_database}
+use Rattle.image_reading.specs.NamedBytes.{of_database}
 use Rattle.image_reading.proofs.giving.slots_of.Given as goal
 
 abbrev pub invariant-loop-slot : goal.invariant-loop-slot

@@ -1,10 +1,10 @@
 use Rattle.std.proofs.Common.{◌≡◌, ◌+◌, List, sym, ◌∙◌, ap, subst, IsTrue, true, false}
 use Rattle.tm_disk.specs.Disk.{Image, sector_at}
 use Rattle.tm_disk.proofs.Words.{keeps_on}
-use Rattle.log_sectors.proofs.Links.{at_ok}
-use Rattle.model_image.specs.Recovered.{is_later, first_later}
+use Rattle.model_image.specs.RecoveredState.{is_later, first_later}
 use Rattle.image_reading.proofs.Sectors.{later_next, later_here}
 use Rattle.image_reading.proofs.later.first_later.Goals as goal
+use Rattle.tm_disk.proofs.States.{at_ok}
 
 pub returns-then-is_later-clause-value : goal.returns-then-is_later-clause-value
 returns-then-is_later-clause-value g c tells =

@@ -1,6 +1,6 @@
 use Rattle.std.proofs.Common.{◌≡◌, ◌+◌, ◌-◌, IsTrue}
 use Rattle.tm_disk.specs.Disk.{Keeps}
-use Rattle.model_image.specs.Recovered.{first_later}
+use Rattle.model_image.specs.RecoveredState.{first_later}
 use Rattle.image_reading.proofs.later.first_later.Given as goal
 
 abbrev pub invariant-loop-place : goal.invariant-loop-place

@@ -1,6 +1,6 @@
 use Rattle.std.proofs.Common.{◌≡◌, drop}
 use Rattle.std.specs.Prelude.{nat_le}
-use Rattle.image_reading.specs.Parts.{mosts}
+use Rattle.image_reading.specs.RecordParts.{mosts}
 use Rattle.image_reading.proofs.rest.are_many.Given as goal
 
 abbrev pub invariant-loop-part : goal.invariant-loop-part

@@ -1,11 +1,11 @@
 use Rattle.std.proofs.Common.{◌≡◌, ◌+◌, drop, sym, ◌∙◌, ap, subst, arith, IsTrue}
 use Rattle.tm_disk.specs.Disk.{Image, sector_at}
 use Rattle.tm_disk.proofs.Words.{keeps_on}
-use Rattle.log_sectors.proofs.Links.{at_ok}
 use Rattle.model_image.specs.Text.{text_in, first_difference}
 use Rattle.image_reading.proofs.Differing.{moved}
 use Rattle.image_reading.proofs.Pieces.{left_at, reaches, goes_on, stops, text_ends, text_goes_on}
 use Rattle.image_reading.proofs.text.text_difference.Goals as goal
+use Rattle.tm_disk.proofs.States.{at_ok}
 
 pub returns-then-is_some-clause-value : goal.returns-then-is_some-clause-value
 returns-then-is_some-clause-value g c tells =

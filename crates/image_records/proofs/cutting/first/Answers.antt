@@ -1,5 +1,5 @@
 use Rattle.std.proofs.Common.{◌≡◌, ℕ, ◌-◌, length, Err, arith}
-use Rattle.log_records.specs.Reading.{record_at}
+use Rattle.log_records.specs.RecordReader.{record_at}
 use Rattle.image_records.proofs.Cuts.{begins, begins_none}
 use Rattle.image_records.proofs.cutting.first.Goals as goal
 

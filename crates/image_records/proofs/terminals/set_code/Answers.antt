@@ -2,7 +2,7 @@ use Rattle.std.proofs.Common.{◌≡◌, sym, ap, ◌∙◌, Some, None}
 use Rattle.std.specs.Prelude.{Option, ℕ, position}
 use Rattle.std.specs.Str.{bytes_eq}
 use Rattle.model_system.specs.Lists.{change_at}
-use Rattle.image_records.specs.Telling.{with_setting}
+use Rattle.image_records.specs.ChangeRecords.{with_setting}
 use Rattle.image_records.proofs.Named.{placed_code, put_at, setting_within}
 use Rattle.image_records.proofs.terminals.set_code.Goals as goal
 

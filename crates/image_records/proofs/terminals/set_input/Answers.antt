@@ -2,7 +2,7 @@ use Rattle.std.proofs.Common.{◌≡◌, sym, ap, ◌∙◌, Some, None}
 use Rattle.std.specs.Prelude.{Option, ℕ, position}
 use Rattle.std.specs.Str.{bytes_eq}
 use Rattle.model_system.specs.Lists.{change_at}
-use Rattle.image_records.specs.Telling.{of_state, with_input}
+use Rattle.image_records.specs.ChangeRecords.{of_state, with_input}
 use Rattle.image_records.proofs.Named.{placed, put_at, state_within}
 use Rattle.image_records.proofs.terminals.set_input.Goals as goal
 

@@ -1,6 +1,6 @@
 use Rattle.std.proofs.Common.{◌≡◌, ◌∷◌, map, take}
 use Rattle.model_system.specs.declared.pcb.Pcb.TheVariants.{Destination}
-use Rattle.model_messages.specs.Work.{fresh_pcb}
+use Rattle.model_messages.specs.MessageWork.{fresh_pcb}
 use Rattle.io_pcb.proofs.pcbs.fresh_pcbs.Given as goal
 
 abbrev pub invariant-loop-kind : goal.invariant-loop-kind

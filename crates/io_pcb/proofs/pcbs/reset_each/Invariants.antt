@@ -1,5 +1,5 @@
 use Rattle.std.proofs.Common.{◌≡◌, ◌++◌, length, map, take, drop}
-use Rattle.model_messages.specs.Calls.{reset_pcb}
+use Rattle.model_messages.specs.MessageCalls.{reset_pcb}
 use Rattle.io_pcb.proofs.pcbs.reset_each.Given as goal
 
 abbrev pub invariant-loop-opened : goal.invariant-loop-opened

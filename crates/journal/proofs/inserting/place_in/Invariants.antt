@@ -1,7 +1,7 @@
 use Rattle.std.proofs.Common.{◌≡◌, ◌+◌}
 use Rattle.std.specs.Prelude.{drop, map}
-use Rattle.journal.specs.Units.{numbered, place_in}
+use Rattle.journal.specs.NumberedUnits.{numbered_unit, place_among_units}
 use Rattle.journal.proofs.inserting.place_in.Given as goal
 
 abbrev pub invariant-loop-place : goal.invariant-loop-place
-invariant-loop-place l = l.place + place_in l.number (map numbered (drop l.place l.units)) ≡ place_in l.number (map numbered l.units)
+invariant-loop-place l = l.place + place_among_units l.number (map numbered_unit (drop l.place l.units)) ≡ place_among_units l.number (map numbered_unit l.units)

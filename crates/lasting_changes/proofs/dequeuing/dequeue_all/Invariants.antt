@@ -1,6 +1,6 @@
 use Rattle.std.proofs.Common.{◌≡◌, ◌+◌}
 use Rattle.model_messages.specs.Outputs.{with_terminal}
-use Rattle.model_machine.specs.Lasting.{without_replies}
+use Rattle.model_machine.specs.LastingSteps.{without_replies}
 use Rattle.lasting_changes.proofs.Dequeued.{kept_at}
 use Rattle.lasting_changes.proofs.dequeuing.dequeue_all.Given as goal
 

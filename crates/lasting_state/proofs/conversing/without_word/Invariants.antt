@@ -1,5 +1,5 @@
 use Rattle.std.proofs.Common.{◌≡◌, drop}
-use Rattle.model_machine.specs.Lasting.{without_word}
+use Rattle.model_machine.specs.LastingSteps.{without_word}
 use Rattle.lasting_state.proofs.Cut.{joined}
 use Rattle.lasting_state.proofs.conversing.without_word.Given as goal
 

@@ -1,6 +1,6 @@
 use Rattle.std.proofs.Common.{◌≡◌, take}
 use Rattle.std.specs.Prelude.{count_by}
-use Rattle.lasting_state.specs.Counted.{goes_to}
+use Rattle.lasting_state.specs.OutputRecords.{goes_to}
 use Rattle.lasting_state.proofs.outputs.count_to.Given as goal
 
 abbrev pub invariant-loop-earlier : goal.invariant-loop-earlier

@@ -2,7 +2,7 @@ use Rattle.std.proofs.Common.{◌≤◌, refl, sym, subst, ◌∙◌, length}
 use Rattle.std.specs.Prelude.{IsSome, IsSomeAnd}
 use Rattle.model_messages.specs.Queue.{queued_at}
 use Rattle.model_messages.specs.Outputs.{replies_at}
-use Rattle.lasting_state.specs.Sending.{switched_message, IsSent}
+use Rattle.lasting_state.specs.SentOutputs.{switched_message, IsSent}
 use Rattle.lasting_state.proofs.Sent.{sent_to_code, sent_to_terminal, added_found, reply_kept, code_taken_back, reply_taken_back}
 use Rattle.lasting_state.proofs.sending.+send_all.Goals as goal
 

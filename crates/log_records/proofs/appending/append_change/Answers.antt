@@ -1,7 +1,7 @@
 use Rattle.log_records.specs.declared.record.Record.{Record}
 use Rattle.log_records.specs.declared.record.Record.TheVariants.{Change}
 use Rattle.std.proofs.Common.{arith}
-use Rattle.model_data.specs.Record.{spelling as rows_spelling}
+use Rattle.model_data.specs.Record.{rows_spelling as rows_spelling}
 use Rattle.std.proofs.lemmas.Result.{on_ok_weaker}
 use Rattle.log_records.proofs.Lengths.{is_record}
 use Rattle.log_records.proofs.WithLength.{short_from, on_same}

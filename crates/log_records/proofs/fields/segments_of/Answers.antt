@@ -1,16 +1,16 @@
 use Rattle.std.proofs.lemmas.Result.{err_from_is_err_and}
-use Rattle.log_records.specs.Reading.{segments_at}
+use Rattle.log_records.specs.RecordReader.{read_segments}
 use Rattle.log_records.proofs.Loop.{goes_on, ends, is_done}
 use Rattle.log_records.proofs.fields.segments_of.Goals as goal
 
 pub returns-in_err-segment : goal.returns-in_err-segment
 returns-in_err-segment c =
     let p = err_from_is_err_and c.from_residual.result c.from_residual.ensures.1 in
-    rw (p.1, p.2) (ends c.in_err-segment.field-0.0 c.loop.segments c.args.count c.loop.counter c.loop.rest.now (segments_at c.args.count c.args.bytes.now) c.loop-test.true c.in_err-segment.ensures c.loop.invariant)
+    rw (p.1, p.2) (ends c.in_err-segment.field-0.0 c.loop.segments c.args.count c.loop.counter c.loop.rest.now (read_segments c.args.count c.args.bytes.now) c.loop-test.true c.in_err-segment.ensures c.loop.invariant)
 
 pub loop-preserved : goal.loop-preserved
 loop-preserved c =
-    rw c.in_ok-push.ensures.ok (goes_on c.loop.segments c.args.count c.loop.counter c.loop.rest.now c.in_ok-segment.segment c.in_ok-segment.after.now (segments_at c.args.count c.args.bytes.now) c.loop-test.true c.in_ok-segment.ensures c.loop.invariant)
+    rw c.in_ok-push.ensures.ok (goes_on c.loop.segments c.args.count c.loop.counter c.loop.rest.now c.in_ok-segment.segment c.in_ok-segment.after.now (read_segments c.args.count c.args.bytes.now) c.loop-test.true c.in_ok-segment.ensures c.loop.invariant)
 
 pub returns : goal.returns
-returns c = is_done c.loop.segments c.args.count c.loop.counter c.loop.rest.now (segments_at c.args.count c.args.bytes.now) c.loop-test.false c.loop.invariant
+returns c = is_done c.loop.segments c.args.count c.loop.counter c.loop.rest.now (read_segments c.args.count c.args.bytes.now) c.loop-test.false c.loop.invariant

@@ -2,8 +2,8 @@ use Rattle.std.proofs.Common.{◌+◌, sym, subst, ap, ◌∙◌}
 use Rattle.std.specs.Option.{option_map}
 use Rattle.model_messages.specs.Outputs.{replies_at}
 use Rattle.model_image.specs.States.{is_small}
-use Rattle.image_records.specs.Kept.{KeptState}
-use Rattle.log_replay.specs.Judged.{IsOrderly}
+use Rattle.image_records.specs.KeptState.{KeptState}
+use Rattle.log_replay.specs.ReplayRules.{IsOrderly}
 use Rattle.log_replay.proofs.Orders.{reply_to_none, reply_refused, reply_left}
 use Rattle.log_replay.proofs.doing.reply.Goals as goal
 

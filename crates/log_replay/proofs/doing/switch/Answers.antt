@@ -1,8 +1,8 @@
 use Rattle.std.proofs.Common.{sym, subst, ap, ◌∙◌}
 use Rattle.model_messages.specs.Queue.{IsNewId}
-use Rattle.image_records.specs.Kept.{KeptState}
-use Rattle.log_replay.specs.Judged.{IsOrderly}
-use Rattle.log_replay.specs.Tallied.{Follows}
+use Rattle.image_records.specs.KeptState.{KeptState}
+use Rattle.log_replay.specs.ReplayRules.{IsOrderly}
+use Rattle.log_replay.specs.ConversationTally.{TallyFollows}
 use Rattle.log_replay.proofs.Orders.{id_above, orderly_added}
 use Rattle.log_replay.proofs.Right.{added_follows}
 use Rattle.log_replay.proofs.doing.switch.Goals as goal
@@ -20,5 +20,5 @@ returns-clause-orderly c =
 
 pub returns-clause-follows : goal.returns-clause-follows
 returns-clause-follows c surely =
-    subst (λ (k : KeptState). Follows c.args.system.now k c.count_added.new.tally) (sym c.in_ok-add_message.ensures)
+    subst (λ (k : KeptState). TallyFollows c.args.system.now k c.count_added.new.tally) (sym c.in_ok-add_message.ensures)
     (added_follows c.args.system.now c.args.kept.now c.args.tally.now c.count_added.new.tally c.requires.follows c.args.message c.in_ok-count_added.ensures)

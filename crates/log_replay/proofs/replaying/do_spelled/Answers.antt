@@ -1,12 +1,12 @@
 use Rattle.std.proofs.Common.{◌≡◌, true, Some, sym, subst, ap, ◌∙◌}
 use Rattle.std.specs.List.{list_all}
 use Rattle.model_image.specs.States.{has_right_pad, is_next, is_small}
-use Rattle.model_machine.specs.Lasting.{applied}
-use Rattle.model_machine.specs.Lasting.LastingStep.{Commands}
-use Rattle.log_replay.specs.Judged.{AreFree, KeepsRest, are_right, lasting_in}
+use Rattle.model_machine.specs.LastingSteps.{applied}
+use Rattle.model_machine.specs.LastingSteps.LastingStep.{Commands}
+use Rattle.log_replay.specs.ReplayRules.{AreMessagesFree, KeepsRest, are_right, lasting_in}
 use Rattle.model_messages.specs.Queue.{messages_of}
-use Rattle.log_replay.specs.Steps.{step_commands}
-use Rattle.log_replay.specs.Tallied.{Counts, is_right}
+use Rattle.log_replay.specs.ReplaySteps.{step_commands}
+use Rattle.log_replay.specs.ConversationTally.{Counts, is_right}
 use Rattle.log_replay.proofs.Before.{steps_before, judged}
 use Rattle.log_replay.proofs.Commands.{commands_is, free_commanded, inputs_commanded, numbers_commanded, pads_commanded, rest_commanded}
 use Rattle.log_replay.proofs.Right.{commanded_counts, commanded_right, goes_on}
@@ -51,4 +51,4 @@ pub returns-clause-leaves : goal.returns-clause-leaves
 returns-clause-leaves c =
     judged c.args.system.now (Some (applied (Commands c.args.spelled.now) (lasting_in c.args.system.now c.args.kept.now))) (Some (step_commands c.args.spelled.now c.args.kept.now))
     (ap (λ l. Some l) (commands_is c.args.system.now c.args.spelled.now c.args.kept.now)) c.command.new.kept (ap (λ k. Some k) (sym c.command.ensures))
-    (subst (AreFree c.args.system.now) (sym c.command.ensures) (free_commanded c.args.system.now c.args.kept.now c.requires.sound c.args.spelled.now)) c.is_sound.result c.is_sound.ensures
+    (subst (AreMessagesFree c.args.system.now) (sym c.command.ensures) (free_commanded c.args.system.now c.args.kept.now c.requires.sound c.args.spelled.now)) c.is_sound.result c.is_sound.ensures

@@ -1,14 +1,14 @@
 use Rattle.std.proofs.Common.{true, sym, subst, ap}
 use Rattle.std.specs.Option.{option_map, option_map_or}
 use Rattle.model_image.specs.States.{breaks_a_rule}
-use Rattle.model_machine.specs.Lasting.{applied}
-use Rattle.model_machine.specs.Lasting.LastingStep.{Commands}
-use Rattle.log_replay.specs.Judged.{Leaves, lasting_in}
+use Rattle.model_machine.specs.LastingSteps.{applied}
+use Rattle.model_machine.specs.LastingSteps.LastingStep.{Commands}
+use Rattle.log_replay.specs.ReplayRules.{RecordLeaves, lasting_in}
 use Rattle.log_replay.proofs.replaying.replay_command.Goals as goal
 
 pub returns-in-Some-clause-leaves : goal.returns-in-Some-clause-leaves
 returns-in-Some-clause-leaves c =
-    subst (λ o. Leaves c.args.system.now (option_map (λ k. applied (Commands k) (lasting_in c.args.system.now c.args.kept.now)) o) c.do_spelled.new.kept c.do_spelled.result) c.in-Some.ensures.value c.do_spelled.ensures.leaves
+    subst (λ o. RecordLeaves c.args.system.now (option_map (λ k. applied (Commands k) (lasting_in c.args.system.now c.args.kept.now)) o) c.do_spelled.new.kept c.do_spelled.result) c.in-Some.ensures.value c.do_spelled.ensures.leaves
 
 pub returns-in-None-clause-leaves : goal.returns-in-None-clause-leaves
 returns-in-None-clause-leaves c =

@@ -2,7 +2,7 @@ use Rattle.std.proofs.Common.{◌<◌, length, sym, subst, ap, ◌∙◌}
 use Rattle.std.specs.Option.{is_some}
 use Rattle.std.proofs.lemmas.Bool.{eqb-true}
 use Rattle.model_messages.specs.Queue.{IsNewId}
-use Rattle.image_records.specs.Kept.{KeptState}
+use Rattle.image_records.specs.KeptState.{KeptState}
 use Rattle.log_replay.proofs.Orders.{id_above}
 use Rattle.log_replay.proofs.Stepped.{not_next_input, not_next_id, accepted_is, none_refused}
 use Rattle.log_replay.proofs.steps.accept.Goals as goal

@@ -1,10 +1,10 @@
 use Rattle.std.proofs.Common.{ℕ, List, [], ◌∷◌, Some, sym, subst, ap, ◌∙◌}
 use Rattle.std.specs.Option.{option_copied}
 use Rattle.model_messages.specs.declared.conversation.PadChange.{PadChange}
-use Rattle.model_machine.specs.Lasting.{abend_text}
-use Rattle.log_replay.specs.Steps.{with_gone, with_pad_at, with_told}
-use Rattle.image_records.specs.Kept.{KeptState}
-use Rattle.log_replay.specs.Judged.{IsOrderly, AreSmall}
+use Rattle.model_machine.specs.LastingSteps.{dfs555i_text}
+use Rattle.log_replay.specs.ReplaySteps.{with_gone, with_pad_at, with_told}
+use Rattle.image_records.specs.KeptState.{KeptState}
+use Rattle.log_replay.specs.ReplayRules.{IsOrderly, AreSmall}
 use Rattle.log_replay.proofs.Stepped.{not_found, other_number, none_refused, discarded_is, discarded_over, discarded_small, orderly_away, counted_is, small_now}
 use Rattle.log_replay.proofs.steps.discard.Goals as goal
 
@@ -44,7 +44,7 @@ returns-clause-done c =
     ∙ ap (λ (k : KeptState). Some k)
     (sym (counted_is c.args.id c.args.abend m c.args.kept.now c.tell.new.kept c.count_to.new.kept
     (c.in_ok-tell.ensures ∙ ap (λ (s : List (List ℕ)). with_told m.origin s c.put_away.new.kept) c.in_ok-segments.ensures
-    ∙ ap (with_told m.origin (abend_text m.code c.args.abend ∷ [])) (c.put_away.ensures ∙ ap (λ (p : PadChange). with_gone c.args.id (with_pad_at (Some m.origin) p c.args.kept.now)) c.discarded_pad-pad.ensures))
+    ∙ ap (with_told m.origin (dfs555i_text m.code c.args.abend ∷ [])) (c.put_away.ensures ∙ ap (λ (p : PadChange). with_gone c.args.id (with_pad_at (Some m.origin) p c.args.kept.now)) c.discarded_pad-pad.ensures))
     (c.count_to.ensures ∙ ap (λ n. record c.tell.new.kept { steps = n }) c.steps_after-steps.ensures)))
 
 pub returns-clause-small : goal.returns-clause-small
@@ -53,7 +53,7 @@ returns-clause-small c =
     subst AreSmall
     (sym (counted_is c.args.id c.args.abend m c.args.kept.now c.tell.new.kept c.count_to.new.kept
     (c.in_ok-tell.ensures ∙ ap (λ (s : List (List ℕ)). with_told m.origin s c.put_away.new.kept) c.in_ok-segments.ensures
-    ∙ ap (with_told m.origin (abend_text m.code c.args.abend ∷ [])) (c.put_away.ensures ∙ ap (λ (p : PadChange). with_gone c.args.id (with_pad_at (Some m.origin) p c.args.kept.now)) c.discarded_pad-pad.ensures))
+    ∙ ap (with_told m.origin (dfs555i_text m.code c.args.abend ∷ [])) (c.put_away.ensures ∙ ap (λ (p : PadChange). with_gone c.args.id (with_pad_at (Some m.origin) p c.args.kept.now)) c.discarded_pad-pad.ensures))
     (c.count_to.ensures ∙ ap (λ n. record c.tell.new.kept { steps = n }) c.steps_after-steps.ensures)))
     (discarded_small c.args.id c.args.abend c.args.number c.args.kept.now m (sym c.found.ensures ∙ ap option_copied c.in-Some.is) c.requires.orderly
     (sym c.next_of-next.ensures ∙ c.if-next-number.false) (sym c.is_small_after.ensures ∙ c.if-not-is_small_after.false))

@@ -2,7 +2,7 @@ use Rattle.std.proofs.Common.{sym, subst, ap, ◌∙◌}
 use Rattle.std.specs.Option.{is_some}
 use Rattle.model_messages.specs.Queue.{IsNewId}
 use Rattle.model_messages.specs.Outputs.{replies_at}
-use Rattle.image_records.specs.Kept.{KeptState}
+use Rattle.image_records.specs.KeptState.{KeptState}
 use Rattle.log_replay.proofs.Orders.{number_small, id_above}
 use Rattle.log_replay.proofs.steps.tell.Goals as goal
 

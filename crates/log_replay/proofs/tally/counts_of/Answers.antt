@@ -1,7 +1,7 @@
 use Rattle.std.proofs.Common.{◌≡◌, ◌∷◌, List, ap, arith}
 use Rattle.model_messages.specs.declared.queued.Queued.{Queued}
 use Rattle.model_messages.specs.Queue.{messages_of}
-use Rattle.log_replay.specs.Tallied.{talks_of}
+use Rattle.log_replay.specs.ConversationTally.{talks_of}
 use Rattle.log_replay.proofs.tally.counts_of.Goals as goal
 
 pub loop-queued-preserved : goal.loop-queued-preserved

@@ -1,6 +1,6 @@
 use Rattle.std.proofs.Common.{[], ◌∷◌, ◌++◌, Some, sym, ap, ◌∙◌}
 use Rattle.std.specs.Option.{unwrap_or}
-use Rattle.log_replay.proofs.RecordReplayUnits.{changed}
+use Rattle.log_replay.proofs.UnitRecords.{changed}
 use Rattle.log_replay.proofs.waiting.add_unit.Goals as goal
 
 pub returns-in-Ok : goal.returns-in-Ok

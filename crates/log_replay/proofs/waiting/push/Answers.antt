@@ -1,7 +1,7 @@
 use Rattle.std.proofs.Common.{[], ◌∷◌, ◌++◌, Some, sym, ap, ◌∙◌}
 use Rattle.std.specs.Option.{is_some, unwrap_or}
 use Rattle.std.proofs.lemmas.Result.{IfOk-weaker}
-use Rattle.log_replay.proofs.RecordReplayUnits.{changed}
+use Rattle.log_replay.proofs.UnitRecords.{changed}
 use Rattle.log_replay.proofs.waiting.push.Goals as goal
 
 pub returns-in-Some : goal.returns-in-Some

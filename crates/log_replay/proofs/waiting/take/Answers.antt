@@ -1,5 +1,5 @@
 use Rattle.std.proofs.Common.{[], None, refl}
-use Rattle.log_replay.proofs.RecordReplayUnits.{changed}
+use Rattle.log_replay.proofs.UnitRecords.{changed}
 use Rattle.log_replay.proofs.waiting.take.Goals as goal
 
 pub returns-in-Some-clause-rest : goal.returns-in-Some-clause-rest

@@ -1,6 +1,6 @@
 use Rattle.std.proofs.Common.{◌≡◌, List, ℕ, length, take, drop, ◌++◌, ap, ◌∙◌, ◌+◌}
 use Rattle.tm_disk.specs.Sector.{blank}
-use Rattle.log_sectors.specs.Sealed.{header}
+use Rattle.log_sectors.specs.SealedSector.{header}
 use Rattle.log_sectors.proofs.Sealing.{seals}
 use Rattle.log_sectors.proofs.log_sector.seal.Goals as goal
 

@@ -1,6 +1,6 @@
 use Rattle.std.proofs.Common.{◌≡◌, List, ℕ, take, drop, ap, ◌∙◌, arith, refl}
 use Rattle.std.proofs.lemmas.Bool.{false≢true}
-use Rattle.log_sectors.specs.Sealed.{used_of}
+use Rattle.log_sectors.specs.SealedSector.{used_of}
 use Rattle.log_sectors.proofs.Sealing.{Cuts, cuts-opened, cuts-front, cuts-end, not_used, told_same, told_apart}
 use Rattle.log_sectors.proofs.log_sector.unseal.Goals as goal
 use Rattle.log_sectors.proofs.log_sector.unseal.Goals.{then-used-eq0-via-then-used-eq0, then-used-eq0-via-else-used-eq0+then-used-gt-PAYLOAD_BYTES, else-eq-via-then-eq+else-all_zero, else-eq-via-else-eq}

@@ -1,21 +1,21 @@
 use Rattle.std.proofs.Common.{◌≡◌, ℕ, ◌+◌, List, length, refl, sym, ◌∙◌, ap, subst, arith, IsTrue}
 use Rattle.tm_disk.specs.Disk.{HasWritten}
 use Rattle.tm_disk.proofs.Words.{stays_on}
-use Rattle.log_sectors.specs.Sealed.{sealed}
-use Rattle.log_sectors.proofs.Links.{at_ok}
-use Rattle.log_writer.specs.Log.{sectors_of, pieces, piece}
+use Rattle.log_sectors.specs.SealedSector.{sealed}
+use Rattle.log_writer.specs.ForcedLog.{log_sectors_of, log_pieces, log_piece}
 use Rattle.log_writer.proofs.Laying.{has_laid_step}
 use Rattle.log_writer.proofs.Calls.{lays_follows, lays_within}
 use Rattle.log_writer.proofs.lay.lay.Goals as goal
+use Rattle.tm_disk.proofs.States.{at_ok}
 
 pub returns-then-is_err-clause-any_moment : goal.returns-then-is_err-clause-any_moment
 returns-then-is_err-clause-any_moment g c =
     let old = g.D.Disk.state c.args.disk.now in
     let mid = g.D.Disk.state c.loop-place.disk in
     let new = g.D.Disk.state c.write.new.self in
-    let count = sectors_of (length c.args.bytes.now) in
-    let payloads = pieces count c.args.bytes.now in
-    let is : c.seal-sector.result ≡ sealed c.args.epoch (c.args.sequence + c.loop-place.place) (piece payloads c.loop-place.place) =
+    let count = log_sectors_of (length c.args.bytes.now) in
+    let payloads = log_pieces count c.args.bytes.now in
+    let is : c.seal-sector.result ≡ sealed c.args.epoch (c.args.sequence + c.loop-place.place) (log_piece payloads c.loop-place.place) =
     c.seal-sector.ensures ∙ ap (λ (p : List ℕ). sealed c.args.epoch (c.args.sequence + c.loop-place.place) p) c.piece.ensures.value in
     lays_within c.args.at c.args.sequence c.args.epoch payloads c.loop-place.place count c.seal-sector.result old mid new is (omega arith) c.loop-place.invariant.within c.loop-place.invariant.follows c.write.ensures.tried.elapses c.write.ensures.tried.follows
 
@@ -24,9 +24,9 @@ returns-then-is_err-clause-follows g c =
     let old = g.D.Disk.state c.args.disk.now in
     let mid = g.D.Disk.state c.loop-place.disk in
     let new = g.D.Disk.state c.write.new.self in
-    let count = sectors_of (length c.args.bytes.now) in
-    let payloads = pieces count c.args.bytes.now in
-    let is : c.seal-sector.result ≡ sealed c.args.epoch (c.args.sequence + c.loop-place.place) (piece payloads c.loop-place.place) =
+    let count = log_sectors_of (length c.args.bytes.now) in
+    let payloads = log_pieces count c.args.bytes.now in
+    let is : c.seal-sector.result ≡ sealed c.args.epoch (c.args.sequence + c.loop-place.place) (log_piece payloads c.loop-place.place) =
     c.seal-sector.ensures ∙ ap (λ (p : List ℕ). sealed c.args.epoch (c.args.sequence + c.loop-place.place) p) c.piece.ensures.value in
     lays_follows c.args.at c.args.sequence c.args.epoch payloads c.loop-place.place count c.seal-sector.result old mid new is (omega arith) c.loop-place.invariant.follows c.write.ensures.tried.follows
 
@@ -36,9 +36,9 @@ loop-place-preserved g c =
     let mid = g.D.Disk.state c.loop-place.disk in
     let new = g.D.Disk.state c.write.new.self in
     let n = c.loop-place.place in
-    let count = sectors_of (length c.args.bytes.now) in
-    let payloads = pieces count c.args.bytes.now in
-    let is : c.seal-sector.result ≡ sealed c.args.epoch (c.args.sequence + n) (piece payloads n) =
+    let count = log_sectors_of (length c.args.bytes.now) in
+    let payloads = log_pieces count c.args.bytes.now in
+    let is : c.seal-sector.result ≡ sealed c.args.epoch (c.args.sequence + n) (log_piece payloads n) =
     c.seal-sector.ensures ∙ ap (λ (p : List ℕ). sealed c.args.epoch (c.args.sequence + n) p) c.piece.ensures.value in
     let stays = c.loop-place.invariant.stays in
     let disk = g.met.D.Disk.is_disk c.loop-place.disk in

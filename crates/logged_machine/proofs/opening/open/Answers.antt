@@ -1,6 +1,6 @@
 use Rattle.std.proofs.Common.{subst}
 use Rattle.model_system.specs.System.{System}
-use Rattle.logged_machine.specs.Opened.{BeginsOn}
+use Rattle.logged_machine.specs.MachineOpening.{BeginsOn}
 use Rattle.logged_machine.proofs.Begun.{opened_with, opens_on, logged_on}
 use Rattle.logged_machine.proofs.opening.open.Goals as goal
 

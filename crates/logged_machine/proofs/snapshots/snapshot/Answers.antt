@@ -1,8 +1,8 @@
 use Rattle.std.proofs.Common.{List, sym, subst}
 use Rattle.checkpointing.specs.declared.touches.OpenUnit.{OpenUnit}
 use Rattle.checkpointing.specs.Touches.{AreAllSpelled}
-use Rattle.tm_machine.specs.OnSlots.{slots_now}
-use Rattle.logged_machine.proofs.PartsLifeWriting.{writable}
+use Rattle.tm_machine.specs.SlotChanges.{slots_now}
+use Rattle.logged_machine.proofs.WritableParts.{writable}
 use Rattle.logged_machine.proofs.Spelled.{may_spell}
 use Rattle.logged_machine.proofs.snapshots.snapshot.Goals as goal
 

@@ -1,6 +1,6 @@
 use Rattle.std.proofs.Common.{◌≡◌}
 use Rattle.std.specs.Prelude.{drop}
-use Rattle.journal.specs.Turning.{without_units}
+use Rattle.journal.specs.UnitNumbers.{without_units}
 use Rattle.logged_machine.proofs.units.leave_all.Given as goal
 
 abbrev pub invariant-loop-victim : goal.invariant-loop-victim

@@ -1,13 +1,13 @@
 use Rattle.std.proofs.Common.{sym, subst, length, ◌+◌}
 use Rattle.tm_disk.specs.Disk.{WritesAtMost}
-use Rattle.log_writer.specs.Log.{sectors_of}
+use Rattle.log_writer.specs.ForcedLog.{log_sectors_of}
 use Rattle.restart_data.specs.Snapshot as snapshot
-use Rattle.seg_store.specs.WriteBack.{changed_count}
+use Rattle.seg_store.specs.WrittenSlots.{changed_count}
 use Rattle.model_system.specs.System.{System}
-use Rattle.seg_store.specs.Changed.{AllStores}
-use Rattle.program_rows.specs.OnSlots.{all_stores}
-use Rattle.tm_machine.specs.OnSlots.{slots_now}
-use Rattle.journal.specs.Checkpoints.{CanCheckpoint}
+use Rattle.seg_store.specs.ChangedSlots.{AllStores}
+use Rattle.program_rows.specs.SlotsState.{slots_stores}
+use Rattle.tm_machine.specs.SlotChanges.{slots_now}
+use Rattle.journal.specs.CheckpointFor.{CanCheckpoint}
 use Rattle.logged_machine.proofs.Taken.{goes_on, most}
 use Rattle.logged_machine.proofs.writing.take.Goals as goal
 
@@ -15,7 +15,7 @@ pub checkpoint-requires : goal.checkpoint-requires
 checkpoint-requires g c = record {
   can =
       subst (λ (a : AllStores). CanCheckpoint c.system.result.now c.args.journal.now a c.args.bytes.now (g.D.Disk.state c.args.disk.now)) (sym c.stores.ensures.value)
-      (subst (λ (y : System). CanCheckpoint y c.args.journal.now (all_stores (slots_now c.args.parts.now)) c.args.bytes.now (g.D.Disk.state c.args.disk.now)) (sym c.system.ensures) c.requires.can);
+      (subst (λ (y : System). CanCheckpoint y c.args.journal.now (slots_stores (slots_now c.args.parts.now)) c.args.bytes.now (g.D.Disk.state c.args.disk.now)) (sym c.system.ensures) c.requires.can);
 }
 
 pub returns-clause-logged : goal.returns-clause-logged
@@ -26,6 +26,6 @@ returns-clause-logged g c = λ text units next h counted s.
 
 pub returns-clause-writes : goal.returns-clause-writes
 returns-clause-writes g c =
-    most c.args.parts.now.system c.args.journal.now (all_stores (slots_now c.args.parts.now)) c.args.bytes.now (g.D.Disk.state c.args.disk.now) (g.D.Disk.state c.checkpoint.new.disk) c.requires.can
-    (subst (λ (a : AllStores). WritesAtMost (sectors_of (length c.args.journal.now.log.appended) + changed_count a.changed + snapshot.sectors_of (length c.args.bytes.now) + 1) (g.D.Disk.state c.args.disk.now) (g.D.Disk.state c.checkpoint.new.disk))
+    most c.args.parts.now.system c.args.journal.now (slots_stores (slots_now c.args.parts.now)) c.args.bytes.now (g.D.Disk.state c.args.disk.now) (g.D.Disk.state c.checkpoint.new.disk) c.requires.can
+    (subst (λ (a : AllStores). WritesAtMost (log_sectors_of (length c.args.journal.now.log.appended) + changed_count a.changed + snapshot.snapshot_sectors_of (length c.args.bytes.now) + 1) (g.D.Disk.state c.args.disk.now) (g.D.Disk.state c.checkpoint.new.disk))
     c.stores.ensures.value c.checkpoint.ensures.writes)

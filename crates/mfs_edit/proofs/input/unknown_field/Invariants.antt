@@ -1,5 +1,5 @@
 use Rattle.std.proofs.Common.{◌≡◌, drop}
-use Rattle.model_system.specs.Entering as spec
+use Rattle.model_system.specs.ScreenInput as spec
 use Rattle.mfs_edit.proofs.input.unknown_field.Given as goal
 
 abbrev pub invariant-loop-value : goal.invariant-loop-value

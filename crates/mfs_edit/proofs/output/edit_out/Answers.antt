@@ -4,14 +4,14 @@ use Rattle.std.proofs.lemmas.Option.{slice_get_read}
 use Rattle.model_system.specs.declared.device_field.DeviceField.{DeviceField}
 use Rattle.model_system.specs.declared.message_field.MessageFieldLine.{MessageFieldLine}
 use Rattle.model_system.specs.declared.segment_line.SegmentLine.{SegmentLine}
-use Rattle.model_system.specs.Breaks.{clashing_field}
-use Rattle.model_system.specs.Showing.{page_of, pieces_of, all_pieces, shown}
+use Rattle.model_system.specs.FormatRule.{clashing_field}
+use Rattle.model_system.specs.ScreenPage.{page_of, pieces_of, all_pieces, shown_page}
 use Rattle.mfs_edit.proofs.Pieces.{segment_more, segment_past}
 use Rattle.mfs_edit.proofs.Rules.{no_clash}
 use Rattle.mfs_edit.proofs.output.edit_out.Goals as goal
 
 pub returns-in_default : goal.returns-in_default
-unfolding shown
+unfolding shown_page
 returns-in_default c =
     c.of.ensures ∙ c.loop-index.invariant.shown
     ∙ ap (page_of c.args.format.now.fields) (segment_past c.loop-index.index c.args.format.now.output c.args.segments.now (sym c.in_default.ensures))

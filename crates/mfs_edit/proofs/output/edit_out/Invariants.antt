@@ -1,6 +1,6 @@
 use Rattle.std.proofs.Common.{◌≡◌, take}
 use Rattle.model_system.specs.Pages.{IsPage}
-use Rattle.model_system.specs.Showing as spec
+use Rattle.model_system.specs.ScreenPage as spec
 use Rattle.mfs_edit.proofs.output.edit_out.Given as goal
 
 abbrev pub invariant-loop-index : goal.invariant-loop-index

@@ -2,10 +2,10 @@ use Rattle.std.proofs.Common.{◌≡◌, sym, ◌∙◌, subst}
 use Rattle.std.specs.Str.{bytes_eq}
 use Rattle.std.proofs.lemmas.Slice.Eq.{bytes_eq-Decides}
 use Rattle.model_system.specs.declared.device_field.DeviceField.{DeviceField}
-use Rattle.model_system.specs.Fitting.{fitted}
+use Rattle.model_system.specs.FittedValues.{fitted_value}
 use Rattle.model_system.specs.Pages.{IsPage}
-use Rattle.model_system.specs.Showing.{Piece}
-use Rattle.model_system.specs.Valid.{is_on_page}
+use Rattle.model_system.specs.ScreenPage.{Piece}
+use Rattle.model_system.specs.ValidFormat.{is_on_page}
 use Rattle.mfs_edit.proofs.Clashes.{found_back, fields_apart, all_in}
 use Rattle.mfs_edit.proofs.Printable.{fitted_length}
 use Rattle.mfs_edit.proofs.Setting.{on_page, page_set, page_same, still_page}
@@ -23,7 +23,7 @@ returns-in-Some-clause-page c =
     let found = found_back (λ (field : DeviceField). bytes_eq field.name source.name) c.args.fields.now field (sym c.in-Some.ensures) in
     let on = on_page field (all_in is_on_page c.args.fields.now field c.requires.on_page found.0) in
     subst IsPage (sym c.set_piece.ensures)
-    (still_page c.args.rows.now.items field (fitted source.justify source.fill field.width c.args.text.now) c.requires.page on (fitted_length source.justify source.fill field.width c.args.text.now))
+    (still_page c.args.rows.now.items field (fitted_value source.justify source.fill field.width c.args.text.now) c.requires.page on (fitted_length source.justify source.fill field.width c.args.text.now))
 
 pub returns-in-Some-clause-shown : goal.returns-in-Some-clause-shown
 returns-in-Some-clause-shown c = λ done before.

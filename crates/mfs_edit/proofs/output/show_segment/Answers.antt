@@ -1,8 +1,8 @@
 use Rattle.std.proofs.Common.{◌≡◌, ◌+◌, ◌++◌, ◌∷◌, [], take, ap, sym, ◌∙◌, append_assoc}
 use Rattle.std.proofs.lemmas.List.{take_more}
 use Rattle.model_system.specs.declared.message_field.MessageFieldLine.{MessageFieldLine}
-use Rattle.model_system.specs.Showing.{page_of, pieces_of}
-use Rattle.mfs_edit.specs.Pieces.{left_by, piece_of}
+use Rattle.model_system.specs.ScreenPage.{page_of, pieces_of}
+use Rattle.mfs_edit.specs.Pieces.{left_by_field, piece_of}
 use Rattle.mfs_edit.proofs.Pieces.{rest_more, pieces_more}
 use Rattle.mfs_edit.proofs.output.show_segment.Goals as goal
 
@@ -17,7 +17,7 @@ loop-line-preserved c =
     take_more lines i line c.loop-line-test.true ∙ ap (λ (l : MessageFieldLine). take i lines ++ l ∷ []) (sym c.line-item.is) in
     record {
       page = c.show_field-rest.ensures.page;
-      rest = c.show_field-rest.ensures.rest ∙ ap (left_by line.content) c.loop-line.invariant.rest ∙ sym (rest_more lines i line text more);
+      rest = c.show_field-rest.ensures.rest ∙ ap (left_by_field line.content) c.loop-line.invariant.rest ∙ sym (rest_more lines i line text more);
       shown = λ done before.
           c.show_field-rest.ensures.shown (done ++ so_far) (c.loop-line.invariant.shown done before)
           ∙ ap (page_of c.args.fields.now) (append_assoc done so_far (piece_of line.content c.loop-line.rest.now)

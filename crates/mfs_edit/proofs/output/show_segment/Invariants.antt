@@ -1,6 +1,6 @@
 use Rattle.std.proofs.Common.{◌≡◌, ◌++◌, List, take}
 use Rattle.model_system.specs.Pages.{IsPage}
-use Rattle.model_system.specs.Showing as spec
+use Rattle.model_system.specs.ScreenPage as spec
 use Rattle.mfs_edit.specs.Pieces.{rest_of}
 use Rattle.mfs_edit.proofs.output.show_segment.Given as goal
 

@@ -1,5 +1,5 @@
 use Rattle.std.proofs.Common.{◌≡◌, drop}
-use Rattle.model_system.specs.Breaks as spec
+use Rattle.model_system.specs.FormatRule as spec
 use Rattle.mfs_text.proofs.breaks.broken_input.Given as goal
 
 abbrev pub invariant-loop-segment : goal.invariant-loop-segment

@@ -1,5 +1,5 @@
 use Rattle.std.proofs.Common.{◌≡◌, [], take, drop}
-use Rattle.model_system.specs.Breaks as spec
+use Rattle.model_system.specs.FormatRule as spec
 use Rattle.mfs_text.proofs.breaks.clashing_field.Given as goal
 
 abbrev pub invariant-loop-index : goal.invariant-loop-index

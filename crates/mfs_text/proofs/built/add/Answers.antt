@@ -1,4 +1,4 @@
-use Rattle.mfs_text.specs.Built.{lines_in}
+use Rattle.mfs_text.specs.BuiltFormat.{lines_in}
 use Rattle.mfs_text.proofs.GoodFormats.{added_on}
 use Rattle.mfs_text.proofs.built.add.Goals as goal
 

@@ -1,9 +1,9 @@
 use Rattle.std.proofs.Common.{◌<◌, sym, arith, IsTrue}
 use Rattle.tm_disk.specs.Disk.{Follows, Only}
-use Rattle.log_sectors.proofs.Links.{at_ok}
-use Rattle.openings.specs.Filling.{Clears, IsLaid}
+use Rattle.openings.specs.ColdWrites.{Clears, IsLaid}
 use Rattle.openings.proofs.ThreeSteps.{begins_second, prepared, begins_third, written_all, on_ok}
 use Rattle.openings.proofs.beginning.begin.Goals as goal
+use Rattle.tm_disk.proofs.States.{at_ok}
 
 pub returns-clause-any_moment : goal.returns-clause-any_moment
 returns-clause-any_moment g c =

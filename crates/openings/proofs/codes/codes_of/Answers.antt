@@ -1,5 +1,5 @@
 use Rattle.std.proofs.Common.{ap, ◌∙◌}
-use Rattle.image_records.specs.Kept.{KeptState}
+use Rattle.image_records.specs.KeptState.{KeptState}
 use Rattle.openings.proofs.Opened.{opened_by}
 use Rattle.openings.proofs.codes.codes_of.Goals as goal
 

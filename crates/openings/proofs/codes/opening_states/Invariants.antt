@@ -2,7 +2,7 @@ use Rattle.std.proofs.Common.{◌≡◌, ◌++◌}
 use Rattle.std.specs.Slice.Iter.{iter_rest}
 use Rattle.std.specs.Iterator.Adapters.{zip_first, zip_second}
 use Rattle.model_messages.specs.Queue.{free_count}
-use Rattle.openings.specs.Shown.{opening_states}
+use Rattle.openings.specs.OpeningState.{opening_states}
 use Rattle.openings.proofs.codes.opening_states.Given as goal
 
 -- the states that were made, and those that are still to come

@@ -1,7 +1,7 @@
 use Rattle.std.proofs.Common.{◌≡◌, ◌++◌, ◌∷◌, [], List, Some, ap, sym, ◌∙◌}
 use Rattle.std.specs.Prelude.{slice_get}
 use Rattle.tm_types.specs.declared.message.Reply.{Reply}
-use Rattle.openings.proofs.OpeningPartsMade.{take_next}
+use Rattle.openings.proofs.StoresMade.{take_next}
 use Rattle.openings.proofs.copies.all_replies_like.Goals as goal
 
 pub loop-place-preserved : goal.loop-place-preserved

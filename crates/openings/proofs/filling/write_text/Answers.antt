@@ -1,11 +1,11 @@
 use Rattle.std.proofs.Common.{◌≡◌, ◌+◌, length, refl, sym, ◌∙◌, subst, arith, IsTrue}
 use Rattle.tm_disk.specs.Disk.{HasWritten}
 use Rattle.tm_disk.proofs.Words.{stays_on}
-use Rattle.log_sectors.proofs.Links.{at_ok}
 use Rattle.restart_data.proofs.Laying.{changes_follows, changes_within}
-use Rattle.openings.specs.Filling.{text_sectors, text_sector}
+use Rattle.openings.specs.ColdWrites.{text_sectors, text_sector}
 use Rattle.openings.proofs.Laying.{fills_step}
 use Rattle.openings.proofs.filling.write_text.Goals as goal
+use Rattle.tm_disk.proofs.States.{at_ok}
 
 pub loop-place-preserved : goal.loop-place-preserved
 loop-place-preserved g c =

@@ -1,7 +1,6 @@
 use Rattle.std.proofs.Common.{◌≡◌, ◌+◌, ◌≤◌, length, IsTrue}
-use Rattle.tm_disk.specs.Disk.{Stays, Within, Follows}
-use Rattle.restart_data.specs.Images.{ChangesOnly}
-use Rattle.openings.specs.Filling.{Fills, text_sectors, text_sector}
+use Rattle.tm_disk.specs.Disk.{Stays, Within, Follows, ChangesOnly}
+use Rattle.openings.specs.ColdWrites.{Fills, text_sectors, text_sector}
 use Rattle.openings.proofs.filling.write_text.Given as goal
 
 abbrev pub invariant-loop-place : goal.invariant-loop-place

@@ -1,8 +1,7 @@
 use Rattle.std.proofs.Common.{◌≡◌, ◌+◌, ◌≤◌, IsTrue}
-use Rattle.tm_disk.specs.Disk.{Stays, Within, Follows}
+use Rattle.tm_disk.specs.Disk.{Stays, Within, Follows, ChangesOnly}
 use Rattle.tm_disk.specs.Sector.{blank}
-use Rattle.restart_data.specs.Images.{ChangesOnly}
-use Rattle.openings.specs.Filling.{Fills}
+use Rattle.openings.specs.ColdWrites.{Fills}
 use Rattle.openings.proofs.filling.write_zeros.Given as goal
 
 abbrev pub invariant-loop-place : goal.invariant-loop-place

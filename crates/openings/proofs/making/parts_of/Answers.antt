@@ -1,5 +1,5 @@
 use Rattle.std.proofs.Common.{ap}
-use Rattle.image_records.specs.Kept.{KeptState}
+use Rattle.image_records.specs.KeptState.{KeptState}
 use Rattle.openings.proofs.Opened.{parts_are}
 use Rattle.openings.proofs.making.parts_of.Goals as goal
 

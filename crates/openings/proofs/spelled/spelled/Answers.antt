@@ -1,7 +1,7 @@
 use Rattle.std.proofs.Common.{List, sym, subst}
 use Rattle.std.proofs.lemmas.Result.{IfOk-weaker}
 use Rattle.model_messages.specs.declared.conversation.TerminalConversation.{TerminalConversation}
-use Rattle.checkpointing.specs.Spelled.{HaveRoom}
+use Rattle.checkpointing.specs.SpelledRecords.{HaveRoom}
 use Rattle.openings.proofs.FirstSnapshot.{no_pads, spelled_first}
 use Rattle.openings.proofs.spelled.spelled.Goals as goal
 

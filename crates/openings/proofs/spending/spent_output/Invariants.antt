@@ -1,5 +1,5 @@
 use Rattle.std.proofs.Common.{◌≡◌, drop}
-use Rattle.openings.specs.Opening.{first_spent, output_counters}
+use Rattle.openings.specs.OpenedImage.{first_spent, output_counters}
 use Rattle.openings.proofs.spending.spent_output.Given as goal
 
 abbrev pub invariant-loop-terminal : goal.invariant-loop-terminal

@@ -1,5 +1,5 @@
 use Rattle.std.proofs.Common.{◌≡◌, drop, length}
-use Rattle.pi_enqueue.specs.Grant.{with_holds}
+use Rattle.pi_enqueue.specs.Grants.{with_holds}
 use Rattle.pi_enqueue.specs.Lists.{AreListed, StayListed, before_all}
 use Rattle.pi_enqueue.proofs.holds.hold_each.Given as goal
 

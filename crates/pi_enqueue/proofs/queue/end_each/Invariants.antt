@@ -1,6 +1,6 @@
 use Rattle.std.proofs.Common.{◌≡◌, ◌≤◌, drop}
 use Rattle.std.specs.Vec.{vec_len, vec_capacity}
-use Rattle.pi_enqueue.specs.Grant.{without_waits}
+use Rattle.pi_enqueue.specs.Grants.{without_waits}
 use Rattle.pi_enqueue.proofs.queue.end_each.Given as goal
 
 abbrev pub invariant-loop-request : goal.invariant-loop-request

@@ -4,21 +4,21 @@ use Rattle.std.proofs.lemmas.List.{length-map}
 use Rattle.model_data.specs.declared.row.Row.{Row}
 use Rattle.model_data.specs.Footprint.{footprint}
 use Rattle.model_data.specs.declared.request.Request.{Request}
-use Rattle.model_data.specs.Ask.{first_blocked}
+use Rattle.model_data.specs.EnqueueRequests.{first_blocked}
 use Rattle.seg_store.specs.Slots.{rows_of_slots}
 use Rattle.unit_work.specs.Changes.{Changes}
-use Rattle.dli_calls.specs.Plans.{IsThere}
-use Rattle.seg_store.specs.Changed.{stored}
-use Rattle.program_rows.specs.State.{rows_of}
+use Rattle.dli_calls.specs.CallPlan.{IsThere}
+use Rattle.seg_store.specs.ChangedSlots.{stored}
+use Rattle.program_rows.specs.DatabasesState.{rows_of_stores}
 use Rattle.program_rows.specs.Isolation.{request_of}
-use Rattle.program_rows.specs.Open.{records_of}
+use Rattle.program_rows.specs.OpenUnits.{unit_records_of}
 use Rattle.program_rows.proofs.Doing.{waited, made, read_done, is_none_is}
 use Rattle.program_rows.proofs.Makings.{none_told}
 use Rattle.program_rows.proofs.Setting.{is_stored, dbd_there, rows_at_is}
 use Rattle.log_records.specs.declared.record.Record.{Record}
 use Rattle.program_rows.specs.declared.answer.DataAnswer.{DataAnswer}
-use Rattle.program_rows.specs.Making.{seen, made_told}
-use Rattle.program_rows.specs.Telling.{call_told}
+use Rattle.program_rows.specs.PlannedChanges.{databases_opened, made_told}
+use Rattle.program_rows.specs.ToldChanges.{call_told}
 use Rattle.program_rows.proofs.Retold.{waits_told, made_told_so, read_told, untold_so, tells_none, tells_made, slots_so, touched_so, touch_so, memory_untold}
 use Rattle.program_rows.proofs.calling.call.Goals as goal
 
@@ -47,12 +47,12 @@ first_blocked-requires-clause-own c =
 pub make-requires-clause-there : goal.make-requires-clause-there
 make-requires-clause-there c =
     let rows = rows_at_is c.args.number c.args.opened.now.stores.stores (stored c.store.result.now) c.store.ensures.stored_is in
-    subst (λ n. IsThere (Rattle.program_rows.specs.State.rows_in n (rows_of c.args.opened.now.stores.stores)) c.in_ok-needed.needed.planned.edit) (sym c.in_ok-asked.ensures.number)
+    subst (λ n. IsThere (Rattle.program_rows.specs.DatabasesState.database_rows_in n (rows_of_stores c.args.opened.now.stores.stores)) c.in_ok-needed.needed.planned.edit) (sym c.in_ok-asked.ensures.number)
     (subst (λ (rs : List Row). IsThere rs c.in_ok-needed.needed.planned.edit) (sym rows) c.in_ok-needed.ensures.there)
 
 pub returns-then-is_none-clause-done : goal.returns-then-is_none-clause-done
 returns-then-is_none-clause-done c =
-    let last : c.args.region ≤ length (records_of c.args.opened.now.units.items) = omega (arith, c.requires.last, length-map c.args.opened.now.units.items (λ (u : Changes). u.records)) in
+    let last : c.args.region ≤ length (unit_records_of c.args.opened.now.units.items) = omega (arith, c.requires.last, length-map c.args.opened.now.units.items (λ (u : Changes). u.records)) in
     let requests : c.in_ok-asked.asked.requests.items ≡ map (request_of c.args.region c.args.number) (footprint c.args.dbd.now c.args.call.now c.args.at.now (rows_of_slots c.store.result.now.slots)) =
     c.in_ok-asked.ensures.requests ∙ ap (map (request_of c.args.region c.args.number)) (c.as_slice.ensures ∙ c.in_ok-needed.ensures.needs) in
     read_done c.args.opened.now c.requires.open c.args.region c.args.number c.requires.first last c.requires.number c.args.dbd.now c.args.call.now c.args.at.now c.requires.position c.requires.call
@@ -63,18 +63,18 @@ returns-then-is_none-clause-done c =
 
 pub returns-then-is_some-clause-done : goal.returns-then-is_some-clause-done
 returns-then-is_some-clause-done c =
-    let last : c.args.region ≤ length (records_of c.args.opened.now.units.items) = omega (arith, c.requires.last, length-map c.args.opened.now.units.items (λ (u : Changes). u.records)) in
+    let last : c.args.region ≤ length (unit_records_of c.args.opened.now.units.items) = omega (arith, c.requires.last, length-map c.args.opened.now.units.items (λ (u : Changes). u.records)) in
     let requests : c.in_ok-asked.asked.requests.items ≡ map (request_of c.args.region c.args.number) (footprint c.args.dbd.now c.args.call.now c.args.at.now (rows_of_slots c.store.result.now.slots)) =
     c.in_ok-asked.ensures.requests ∙ ap (map (request_of c.args.region c.args.number)) (c.as_slice.ensures ∙ c.in_ok-needed.ensures.needs) in
     waited c.args.opened.now c.requires.open c.args.region c.args.number c.requires.first last c.requires.number c.args.dbd.now c.args.call.now c.args.at.now c.requires.position c.requires.call
     (stored c.store.result.now) c.store.ensures.stored_is (dbd_there c.args.opened.now.stores.stores (c.args.number - 1) (stored c.store.result.now) c.args.dbd.now c.store.ensures.stored_is c.requires.database)
     (record { units = c.args.opened.now.units; stores = c.args.opened.now.stores; table = c.wait.new.table }) c.wait.result c.in_ok-asked.asked.requests.items requests refl refl refl refl
-    c.wait.ensures.waits (subst (λ n. Rattle.std.specs.Prelude.OnOk c.wait.result (c.wait.new.table ≡ Rattle.model_data.specs.Ask.after_asks n c.in_ok-asked.asked.requests.items c.args.opened.now.table)) c.in_ok-asked.ensures.region c.wait.ensures.table)
+    c.wait.ensures.waits (subst (λ n. Rattle.std.specs.Prelude.OnOk c.wait.result (c.wait.new.table ≡ Rattle.model_data.specs.EnqueueRequests.after_asks n c.in_ok-asked.asked.requests.items c.args.opened.now.table)) c.in_ok-asked.ensures.region c.wait.ensures.table)
     c.wait.ensures.held
 
 pub returns-clause-done : goal.returns-clause-done
 returns-clause-done c =
-    let last : c.args.region ≤ length (records_of c.args.opened.now.units.items) = omega (arith, c.requires.last, length-map c.args.opened.now.units.items (λ (u : Changes). u.records)) in
+    let last : c.args.region ≤ length (unit_records_of c.args.opened.now.units.items) = omega (arith, c.requires.last, length-map c.args.opened.now.units.items (λ (u : Changes). u.records)) in
     let requests : c.in_ok-asked.asked.requests.items ≡ map (request_of c.args.region c.args.number) (footprint c.args.dbd.now c.args.call.now c.args.at.now (rows_of_slots c.store.result.now.slots)) =
     c.in_ok-asked.ensures.requests ∙ ap (map (request_of c.args.region c.args.number)) (c.as_slice.ensures ∙ c.in_ok-needed.ensures.needs) in
     let free : first_blocked c.in_ok-asked.asked.requests.items c.args.opened.now.table ≡ None =
@@ -86,7 +86,7 @@ returns-clause-done c =
 
 pub returns-then-is_none-clause-tells : goal.returns-then-is_none-clause-tells
 returns-then-is_none-clause-tells c =
-    let last : c.args.region ≤ length (records_of c.args.opened.now.units.items) = omega (arith, c.requires.last, length-map c.args.opened.now.units.items (λ (u : Changes). u.records)) in
+    let last : c.args.region ≤ length (unit_records_of c.args.opened.now.units.items) = omega (arith, c.requires.last, length-map c.args.opened.now.units.items (λ (u : Changes). u.records)) in
     let requests : c.in_ok-asked.asked.requests.items ≡ map (request_of c.args.region c.args.number) (footprint c.args.dbd.now c.args.call.now c.args.at.now (rows_of_slots c.store.result.now.slots)) =
     c.in_ok-asked.ensures.requests ∙ ap (map (request_of c.args.region c.args.number)) (c.as_slice.ensures ∙ c.in_ok-needed.ensures.needs) in
     tells_none c.args.unit c.args.region c.args.number c.args.dbd.now c.args.call.now c.args.at.now c.args.opened.now (record { units = c.args.opened.now.units; stores = c.args.opened.now.stores; table = c.read.new.table }) c.read.result c.args.room c.args.told.now.items
@@ -98,7 +98,7 @@ returns-then-is_none-clause-tells c =
 
 pub returns-then-is_none-clause-slots : goal.returns-then-is_none-clause-slots
 returns-then-is_none-clause-slots c =
-    let last : c.args.region ≤ length (records_of c.args.opened.now.units.items) = omega (arith, c.requires.last, length-map c.args.opened.now.units.items (λ (u : Changes). u.records)) in
+    let last : c.args.region ≤ length (unit_records_of c.args.opened.now.units.items) = omega (arith, c.requires.last, length-map c.args.opened.now.units.items (λ (u : Changes). u.records)) in
     let requests : c.in_ok-asked.asked.requests.items ≡ map (request_of c.args.region c.args.number) (footprint c.args.dbd.now c.args.call.now c.args.at.now (rows_of_slots c.store.result.now.slots)) =
     c.in_ok-asked.ensures.requests ∙ ap (map (request_of c.args.region c.args.number)) (c.as_slice.ensures ∙ c.in_ok-needed.ensures.needs) in
     slots_so c.args.unit c.args.region c.args.number c.args.dbd.now c.args.call.now c.args.at.now c.args.opened.now (record { units = c.args.opened.now.units; stores = c.args.opened.now.stores; table = c.read.new.table }) c.read.result (λ (a : DataAnswer). let none : List Record = [] in none)
@@ -110,7 +110,7 @@ returns-then-is_none-clause-slots c =
 
 pub returns-then-is_none-clause-touched : goal.returns-then-is_none-clause-touched
 returns-then-is_none-clause-touched c =
-    let last : c.args.region ≤ length (records_of c.args.opened.now.units.items) = omega (arith, c.requires.last, length-map c.args.opened.now.units.items (λ (u : Changes). u.records)) in
+    let last : c.args.region ≤ length (unit_records_of c.args.opened.now.units.items) = omega (arith, c.requires.last, length-map c.args.opened.now.units.items (λ (u : Changes). u.records)) in
     let requests : c.in_ok-asked.asked.requests.items ≡ map (request_of c.args.region c.args.number) (footprint c.args.dbd.now c.args.call.now c.args.at.now (rows_of_slots c.store.result.now.slots)) =
     c.in_ok-asked.ensures.requests ∙ ap (map (request_of c.args.region c.args.number)) (c.as_slice.ensures ∙ c.in_ok-needed.ensures.needs) in
     touched_so c.args.unit c.args.region c.args.number c.args.dbd.now c.args.call.now c.args.at.now c.args.opened.now (record { units = c.args.opened.now.units; stores = c.args.opened.now.stores; table = c.read.new.table }) c.read.result (λ (a : DataAnswer). let none : List Record = [] in none)
@@ -122,7 +122,7 @@ returns-then-is_none-clause-touched c =
 
 pub returns-then-is_none-clause-touch : goal.returns-then-is_none-clause-touch
 returns-then-is_none-clause-touch c =
-    let last : c.args.region ≤ length (records_of c.args.opened.now.units.items) = omega (arith, c.requires.last, length-map c.args.opened.now.units.items (λ (u : Changes). u.records)) in
+    let last : c.args.region ≤ length (unit_records_of c.args.opened.now.units.items) = omega (arith, c.requires.last, length-map c.args.opened.now.units.items (λ (u : Changes). u.records)) in
     let requests : c.in_ok-asked.asked.requests.items ≡ map (request_of c.args.region c.args.number) (footprint c.args.dbd.now c.args.call.now c.args.at.now (rows_of_slots c.store.result.now.slots)) =
     c.in_ok-asked.ensures.requests ∙ ap (map (request_of c.args.region c.args.number)) (c.as_slice.ensures ∙ c.in_ok-needed.ensures.needs) in
     touch_so c.args.unit c.args.region c.args.number c.args.dbd.now c.args.call.now c.args.at.now c.args.opened.now (record { units = c.args.opened.now.units; stores = c.args.opened.now.stores; table = c.read.new.table }) c.read.result (λ (a : DataAnswer). let none : List Record = [] in none)
@@ -134,63 +134,63 @@ returns-then-is_none-clause-touch c =
 
 pub returns-then-is_none-clause-full : goal.returns-then-is_none-clause-full
 returns-then-is_none-clause-full c =
-    memory_untold c.read.result (call_told c.args.unit c.args.region c.args.number c.args.dbd.now c.args.call.now c.args.at.now (seen c.args.opened.now)) c.args.room c.read.ensures.memory
+    memory_untold c.read.result (call_told c.args.unit c.args.region c.args.number c.args.dbd.now c.args.call.now c.args.at.now (databases_opened c.args.opened.now)) c.args.room c.read.ensures.memory
 
 pub returns-then-is_some-clause-tells : goal.returns-then-is_some-clause-tells
 returns-then-is_some-clause-tells c =
-    let last : c.args.region ≤ length (records_of c.args.opened.now.units.items) = omega (arith, c.requires.last, length-map c.args.opened.now.units.items (λ (u : Changes). u.records)) in
+    let last : c.args.region ≤ length (unit_records_of c.args.opened.now.units.items) = omega (arith, c.requires.last, length-map c.args.opened.now.units.items (λ (u : Changes). u.records)) in
     let requests : c.in_ok-asked.asked.requests.items ≡ map (request_of c.args.region c.args.number) (footprint c.args.dbd.now c.args.call.now c.args.at.now (rows_of_slots c.store.result.now.slots)) =
     c.in_ok-asked.ensures.requests ∙ ap (map (request_of c.args.region c.args.number)) (c.as_slice.ensures ∙ c.in_ok-needed.ensures.needs) in
     tells_none c.args.unit c.args.region c.args.number c.args.dbd.now c.args.call.now c.args.at.now c.args.opened.now (record { units = c.args.opened.now.units; stores = c.args.opened.now.stores; table = c.wait.new.table }) c.wait.result c.args.room c.args.told.now.items
     (waits_told c.args.opened.now c.requires.open c.args.region c.args.number c.requires.first last c.requires.number c.args.dbd.now c.args.call.now c.args.at.now c.requires.position c.requires.call
     (stored c.store.result.now) c.store.ensures.stored_is (dbd_there c.args.opened.now.stores.stores (c.args.number - 1) (stored c.store.result.now) c.args.dbd.now c.store.ensures.stored_is c.requires.database)
     (record { units = c.args.opened.now.units; stores = c.args.opened.now.stores; table = c.wait.new.table }) c.args.unit c.requires.touched c.wait.result c.in_ok-asked.asked.requests.items requests refl refl refl refl
-    c.wait.ensures.waits (subst (λ n. Rattle.std.specs.Prelude.OnOk c.wait.result (c.wait.new.table ≡ Rattle.model_data.specs.Ask.after_asks n c.in_ok-asked.asked.requests.items c.args.opened.now.table)) c.in_ok-asked.ensures.region c.wait.ensures.table)
+    c.wait.ensures.waits (subst (λ n. Rattle.std.specs.Prelude.OnOk c.wait.result (c.wait.new.table ≡ Rattle.model_data.specs.EnqueueRequests.after_asks n c.in_ok-asked.asked.requests.items c.args.opened.now.table)) c.in_ok-asked.ensures.region c.wait.ensures.table)
     c.wait.ensures.held)
 
 pub returns-then-is_some-clause-slots : goal.returns-then-is_some-clause-slots
 returns-then-is_some-clause-slots c =
-    let last : c.args.region ≤ length (records_of c.args.opened.now.units.items) = omega (arith, c.requires.last, length-map c.args.opened.now.units.items (λ (u : Changes). u.records)) in
+    let last : c.args.region ≤ length (unit_records_of c.args.opened.now.units.items) = omega (arith, c.requires.last, length-map c.args.opened.now.units.items (λ (u : Changes). u.records)) in
     let requests : c.in_ok-asked.asked.requests.items ≡ map (request_of c.args.region c.args.number) (footprint c.args.dbd.now c.args.call.now c.args.at.now (rows_of_slots c.store.result.now.slots)) =
     c.in_ok-asked.ensures.requests ∙ ap (map (request_of c.args.region c.args.number)) (c.as_slice.ensures ∙ c.in_ok-needed.ensures.needs) in
     slots_so c.args.unit c.args.region c.args.number c.args.dbd.now c.args.call.now c.args.at.now c.args.opened.now (record { units = c.args.opened.now.units; stores = c.args.opened.now.stores; table = c.wait.new.table }) c.wait.result (λ (a : DataAnswer). let none : List Record = [] in none)
     (waits_told c.args.opened.now c.requires.open c.args.region c.args.number c.requires.first last c.requires.number c.args.dbd.now c.args.call.now c.args.at.now c.requires.position c.requires.call
     (stored c.store.result.now) c.store.ensures.stored_is (dbd_there c.args.opened.now.stores.stores (c.args.number - 1) (stored c.store.result.now) c.args.dbd.now c.store.ensures.stored_is c.requires.database)
     (record { units = c.args.opened.now.units; stores = c.args.opened.now.stores; table = c.wait.new.table }) c.args.unit c.requires.touched c.wait.result c.in_ok-asked.asked.requests.items requests refl refl refl refl
-    c.wait.ensures.waits (subst (λ n. Rattle.std.specs.Prelude.OnOk c.wait.result (c.wait.new.table ≡ Rattle.model_data.specs.Ask.after_asks n c.in_ok-asked.asked.requests.items c.args.opened.now.table)) c.in_ok-asked.ensures.region c.wait.ensures.table)
+    c.wait.ensures.waits (subst (λ n. Rattle.std.specs.Prelude.OnOk c.wait.result (c.wait.new.table ≡ Rattle.model_data.specs.EnqueueRequests.after_asks n c.in_ok-asked.asked.requests.items c.args.opened.now.table)) c.in_ok-asked.ensures.region c.wait.ensures.table)
     c.wait.ensures.held)
 
 pub returns-then-is_some-clause-touched : goal.returns-then-is_some-clause-touched
 returns-then-is_some-clause-touched c =
-    let last : c.args.region ≤ length (records_of c.args.opened.now.units.items) = omega (arith, c.requires.last, length-map c.args.opened.now.units.items (λ (u : Changes). u.records)) in
+    let last : c.args.region ≤ length (unit_records_of c.args.opened.now.units.items) = omega (arith, c.requires.last, length-map c.args.opened.now.units.items (λ (u : Changes). u.records)) in
     let requests : c.in_ok-asked.asked.requests.items ≡ map (request_of c.args.region c.args.number) (footprint c.args.dbd.now c.args.call.now c.args.at.now (rows_of_slots c.store.result.now.slots)) =
     c.in_ok-asked.ensures.requests ∙ ap (map (request_of c.args.region c.args.number)) (c.as_slice.ensures ∙ c.in_ok-needed.ensures.needs) in
     touched_so c.args.unit c.args.region c.args.number c.args.dbd.now c.args.call.now c.args.at.now c.args.opened.now (record { units = c.args.opened.now.units; stores = c.args.opened.now.stores; table = c.wait.new.table }) c.wait.result (λ (a : DataAnswer). let none : List Record = [] in none)
     (waits_told c.args.opened.now c.requires.open c.args.region c.args.number c.requires.first last c.requires.number c.args.dbd.now c.args.call.now c.args.at.now c.requires.position c.requires.call
     (stored c.store.result.now) c.store.ensures.stored_is (dbd_there c.args.opened.now.stores.stores (c.args.number - 1) (stored c.store.result.now) c.args.dbd.now c.store.ensures.stored_is c.requires.database)
     (record { units = c.args.opened.now.units; stores = c.args.opened.now.stores; table = c.wait.new.table }) c.args.unit c.requires.touched c.wait.result c.in_ok-asked.asked.requests.items requests refl refl refl refl
-    c.wait.ensures.waits (subst (λ n. Rattle.std.specs.Prelude.OnOk c.wait.result (c.wait.new.table ≡ Rattle.model_data.specs.Ask.after_asks n c.in_ok-asked.asked.requests.items c.args.opened.now.table)) c.in_ok-asked.ensures.region c.wait.ensures.table)
+    c.wait.ensures.waits (subst (λ n. Rattle.std.specs.Prelude.OnOk c.wait.result (c.wait.new.table ≡ Rattle.model_data.specs.EnqueueRequests.after_asks n c.in_ok-asked.asked.requests.items c.args.opened.now.table)) c.in_ok-asked.ensures.region c.wait.ensures.table)
     c.wait.ensures.held)
 
 pub returns-then-is_some-clause-touch : goal.returns-then-is_some-clause-touch
 returns-then-is_some-clause-touch c =
-    let last : c.args.region ≤ length (records_of c.args.opened.now.units.items) = omega (arith, c.requires.last, length-map c.args.opened.now.units.items (λ (u : Changes). u.records)) in
+    let last : c.args.region ≤ length (unit_records_of c.args.opened.now.units.items) = omega (arith, c.requires.last, length-map c.args.opened.now.units.items (λ (u : Changes). u.records)) in
     let requests : c.in_ok-asked.asked.requests.items ≡ map (request_of c.args.region c.args.number) (footprint c.args.dbd.now c.args.call.now c.args.at.now (rows_of_slots c.store.result.now.slots)) =
     c.in_ok-asked.ensures.requests ∙ ap (map (request_of c.args.region c.args.number)) (c.as_slice.ensures ∙ c.in_ok-needed.ensures.needs) in
     touch_so c.args.unit c.args.region c.args.number c.args.dbd.now c.args.call.now c.args.at.now c.args.opened.now (record { units = c.args.opened.now.units; stores = c.args.opened.now.stores; table = c.wait.new.table }) c.wait.result (λ (a : DataAnswer). let none : List Record = [] in none)
     (waits_told c.args.opened.now c.requires.open c.args.region c.args.number c.requires.first last c.requires.number c.args.dbd.now c.args.call.now c.args.at.now c.requires.position c.requires.call
     (stored c.store.result.now) c.store.ensures.stored_is (dbd_there c.args.opened.now.stores.stores (c.args.number - 1) (stored c.store.result.now) c.args.dbd.now c.store.ensures.stored_is c.requires.database)
     (record { units = c.args.opened.now.units; stores = c.args.opened.now.stores; table = c.wait.new.table }) c.args.unit c.requires.touched c.wait.result c.in_ok-asked.asked.requests.items requests refl refl refl refl
-    c.wait.ensures.waits (subst (λ n. Rattle.std.specs.Prelude.OnOk c.wait.result (c.wait.new.table ≡ Rattle.model_data.specs.Ask.after_asks n c.in_ok-asked.asked.requests.items c.args.opened.now.table)) c.in_ok-asked.ensures.region c.wait.ensures.table)
+    c.wait.ensures.waits (subst (λ n. Rattle.std.specs.Prelude.OnOk c.wait.result (c.wait.new.table ≡ Rattle.model_data.specs.EnqueueRequests.after_asks n c.in_ok-asked.asked.requests.items c.args.opened.now.table)) c.in_ok-asked.ensures.region c.wait.ensures.table)
     c.wait.ensures.held)
 
 pub returns-then-is_some-clause-full : goal.returns-then-is_some-clause-full
 returns-then-is_some-clause-full c =
-    memory_untold c.wait.result (call_told c.args.unit c.args.region c.args.number c.args.dbd.now c.args.call.now c.args.at.now (seen c.args.opened.now)) c.args.room c.wait.ensures.memory
+    memory_untold c.wait.result (call_told c.args.unit c.args.region c.args.number c.args.dbd.now c.args.call.now c.args.at.now (databases_opened c.args.opened.now)) c.args.room c.wait.ensures.memory
 
 pub returns-clause-tells : goal.returns-clause-tells
 returns-clause-tells c =
-    let last : c.args.region ≤ length (records_of c.args.opened.now.units.items) = omega (arith, c.requires.last, length-map c.args.opened.now.units.items (λ (u : Changes). u.records)) in
+    let last : c.args.region ≤ length (unit_records_of c.args.opened.now.units.items) = omega (arith, c.requires.last, length-map c.args.opened.now.units.items (λ (u : Changes). u.records)) in
     let requests : c.in_ok-asked.asked.requests.items ≡ map (request_of c.args.region c.args.number) (footprint c.args.dbd.now c.args.call.now c.args.at.now (rows_of_slots c.store.result.now.slots)) =
     c.in_ok-asked.ensures.requests ∙ ap (map (request_of c.args.region c.args.number)) (c.as_slice.ensures ∙ c.in_ok-needed.ensures.needs) in
     let free : first_blocked c.in_ok-asked.asked.requests.items c.args.opened.now.table ≡ None =
@@ -203,7 +203,7 @@ returns-clause-tells c =
 
 pub returns-clause-slots : goal.returns-clause-slots
 returns-clause-slots c =
-    let last : c.args.region ≤ length (records_of c.args.opened.now.units.items) = omega (arith, c.requires.last, length-map c.args.opened.now.units.items (λ (u : Changes). u.records)) in
+    let last : c.args.region ≤ length (unit_records_of c.args.opened.now.units.items) = omega (arith, c.requires.last, length-map c.args.opened.now.units.items (λ (u : Changes). u.records)) in
     let requests : c.in_ok-asked.asked.requests.items ≡ map (request_of c.args.region c.args.number) (footprint c.args.dbd.now c.args.call.now c.args.at.now (rows_of_slots c.store.result.now.slots)) =
     c.in_ok-asked.ensures.requests ∙ ap (map (request_of c.args.region c.args.number)) (c.as_slice.ensures ∙ c.in_ok-needed.ensures.needs) in
     let free : first_blocked c.in_ok-asked.asked.requests.items c.args.opened.now.table ≡ None =
@@ -216,7 +216,7 @@ returns-clause-slots c =
 
 pub returns-clause-touched : goal.returns-clause-touched
 returns-clause-touched c =
-    let last : c.args.region ≤ length (records_of c.args.opened.now.units.items) = omega (arith, c.requires.last, length-map c.args.opened.now.units.items (λ (u : Changes). u.records)) in
+    let last : c.args.region ≤ length (unit_records_of c.args.opened.now.units.items) = omega (arith, c.requires.last, length-map c.args.opened.now.units.items (λ (u : Changes). u.records)) in
     let requests : c.in_ok-asked.asked.requests.items ≡ map (request_of c.args.region c.args.number) (footprint c.args.dbd.now c.args.call.now c.args.at.now (rows_of_slots c.store.result.now.slots)) =
     c.in_ok-asked.ensures.requests ∙ ap (map (request_of c.args.region c.args.number)) (c.as_slice.ensures ∙ c.in_ok-needed.ensures.needs) in
     let free : first_blocked c.in_ok-asked.asked.requests.items c.args.opened.now.table ≡ None =
@@ -229,7 +229,7 @@ returns-clause-touched c =
 
 pub returns-clause-touch : goal.returns-clause-touch
 returns-clause-touch c =
-    let last : c.args.region ≤ length (records_of c.args.opened.now.units.items) = omega (arith, c.requires.last, length-map c.args.opened.now.units.items (λ (u : Changes). u.records)) in
+    let last : c.args.region ≤ length (unit_records_of c.args.opened.now.units.items) = omega (arith, c.requires.last, length-map c.args.opened.now.units.items (λ (u : Changes). u.records)) in
     let requests : c.in_ok-asked.asked.requests.items ≡ map (request_of c.args.region c.args.number) (footprint c.args.dbd.now c.args.call.now c.args.at.now (rows_of_slots c.store.result.now.slots)) =
     c.in_ok-asked.ensures.requests ∙ ap (map (request_of c.args.region c.args.number)) (c.as_slice.ensures ∙ c.in_ok-needed.ensures.needs) in
     let free : first_blocked c.in_ok-asked.asked.requests.items c.args.opened.now.table ≡ None =
@@ -242,7 +242,7 @@ returns-clause-touch c =
 
 pub returns-clause-full : goal.returns-clause-full
 returns-clause-full c =
-    let last : c.args.region ≤ length (records_of c.args.opened.now.units.items) = omega (arith, c.requires.last, length-map c.args.opened.now.units.items (λ (u : Changes). u.records)) in
+    let last : c.args.region ≤ length (unit_records_of c.args.opened.now.units.items) = omega (arith, c.requires.last, length-map c.args.opened.now.units.items (λ (u : Changes). u.records)) in
     let requests : c.in_ok-asked.asked.requests.items ≡ map (request_of c.args.region c.args.number) (footprint c.args.dbd.now c.args.call.now c.args.at.now (rows_of_slots c.store.result.now.slots)) =
     c.in_ok-asked.ensures.requests ∙ ap (map (request_of c.args.region c.args.number)) (c.as_slice.ensures ∙ c.in_ok-needed.ensures.needs) in
     let free : first_blocked c.in_ok-asked.asked.requests.items c.args.opened.now.table ≡ None =

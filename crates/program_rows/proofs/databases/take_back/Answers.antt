@@ -4,12 +4,12 @@ use Rattle.unit_work.specs.Marks.{AreMarked, AreAllMarked}
 use Rattle.unit_work.specs.declared.change.Change.{Change}
 use Rattle.unit_work.specs.Changes.{no_changes}
 use Rattle.unit_work.specs.BackOut.{backed_out, backs}
-use Rattle.program_rows.specs.Open.{records_of, slots_of}
+use Rattle.program_rows.specs.OpenUnits.{unit_records_of, unit_slots_of}
 use Rattle.program_rows.proofs.Setting.{unit_records, records_put, slots_put}
 use Rattle.program_rows.proofs.databases.take_back.Goals as goal
 
 pub returns-clause-units : goal.returns-clause-units
-returns-clause-units c = ap records_of c.take_unit-unit.ensures.left ∙ records_put c.args.opened.now.units.items (c.args.region - 1) no_changes
+returns-clause-units c = ap unit_records_of c.take_unit-unit.ensures.left ∙ records_put c.args.opened.now.units.items (c.args.region - 1) no_changes
 
 pub returns-clause-stores : goal.returns-clause-stores
 returns-clause-stores c =
@@ -18,7 +18,7 @@ returns-clause-stores c =
 
 pub returns-clause-slots : goal.returns-clause-slots
 returns-clause-slots c =
-    ap slots_of c.take_unit-unit.ensures.left
+    ap unit_slots_of c.take_unit-unit.ensures.left
     ∙ (slots_put c.args.opened.now.units.items (c.args.region - 1) no_changes)
 
 pub returns-clause-marks : goal.returns-clause-marks

@@ -4,9 +4,9 @@ use Rattle.model_data.specs.Rows.{IsImage}
 use Rattle.seg_rows.specs.StoreRefused.{set_refusal}
 use Rattle.seg_store.specs.Slots.{rows_of_slots}
 use Rattle.model_data.specs.declared.row.Row.{Row}
-use Rattle.dli_calls.specs.Plans.{IsThere, limit_of}
-use Rattle.seg_store.specs.Changed.{stored}
-use Rattle.program_rows.specs.Making.{TakesSlot, changed_in}
+use Rattle.dli_calls.specs.CallPlan.{IsThere, limit_of}
+use Rattle.seg_store.specs.ChangedSlots.{stored}
+use Rattle.program_rows.specs.PlannedChanges.{TakesSlot, changed_in}
 use Rattle.program_rows.proofs.Setting.{is_stored, dbd_there, full_abend, limit_is, rows_at_is}
 use Rattle.program_rows.proofs.Makings.{unit_full, untold_edit}
 use Rattle.program_rows.proofs.making.change.Goals as goal

@@ -1,12 +1,12 @@
 use Rattle.std.proofs.Common.{Option, sym, subst}
 use Rattle.dli_calls.specs.declared.planned.Edit.{Edit}
-use Rattle.log_records.specs.Telling.{Tells}
-use Rattle.program_rows.specs.Making.{IsUntoldEdit, edit_told}
+use Rattle.log_records.specs.ToldRecords.{TellsInRoom}
+use Rattle.program_rows.specs.PlannedChanges.{IsUntoldEdit, edit_told}
 use Rattle.program_rows.proofs.making.make.Goals as goal
 
 pub returns-in-Ok-None-clause-tells : goal.returns-in-Ok-None-clause-tells
 returns-in-Ok-None-clause-tells c =
-    subst (λ (e : Option Edit). Tells (edit_told c.args.unit c.args.asked.now.number e c.args.opened.now.stores.stores) c.args.room c.args.told.now.items c.change.new.told.items) (sym c.in-Some.is)
+    subst (λ (e : Option Edit). TellsInRoom (edit_told c.args.unit c.args.asked.now.number e c.args.opened.now.stores.stores) c.args.room c.args.told.now.items c.change.new.told.items) (sym c.in-Some.is)
     (rw c.in-Some.edit-is at (rw c.in-Ok-None.field-0-is at c.in-Ok-None.ensures.tells))
 
 pub returns-in-Err-change-clause-full : goal.returns-in-Err-change-clause-full

@@ -1,5 +1,5 @@
 use Rattle.std.proofs.Common.{refl}
-use Rattle.seg_store.specs.Changed.{stored}
+use Rattle.seg_store.specs.ChangedSlots.{stored}
 use Rattle.program_rows.proofs.Makings.{set_done, set_left, put_left}
 use Rattle.program_rows.proofs.making.set.Goals as goal
 

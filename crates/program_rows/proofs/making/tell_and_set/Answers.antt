@@ -1,5 +1,5 @@
 use Rattle.log_records.specs.declared.record.Record.TheVariants as told
-use Rattle.seg_store.specs.Changed.{stored}
+use Rattle.seg_store.specs.ChangedSlots.{stored}
 use Rattle.program_rows.proofs.Setting.{is_stored}
 use Rattle.program_rows.proofs.Placing.{slot_within, short_before, short_after}
 use Rattle.program_rows.proofs.making.tell_and_set.Goals as goal

@@ -1,11 +1,11 @@
 use Rattle.std.proofs.Common.{map, length, refl, sym, subst, List, arith}
 use Rattle.std.proofs.lemmas.Option.{slice_get_read}
-use Rattle.log_records.specs.Telling.{Adds}
+use Rattle.log_records.specs.ToldRecords.{AddsRecords}
 use Rattle.log_records.proofs.Kept.{both, failed, more, same}
 use Rattle.log_records.proofs.Told.{adds_none}
 use Rattle.unit_work.specs.declared.change.Change.{Change}
 use Rattle.unit_work.proofs.Backing.{drop_past}
-use Rattle.program_rows.specs.Telling.{slot_told}
+use Rattle.program_rows.specs.ToldChanges.{back_out_told}
 use Rattle.program_rows.proofs.Appending.{slots_more}
 use Rattle.program_rows.proofs.telling.append_slots.Goals as goal
 
@@ -25,5 +25,5 @@ returns-in_err-append_touched-clause-kept c =
 pub returns-clause-adds : goal.returns-clause-adds
 returns-clause-adds c =
     c.loop-change.invariant.0 c.loop-change.out.items
-    (subst (λ (ss : List Change). Adds (map (slot_told c.args.unit c.args.stores.now.stores) ss) c.loop-change.out.items c.loop-change.out.items)
+    (subst (λ (ss : List Change). AddsRecords (map (back_out_told c.args.unit c.args.stores.now.stores) ss) c.loop-change.out.items c.loop-change.out.items)
     (sym (drop_past c.args.slots.now c.loop-change.change-index c.loop-change-test.false)) (adds_none c.loop-change.out.items))

@@ -1,5 +1,5 @@
 use Rattle.std.proofs.Common.{◌≡◌, ◌∷◌, ◌++◌, drop}
-use Rattle.region_work.specs.Ends.{destinations}
+use Rattle.region_work.specs.WorkEnds.{destinations}
 use Rattle.region_work.proofs.close.names_moved.Given as goal
 
 -- the names so far, and those of the outputs to come

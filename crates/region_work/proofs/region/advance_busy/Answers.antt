@@ -1,7 +1,7 @@
 use Rattle.std.proofs.Common.{◌<◌, length, refl, ap, subst}
-use Rattle.log_records.specs.Telling.{spelled}
+use Rattle.log_records.specs.ToldRecords.{spelled_records}
 use Rattle.region_work.specs.declared.region.Busy.{Busy}
-use Rattle.region_work.specs.Region.{TellsSo, IsLongerSo, IsStarted}
+use Rattle.region_work.specs.RegionWork.{TellsSo, IsLongerSo, IsStarted}
 use Rattle.region_work.proofs.Results.{ok_map, on_map, if_err_map}
 use Rattle.region_work.proofs.Going.{next_from, started_one, steps_from}
 use Rattle.lasting_state.proofs.Told.{where_full}
@@ -26,7 +26,7 @@ returns-clause-tells c =
 pub returns-clause-full : goal.returns-clause-full
 returns-clause-full c =
     if_err_map c.advance_unit.result
-    (λ error. where_full error (λ h. next_from c.args.system.now c.args.region c.args.unit c.args.tables.now c.args.busy.now c.start.new.busy c.in-Some.run' (λ records. c.args.room < length (spelled records))
+    (λ error. where_full error (λ h. next_from c.args.system.now c.args.region c.args.unit c.args.tables.now c.args.busy.now c.start.new.busy c.in-Some.run' (λ records. c.args.room < length (spelled_records records))
     (started_one c.start.new.busy.unit c.in-Some.run' (IsStarted c.args.system.now c.args.tables.now c.args.busy.now) c.in-Some.is c.in_ok-start.ensures.started c.args.region c.requires.work) (ap (λ (b : Busy). b.code) c.start.ensures.same)
     (subst (λ d. IsLongerSo c.args.system.now c.args.region c.start.new.busy.code d c.in-Some.run' c.args.unit c.args.room) c.databases_mut.ensures.value h)))
     c.advance_unit.ensures.full

@@ -4,8 +4,8 @@ use Rattle.std.specs.Option.{option_copied}
 use Rattle.model_system.specs.System.{System}
 use Rattle.system_types.specs.Jobs.{lent_job}
 use Rattle.io_pcb.specs.Pads.{IsPadText}
-use Rattle.message_run.specs.Ahead.{IsStart, given_with}
-use Rattle.region_work.specs.Region.{given_in}
+use Rattle.message_run.specs.WorkAhead.{IsStart, given_with}
+use Rattle.region_work.specs.RegionWork.{given_in}
 use Rattle.region_work.proofs.Going.{starts}
 use Rattle.region_work.proofs.region.start_unit.Goals as goal
 

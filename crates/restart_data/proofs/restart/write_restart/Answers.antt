@@ -2,10 +2,10 @@ use Rattle.std.proofs.Common.{◌≡◌, ℕ, List, sym, ◌∙◌, ap, arith}
 use Rattle.tm_disk.specs.Disk.{HasWritten, with_sector, Only}
 use Rattle.tm_disk.proofs.Words.{follows_shown}
 use Rattle.restart_data.specs.Restart.{restart_sector}
-use Rattle.restart_data.specs.Images.{Restarts}
+use Rattle.restart_data.specs.WrittenSectors.{Restarts}
 use Rattle.restart_data.proofs.ImageLaws.{restarts}
-use Rattle.restart_data.proofs.Answering.{at_ok}
 use Rattle.restart_data.proofs.restart.write_restart.Goals as goal
+use Rattle.tm_disk.proofs.States.{at_ok}
 
 pub returns-clause-shown : goal.returns-clause-shown
 returns-clause-shown g c tells =

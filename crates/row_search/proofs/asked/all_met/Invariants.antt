@@ -1,6 +1,6 @@
 use Rattle.std.proofs.Common.{◌≡◌, drop}
 use Rattle.std.specs.List.{list_all}
-use Rattle.row_search.specs.Asked.{is_met}
+use Rattle.row_search.specs.AskedArguments.{is_met}
 use Rattle.row_search.proofs.asked.all_met.Given as goal
 
 abbrev pub invariant-loop-one : goal.invariant-loop-one

@@ -1,5 +1,5 @@
 use Rattle.std.proofs.Common.{◌≡◌, drop, Some}
-use Rattle.row_search.specs.Asked.{is_met}
+use Rattle.row_search.specs.AskedArguments.{is_met}
 use Rattle.row_search.proofs.asked.is_met_by.Given as goal
 
 abbrev pub invariant-loop-pair : goal.invariant-loop-pair

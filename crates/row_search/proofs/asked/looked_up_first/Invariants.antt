@@ -1,6 +1,6 @@
 -- so far each argument is looked up
 use Rattle.std.proofs.Common.{◌≡◌, take, map, length}
-use Rattle.row_search.specs.Asked.{looked_up}
+use Rattle.row_search.specs.AskedArguments.{looked_up}
 use Rattle.row_search.proofs.asked.looked_up_first.Given as goal
 
 abbrev pub invariant-loop-place : goal.invariant-loop-place

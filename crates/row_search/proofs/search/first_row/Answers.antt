@@ -2,8 +2,8 @@ use Rattle.std.proofs.Common.{◌≡◌, ◌<◌, None, Some, refl, sym, subst, 
 use Rattle.std.specs.Option.{option_copied, IfSome}
 use Rattle.model_data.specs.Rows.{AreRows, record_of}
 use Rattle.model_data.specs.Search.{first_after}
-use Rattle.row_search.specs.Lent.{lent_root, IsLentOf}
-use Rattle.row_search.specs.Walk.{rows_from, roots_left}
+use Rattle.row_search.specs.LentRecord.{lent_root, IsLentOf}
+use Rattle.row_search.specs.Walk.{rows_from_root, roots_left}
 use Rattle.row_search.proofs.Walking.{as_asked, asked_alone, search_starts, search_ends, search_goes, fewer_left}
 use Rattle.row_search.proofs.search.first_row.Goals as goal
 
@@ -24,7 +24,7 @@ loop-next-init g c =
     record {
       valid = c.first_record-next.ensures.valid;
       lent = c.first_record-next.ensures.rows;
-      found = ap (λ o. first_after dbd.types c.args.ssas.now (option_copied c.args.place) (rows_from o rows)) c.first_record-next.ensures.root
+      found = ap (λ o. first_after dbd.types c.args.ssas.now (option_copied c.args.place) (rows_from_root o rows)) c.first_record-next.ensures.root
           ∙ search_starts dbd valid.types rows valid c.args.ssas.now (option_copied c.args.place) c.requires.place;
     }
 
@@ -38,7 +38,7 @@ returns-in-Some-first_after-clause-value g c =
     sym (c.in-Some-first_after.ensures
     ∙ as_asked c.of-asked.result dbd c.args.ssas.now c.of-asked.ensures.dbd c.of-asked.ensures.ssas (option_copied c.args.place) c.in-Some-next.lent.rows.now (record_of c.in-Some-next.lent.root rows) lent) in
     sym (search_ends dbd valid.types rows valid c.args.ssas.now (option_copied c.args.place) c.in-Some-next.lent.root c.in-Some-first_after.row.now here)
-    ∙ (ap (λ o. first_after dbd.types c.args.ssas.now (option_copied c.args.place) (rows_from (lent_root o) rows)) (sym c.in-Some-next.is) ∙ c.loop-next.invariant.found)
+    ∙ (ap (λ o. first_after dbd.types c.args.ssas.now (option_copied c.args.place) (rows_from_root (lent_root o) rows)) (sym c.in-Some-next.is) ∙ c.loop-next.invariant.found)
 
 pub loop-next-smaller : goal.loop-next-smaller
 loop-next-smaller g c =
@@ -61,8 +61,8 @@ loop-next-preserved g c =
     record {
       valid = c.loop-next.invariant.valid;
       lent = c.next_record-next.ensures.rows;
-      found = ap (λ o. first_after dbd.types c.args.ssas.now (option_copied c.args.place) (rows_from o rows)) c.next_record-next.ensures.root
+      found = ap (λ o. first_after dbd.types c.args.ssas.now (option_copied c.args.place) (rows_from_root o rows)) c.next_record-next.ensures.root
           ∙ (search_goes dbd valid.types rows valid c.args.ssas.now (option_copied c.args.place) c.in-Some-next.lent.root none
-          ∙ (ap (λ o. first_after dbd.types c.args.ssas.now (option_copied c.args.place) (rows_from (lent_root o) rows)) (sym c.in-Some-next.is)
+          ∙ (ap (λ o. first_after dbd.types c.args.ssas.now (option_copied c.args.place) (rows_from_root (lent_root o) rows)) (sym c.in-Some-next.is)
           ∙ c.loop-next.invariant.found));
     }

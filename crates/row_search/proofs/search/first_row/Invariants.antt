@@ -3,8 +3,8 @@ use Rattle.std.proofs.Common.{◌≡◌}
 use Rattle.std.specs.Option.{option_copied, IfSome}
 use Rattle.model_data.specs.Rows.{AreRows}
 use Rattle.model_data.specs.Search.{first_after}
-use Rattle.row_search.specs.Lent.{lent_root, IsLentOf}
-use Rattle.row_search.specs.Walk.{rows_from, roots_left}
+use Rattle.row_search.specs.LentRecord.{lent_root, IsLentOf}
+use Rattle.row_search.specs.Walk.{rows_from_root, roots_left}
 use Rattle.row_search.proofs.search.first_row.Given as goal
 
 abbrev pub invariant-loop-next : goal.invariant-loop-next
@@ -12,7 +12,7 @@ invariant-loop-next g l =
     record {
       valid : AreRows (g.R.Rows.database l.rows) (g.R.Rows.rows l.rows);
       lent : IfSome l.next (IsLentOf (g.R.Rows.rows l.rows));
-      found : first_after l.dbd.types l.ssas (option_copied l.place) (rows_from (lent_root l.next) (g.R.Rows.rows l.rows))
+      found : first_after l.dbd.types l.ssas (option_copied l.place) (rows_from_root (lent_root l.next) (g.R.Rows.rows l.rows))
           ≡ first_after l.dbd.types l.ssas (option_copied l.place) (g.R.Rows.rows l.rows);
     }
 

@@ -1,7 +1,7 @@
 use Rattle.std.proofs.Common.{rules, ◌≡◌, ◌≤◌, ◌∙◌, ap, sym, length, replicate}
 use Rattle.std.specs.Prelude.{None}
 use Rattle.std.proofs.lemmas.List.{take_all}
-use Rattle.script_run.specs.Running.{texts_before}
+use Rattle.script_run.specs.RunningScript.{texts_before}
 use Rattle.script_run.proofs.VariableTexts.{none_kept}
 use Rattle.script_run.proofs.script.put_back.Goals as goal
 

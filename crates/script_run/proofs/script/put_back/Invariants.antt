@@ -1,7 +1,7 @@
 -- what the variables were is the same, and of the first ones nothing is kept
 use Rattle.std.proofs.Common.{◌≡◌, length, replicate, take}
 use Rattle.std.specs.Prelude.{None}
-use Rattle.script_run.specs.Running.{texts_before}
+use Rattle.script_run.specs.RunningScript.{texts_before}
 use Rattle.script_run.proofs.script.put_back.Given as goal
 
 abbrev pub invariant-loop-place : goal.invariant-loop-place

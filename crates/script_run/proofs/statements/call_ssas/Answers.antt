@@ -2,7 +2,7 @@ use Rattle.std.proofs.Common.{◌∷◌, [], ◌++◌, List, map, take, ap, sym,
 use Rattle.std.proofs.lemmas.List.{map_more}
 use Rattle.tm_types.specs.declared.ssa.Ssa.{Ssa}
 use Rattle.model_system.specs.Script.{call_ssa}
-use Rattle.script_run.specs.Running.{IsKeyText, AreKeyTexts}
+use Rattle.script_run.specs.RunningScript.{IsKeyText, AreKeyTexts}
 use Rattle.script_run.proofs.statements.call_ssas.Goals as goal
 
 one_more : (made : List Ssa) (ssa : Ssa) → AreKeyTexts made → IsKeyText ssa.test → AreKeyTexts (made ++ ssa ∷ [])

@@ -2,7 +2,7 @@ use Rattle.std.proofs.Common.{◌≡◌, ℕ, List, ◌-◌, length, take, drop,
 use Rattle.std.proofs.lemmas.List.{take_all}
 use Rattle.model_system.specs.Texts.{words}
 use Rattle.tm_types.specs.Segment.{IsSegmentText}
-use Rattle.script_run.specs.Runs.{blanks_before, word_length}
+use Rattle.script_run.specs.TextRuns.{blanks_before, word_length}
 use Rattle.script_run.proofs.Words.{split_first, split_behind, word_taken, word_size}
 use Rattle.script_run.proofs.SegmentTexts.{take_text, drop_text}
 use Rattle.script_run.proofs.texts.split_word.Goals as goal

@@ -1,5 +1,5 @@
 use Rattle.std.proofs.Common.{sym, ◌∙◌}
-use Rattle.script_text.specs.Good.{places_in}
+use Rattle.script_text.specs.GoodStatement.{places_in}
 use Rattle.script_text.proofs.LabelSteps.{added}
 use Rattle.script_text.proofs.labels.add_label.Goals as goal
 

@@ -1,6 +1,6 @@
 use Rattle.std.proofs.Common.{◌≡◌, ◌∷◌, [], false, sym, subst, IfOk}
 use Rattle.std.specs.Prelude.{None}
-use Rattle.script_text.specs.Good.{places_in, IsGood}
+use Rattle.script_text.specs.GoodStatement.{places_in, IsGood}
 use Rattle.script_text.proofs.GoodStatements.{five_words}
 use Rattle.script_text.proofs.statements.if_of.Goals as goal
 

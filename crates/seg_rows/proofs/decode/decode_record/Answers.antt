@@ -1,6 +1,6 @@
 use Rattle.std.proofs.Common.{◌≡◌, ◌+◌, ◌-◌, ◌<◌, ◌≤◌, ◌++◌, ◌∷◌, [], Some, None, length, drop, sym, subst, ◌∙◌, arith}
 use Rattle.model_data.specs.Record.{record_limit}
-use Rattle.model_data.specs.Reading.{last_path, next_row}
+use Rattle.model_data.specs.RowsOfBytes.{last_path, next_row}
 use Rattle.tm_types.specs.SegTypes.{IsHierarchy}
 use Rattle.seg_rows.proofs.Decoding.{IsDecoded, decoded_none, decoded_more, decoded_all, refused_row, refused_length, refused_none, read_is, no_error, decodes_alone}
 use Rattle.seg_rows.proofs.decode.decode_record.Goals as goal

@@ -1,5 +1,5 @@
 use Rattle.std.proofs.Common.{◌≡◌, ◌++◌, take, drop}
-use Rattle.model_data.specs.Reading.{down_to}
+use Rattle.model_data.specs.RowsOfBytes.{down_to}
 use Rattle.seg_rows.proofs.decode.depth.Given as goal
 
 abbrev pub invariant-loop-i : goal.invariant-loop-i

@@ -2,7 +2,7 @@ use Rattle.std.proofs.Common.{◌≡◌, ◌≤◌, ◌+◌, ◌<◌, Some, leng
 use Rattle.std.specs.List.{slice_get, insert}
 use Rattle.std.proofs.lemmas.List.Edits.{length-insert}
 use Rattle.std.specs.Vec.{vec_len, vec_capacity}
-use Rattle.seg_store.specs.Changed.{with_number}
+use Rattle.seg_store.specs.ChangedSlots.{with_number}
 use Rattle.seg_store.specs.Store.{count_below}
 use Rattle.seg_store.proofs.Changes.{number_there, number_new}
 use Rattle.seg_store.proofs.Numbers.{below_within}

@@ -1,7 +1,7 @@
 use Rattle.std.proofs.Common.{take}
 use Rattle.std.specs.List.{AllByRecursion}
 use Rattle.seg_store.specs.Slots.{AreSlots}
-use Rattle.seg_store.specs.Changed.{Kept}
+use Rattle.seg_store.specs.ChangedSlots.{Kept}
 use Rattle.seg_store.proofs.stores.are_slots.Given as goal
 
 abbrev pub invariant-loop-store : goal.invariant-loop-store

@@ -1,8 +1,8 @@
 use Rattle.std.proofs.Common.{◌<◌, List, length, ◌∙◌, ap, arith}
 use Rattle.std.specs.List.{slice_get}
 use Rattle.std.specs.Prelude.{slice_set}
-use Rattle.seg_store.specs.Changed.{Kept}
-use Rattle.seg_store.specs.WriteBack.{written_kept}
+use Rattle.seg_store.specs.ChangedSlots.{Kept}
+use Rattle.seg_store.specs.WrittenSlots.{written_kept}
 use Rattle.seg_store.proofs.WritingBack.{partly_get, partly_set, found_at}
 use Rattle.seg_store.proofs.write_back.settle_all.Goals as goal
 

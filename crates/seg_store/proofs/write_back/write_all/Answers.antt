@@ -1,7 +1,7 @@
 use Rattle.std.proofs.Common.{◌≡◌, ◌<◌, ◌≤◌, length, sym, ◌∙◌, ap, subst, arith, IsTrue}
 use Rattle.std.proofs.lemmas.Option.{get_or_from_slice_get}
 use Rattle.tm_disk.proofs.Words.{stays_on}
-use Rattle.seg_store.specs.Changed.{Kept}
+use Rattle.seg_store.specs.ChangedSlots.{Kept}
 use Rattle.seg_store.proofs.WritingBack.{found_at, all_at, slots_within, count_within, sum_more, next_within, next_follows, next_front, next_has}
 use Rattle.seg_store.proofs.write_back.write_all.Goals as goal
 

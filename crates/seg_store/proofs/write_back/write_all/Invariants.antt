@@ -1,7 +1,7 @@
 use Rattle.std.proofs.Common.{◌≡◌, ◌+◌, ◌≤◌, take, IsTrue}
 use Rattle.tm_disk.specs.Disk.{Stays, Within, Follows}
 use Rattle.seg_store.specs.DataSectors.{MayPut, HasPut}
-use Rattle.seg_store.specs.WriteBack.{kept_slots, kept_count, kept_bytes}
+use Rattle.seg_store.specs.WrittenSlots.{kept_slots, kept_count, kept_bytes}
 use Rattle.seg_store.proofs.write_back.write_all.Given as goal
 
 abbrev pub invariant-loop-place : goal.invariant-loop-place

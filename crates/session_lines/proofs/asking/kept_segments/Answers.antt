@@ -2,7 +2,7 @@ use Rattle.std.proofs.Common.{◌≡◌, ℕ, true, List, [], ◌∷◌, map, ap
 use Rattle.tm_types.specs.Words.{operands}
 use Rattle.tm_types.specs.Segment.{are_printable}
 use Rattle.model_session.specs.Lines.{first_long, input_text, kept_texts}
-use Rattle.session_lines.specs.Asking.{IsStop}
+use Rattle.session_lines.specs.BlockReading.{IsStop}
 use Rattle.session_lines.proofs.Stops.{first_stops}
 use Rattle.session_lines.proofs.Printable.{printable_operands, text_at}
 use Rattle.session_lines.proofs.asking.kept_segments.Goals as goal

@@ -2,10 +2,10 @@ use Rattle.std.proofs.Common.{◌≡◌, ◌∙◌, false, length, ap, subst, sy
 use Rattle.std.specs.Prelude.{Result, Ok, Err, IfOk}
 use Rattle.model_system.specs.System.{System}
 use Rattle.model_session.specs.declared.asked.Asked.{Asked}
-use Rattle.model_session.specs.Blocks.{Block, alone}
+use Rattle.model_session.specs.Blocks.{Block, block_alone}
 use Rattle.model_session.specs.Lines.{asked_of, block_form, is_command}
-use Rattle.model_session.specs.Bounded.{AsksAlike, whole, with_lines}
-use Rattle.session_lines.specs.Asking.{HasFew}
+use Rattle.model_session.specs.BoundedBlocks.{AsksAlike, whole, with_lines}
+use Rattle.session_lines.specs.BlockReading.{HasFew}
 use Rattle.session_lines.proofs.Enough.{enough_asked}
 use Rattle.session_lines.proofs.asking.read_block.Goals as goal
 
@@ -22,5 +22,5 @@ few_kept system block kept made few = subst (λ (b : Block). IsFew system b) mad
 
 pub returns-clause-enough : goal.returns-clause-enough
 returns-clause-enough c = λ line lines takes made.
-    asks_enough c.args.system.now c.args.block.now (with_lines (alone line) lines) (asked_of c.args.system.now (whole line lines)) c.asked_block.result made
-    (enough_asked c.args.system.now line lines takes (few_kept c.args.system.now c.args.block.now (with_lines (alone line) lines) made c.asked_block.ensures.few)) c.asked_block.ensures.asked
+    asks_enough c.args.system.now c.args.block.now (with_lines (block_alone line) lines) (asked_of c.args.system.now (whole line lines)) c.asked_block.result made
+    (enough_asked c.args.system.now line lines takes (few_kept c.args.system.now c.args.block.now (with_lines (block_alone line) lines) made c.asked_block.ensures.few)) c.asked_block.ensures.asked

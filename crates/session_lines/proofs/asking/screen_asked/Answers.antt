@@ -1,7 +1,7 @@
 use Rattle.std.proofs.Common.{◌≡◌, sym, rules}
 use Rattle.std.specs.Prelude.{Some}
-use Rattle.model_system.specs.Entering.{entered}
-use Rattle.model_system.specs.ModelSystemFormats.{format_of}
+use Rattle.model_system.specs.ScreenInput.{entered}
+use Rattle.model_system.specs.SystemFormats.{format_of}
 use Rattle.model_session.specs.Lines as spec
 use Rattle.session_lines.proofs.Screens.{if_asked, refusal_asked, segments_asked}
 use Rattle.session_lines.proofs.asking.screen_asked.Goals as goal

@@ -1,6 +1,6 @@
 -- the values so far, and those of the entries that are still to come
 use Rattle.std.proofs.Common.{◌≡◌, ◌++◌}
-use Rattle.session_lines.specs.Values.{values_of}
+use Rattle.session_lines.specs.LastValues.{values_of}
 use Rattle.session_lines.proofs.values.copied_values.Given as goal
 
 abbrev pub invariant-loop-name : goal.invariant-loop-name

@@ -1,7 +1,7 @@
 -- the text that was made before is that of the answer
 use Rattle.std.proofs.Common.{◌≡◌, ◌++◌, ◌∙◌, ap, ◌*◌, arith}
-use Rattle.model_machine.specs.ModelMachineCommands.{command_answer}
-use Rattle.model_machine.specs.History.{now_of}
+use Rattle.model_machine.specs.CommandAnswers.{command_answer}
+use Rattle.model_machine.specs.History.{control_moment}
 use Rattle.model_session.specs.Text.{command_text}
 use Rattle.session_lives.proofs.Asked.{asked_command}
 use Rattle.model_machine.specs.declared.entry.Entry.{Entry}
@@ -12,7 +12,7 @@ use Rattle.session_lives.proofs.asking.answer_command.Goals as goal
 
 pub returns-clause-asked : goal.returns-clause-asked
 returns-clause-asked g c =
-    let printed : c.push.new.self.text ≡ command_text (command_answer c.args.control.now.control.system (now_of c.args.control.now.control) c.args.command.now) =
+    let printed : c.push.new.self.text ≡ command_text (command_answer c.args.control.now.control.system (control_moment c.args.control.now.control) c.args.command.now) =
     c.push.ensures.text ∙ ap (λ t. c.make_room.new.self.text ++ t) c.deref.ensures.value ∙ ap (λ t. t ++ c.in-Ok.text.items) (c.make_room.ensures.text ∙ c.requires.empty) ∙ c.in-Ok.ensures in
     asked_command g.D.Disk.state c.args.command.now c.command-answer.result c.args.control.now c.command-answer.new.self c.push.new.self.text
     c.command_called.result (c.command_called.ensures c.args.command.now) c.command-answer.ensures.spent c.command-answer.ensures.nothing c.command-answer.ensures.adds printed

@@ -1,7 +1,7 @@
 -- by the fault that the call met
 use Rattle.std.proofs.Common.{◌≡◌, rules, refl, ◌*◌, arith}
 use Rattle.model_machine.specs.declared.entry.Entry.TheVariants.{Accept}
-use Rattle.model_machine.specs.Lasting.{code_word}
+use Rattle.model_machine.specs.LastingSteps.{code_word}
 use Rattle.model_session.specs.Text.{input_text, shown_word}
 use Rattle.session_lives.proofs.Asked.{asked_call}
 use Rattle.model_machine.specs.declared.entry.Entry.{Entry}

@@ -1,7 +1,7 @@
 -- the disk as it was cut, and a stop more where it had failed
 use Rattle.std.proofs.Common.{◌++◌, ◌∷◌, [], ◌∙◌, ap, subst, refl}
 use Rattle.std.specs.Prelude.{if◌then◌else◌}
-use Rattle.tm_control.specs.Closed.{Closes}
+use Rattle.tm_control.specs.ClosedControl.{Closes}
 use Rattle.session_lives.proofs.opening.go_down.Goals as goal
 
 pub returns-clause-down : goal.returns-clause-down

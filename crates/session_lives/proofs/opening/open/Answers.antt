@@ -1,11 +1,11 @@
 -- by the refusal
 use Rattle.std.proofs.Common.{◌≡◌, ◌∙◌, ap, subst, refl}
 use Rattle.tm_disk.proofs.Words.{keeps_same}
-use Rattle.openings.specs.Opened.{HandsBack}
+use Rattle.openings.specs.LifeBeginning.{HandsBack}
 use Rattle.model_machine.specs.Machine.{start_of}
 use Rattle.model_machine.specs.History.{moment_after}
-use Rattle.tm_control.specs.Closed.{Opens}
-use Rattle.session_lives.specs.Openings.{with_last, how_of, StandsAbove}
+use Rattle.tm_control.specs.ClosedControl.{OpensControl}
+use Rattle.session_lives.specs.Openings.{with_last_life, how_of, StandsAbove}
 use Rattle.session_lives.proofs.Refusals.{refused_gone}
 use Rattle.session_lives.proofs.opening.open.Goals as goal
 
@@ -34,8 +34,8 @@ returns-in-Err-clause-gone g c =
 pub returns-in-Ok-clause-gone : goal.returns-in-Ok-clause-gone
 returns-in-Ok-clause-gone g c =
     let control = c.in-Ok.control.control in
-    let opens : Opens g.D.Disk.state (how_of c.args.cold) c.args.idle.system c.args.idle.text c.args.idle.disk c.in-Ok.control =
-    subst (λ h. Opens g.D.Disk.state h c.args.idle.system c.args.idle.text c.args.idle.disk c.in-Ok.control) c.how.ensures c.in-Ok.ensures.opened in
+    let opens : OpensControl g.D.Disk.state (how_of c.args.cold) c.args.idle.system c.args.idle.text c.args.idle.disk c.in-Ok.control =
+    subst (λ h. OpensControl g.D.Disk.state h c.args.idle.system c.args.idle.text c.args.idle.disk c.in-Ok.control) c.how.ensures c.in-Ok.ensures.opened in
     let steps : c.steps.result ≡ control.opening.steps = c.steps.ensures ∙ ap (λ h. (moment_after control.system (start_of control.system control.opening) h).lasting.steps) opens.history in
     record {
       control = c.in-Ok.control;
@@ -44,8 +44,8 @@ returns-in-Ok-clause-gone g c =
       lasts = c.in-Ok.ensures.lasts;
       counts = c.in-Ok.ensures.counts;
       stands = subst (λ h. StandsAbove h c.args.idle.system (g.D.Disk.state c.args.idle.disk) c.in-Ok.control.journal c.in-Ok.control.next_unit) c.how.ensures c.in-Ok.ensures.stands;
-      lives = c.keep.ensures.items ∙ ap (λ l. with_last l c.args.idle.last c.args.cold c.steps.result) c.make_room.ensures.lives
-          ∙ ap (with_last c.args.kept.lives.items c.args.idle.last c.args.cold) steps;
+      lives = c.keep.ensures.items ∙ ap (λ l. with_last_life l c.args.idle.last c.args.cold c.steps.result) c.make_room.ensures.lives
+          ∙ ap (with_last_life c.args.kept.lives.items c.args.idle.last c.args.cold) steps;
       stops = c.make_room.ensures.stops;
       pick = c.make_room.ensures.pick;
     }

@@ -1,7 +1,7 @@
 -- what was read, asked of the control region
 use Rattle.std.proofs.Common.{◌≡◌, sym, ◌∙◌, ap, subst}
 use Rattle.model_session.specs.Lines.{asked_of}
-use Rattle.session_lives.specs.Asking.{IsAsked, StaysBy, pick_by}
+use Rattle.session_lives.specs.AskedControl.{IsAsked, StaysBy, pick_by}
 use Rattle.session_lives.proofs.Blocks.{stays_unread, undone_unread}
 use Rattle.session_lives.proofs.Picks.{pick_undone}
 use Rattle.session_lives.proofs.serve.ask_block.Goals as goal

@@ -1,5 +1,5 @@
 -- what was read
-use Rattle.session_lives.specs.Running.{session_down}
+use Rattle.session_lives.specs.RunningSession.{session_down}
 use Rattle.session_lives.proofs.Blocks.{not_served, block_down}
 use Rattle.session_lives.proofs.serve.serve_idle.Goals as goal
 

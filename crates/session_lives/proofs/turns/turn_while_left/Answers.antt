@@ -1,7 +1,7 @@
 -- where something is left to do there is a region, which turns next
 use Rattle.std.specs.Prelude.{Ok, Err}
 use Rattle.std.proofs.Common.{◌≡◌, ◌+◌, ◌%◌, false, length, ap, sym, ◌∙◌, refl, arith}
-use Rattle.model_session.specs.Turns.{region_after}
+use Rattle.model_session.specs.QuietTurns.{region_behind_turns}
 use Rattle.session_lives.proofs.Asked.{spent_up}
 use Rattle.session_lives.proofs.Counting.{pace_on, pace_turn}
 use Rattle.session_lives.proofs.Turned.{turned_next, turned_fails, turns_end, turns_stand}
@@ -13,7 +13,7 @@ returns-then-quiet-clause-turned g c =
 
 pub returns-in-Err-Disk-clause-turned : goal.returns-in-Err-Disk-clause-turned
 returns-in-Err-Disk-clause-turned g c =
-    let next : (c.loop-turns.turns % length c.regions-regions.result.now) + 1 ≡ region_after c.loop-turns.control.control.system c.loop-turns.turns =
+    let next : (c.loop-turns.turns % length c.regions-regions.result.now) + 1 ≡ region_behind_turns c.loop-turns.control.control.system c.loop-turns.turns =
     ap (λ rs. c.loop-turns.turns % length rs + 1) (c.regions-regions.ensures.value ∙ ap (λ s. s.regions) c.system.ensures) in
     turned_fails g.D.Disk.state c.args.most c.loop-turns.turns c.args.control.now c.loop-turns.control c.turn.new.self _ c.loop-turns.invariant c.loop-turns-test.true
     (sym c.quiet.ensures ∙ c.if-quiet.false) next (rw c.in-Err-Disk.field-0-is at c.in-Err-Disk.ensures.adds)
@@ -32,7 +32,7 @@ returns-in-Err-Spent-clause-turned g c = (
 
 pub loop-turns-preserved : goal.loop-turns-preserved
 loop-turns-preserved g c =
-    let next : (c.loop-turns.turns % length c.regions-regions.result.now) + 1 ≡ region_after c.loop-turns.control.control.system c.loop-turns.turns =
+    let next : (c.loop-turns.turns % length c.regions-regions.result.now) + 1 ≡ region_behind_turns c.loop-turns.control.control.system c.loop-turns.turns =
     ap (λ rs. c.loop-turns.turns % length rs + 1) (c.regions-regions.ensures.value ∙ ap (λ s. s.regions) c.system.ensures) in
     turned_next g.D.Disk.state c.loop-turns.turns c.args.control.now c.loop-turns.control c.turn.new.self c.in-Ok.field-0 _ c.loop-turns.invariant
     (sym c.quiet.ensures ∙ c.if-quiet.false) next c.in-Ok.ensures.adds c.turn.ensures.stays

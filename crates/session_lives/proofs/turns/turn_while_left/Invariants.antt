@@ -1,4 +1,4 @@
-use Rattle.session_lives.specs.Turning.{TurnsSoFar}
+use Rattle.session_lives.specs.RegionTurns.{TurnsSoFar}
 use Rattle.session_lives.proofs.turns.turn_while_left.Given as goal
 
 abbrev pub invariant-loop-turns : goal.invariant-loop-turns

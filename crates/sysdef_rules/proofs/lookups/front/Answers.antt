@@ -6,4 +6,4 @@ use Rattle.sysdef_rules.proofs.Fronts.{front_all}
 use Rattle.sysdef_rules.proofs.lookups.front.Goals as goal
 
 pub returns-clause-all : goal.returns-clause-all
-returns-clause-all c = ap (λ (lines : List MacroLine). list_all (λ line. spec.is_of c.args.kind line.content) lines) c.front_of.ensures ∙ front_all c.args.kind c.args.lines.now
+returns-clause-all c = ap (λ (lines : List MacroLine). list_all (λ line. spec.is_of_kind c.args.kind line.content) lines) c.front_of.ensures ∙ front_all c.args.kind c.args.lines.now

@@ -1,5 +1,5 @@
 use Rattle.std.proofs.Common.{◌≡◌, drop}
-use Rattle.model_system.specs.ModelSystemFormats as spec
+use Rattle.model_system.specs.SystemFormats as spec
 use Rattle.system_types.proofs.formats.format_name.Given as goal
 
 abbrev pub invariant-loop-screen : goal.invariant-loop-screen

@@ -1,6 +1,6 @@
 use Rattle.std.proofs.Common.{◌≡◌, drop, All}
-use Rattle.model_system.specs.Breaks.{KeepsRule}
-use Rattle.model_system.specs.ModelSystemFormats as spec
+use Rattle.model_system.specs.FormatRule.{KeepsRule}
+use Rattle.model_system.specs.SystemFormats as spec
 use Rattle.system_types.proofs.formats.format_named.Given as goal
 
 abbrev pub invariant-loop-format : goal.invariant-loop-format

@@ -3,7 +3,7 @@ use Rattle.std.proofs.lemmas.List.{ext_get_or}
 use Rattle.tm_disk.specs.Disk.{sector_at}
 use Rattle.tm_disk.specs.Moments.{writes_to, picked, digits}
 use Rattle.tm_disk.specs.MomentLaws.{length-picked}
-use Rattle.tm_disk.specs.Numbered.{image_by}
+use Rattle.tm_disk.specs.NumberedSectors.{image_by}
 use Rattle.tm_disk.proofs.Numbers.{length_image_by, sector_at-image_by}
 use Rattle.tm_disk.proofs.Picks.{picked-digits, length-digits}
 use Rattle.tm_disk.proofs.images.choose.Goals as goal

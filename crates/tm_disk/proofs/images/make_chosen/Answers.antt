@@ -1,7 +1,7 @@
 -- one write after another
 use Rattle.std.proofs.Common.{◌+◌, ◌-◌, ◌∙◌, arith, refl, ap, get_or, set}
 use Rattle.std.proofs.lemmas.List.{get_or_default}
-use Rattle.tm_disk.specs.Numbered.{chosen_by}
+use Rattle.tm_disk.specs.NumberedSectors.{chosen_by}
 use Rattle.tm_disk.specs.Record.{nothing_written}
 use Rattle.tm_disk.specs.Written.{Written}
 use Rattle.tm_disk.proofs.Numbers.{chosen_start, chosen_next, chosen_end}

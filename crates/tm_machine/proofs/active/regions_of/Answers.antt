@@ -1,6 +1,6 @@
 use Rattle.std.proofs.Common.{◌+◌, ◌<◌, ◌++◌, List, length, drop, ap, ◌∙◌, arith}
 use Rattle.model_machine.specs.declared.active.ActiveRegion.{ActiveRegion}
-use Rattle.model_machine.specs.ModelMachineCommands.{active_from}
+use Rattle.model_machine.specs.CommandAnswers.{active_from}
 use Rattle.tm_machine.proofs.Regions.{active_more}
 use Rattle.tm_machine.proofs.active.regions_of.Goals as goal
 

@@ -1,5 +1,5 @@
 use Rattle.std.proofs.Common.{◌≡◌, ◌+◌, ◌++◌, drop}
-use Rattle.model_machine.specs.ModelMachineCommands.{active_from}
+use Rattle.model_machine.specs.CommandAnswers.{active_from}
 use Rattle.tm_machine.proofs.active.regions_of.Given as goal
 
 abbrev pub invariant-loop-place : goal.invariant-loop-place

@@ -1,5 +1,5 @@
 use Rattle.std.proofs.Common.{◌≡◌, ◌+◌, drop}
-use Rattle.model_machine.specs.ModelMachineCommands.{first_busy}
+use Rattle.model_machine.specs.CommandAnswers.{first_busy}
 use Rattle.tm_machine.proofs.busy.busy_region.Given as goal
 
 abbrev pub invariant-loop-place : goal.invariant-loop-place

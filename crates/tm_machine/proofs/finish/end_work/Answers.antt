@@ -1,16 +1,16 @@
 use Rattle.std.proofs.Common.{rules, ◌-◌, ◌∷◌, ◌≡◌, ◌∙◌, ap, sym, subst}
 use Rattle.std.specs.Prelude.{IsSome}
 use Rattle.model_messages.specs.Queue.{queued_at}
-use Rattle.model_machine.specs.Lasting.{LastingStep}
-use Rattle.model_machine.specs.Lasting.LastingStep.{Completes}
-use Rattle.program_rows.specs.State.{region_at}
-use Rattle.lasting_state.specs.Ranges.{HaveCounts}
-use Rattle.lasting_state.specs.Telling.{IsLonger, Tells}
+use Rattle.model_machine.specs.LastingSteps.{LastingStep}
+use Rattle.model_machine.specs.LastingSteps.LastingStep.{Completes}
+use Rattle.program_rows.specs.DatabasesState.{region_at}
+use Rattle.lasting_state.specs.RecordRanges.{HaveCounts}
+use Rattle.lasting_state.specs.ToldSteps.{AreRecordsLonger, TellsStep}
 use Rattle.tm_machine.proofs.Full.{err_where}
 use Rattle.region_work.specs.declared.region.Busy.{Busy}
-use Rattle.region_work.specs.Ends.{destinations}
-use Rattle.region_work.specs.Region.{outputs_by}
-use Rattle.tm_machine.specs.Ends.{IsCompleted, completion_of}
+use Rattle.region_work.specs.WorkEnds.{destinations}
+use Rattle.region_work.specs.RegionWork.{outputs_by}
+use Rattle.tm_machine.specs.WorkEnds.{IsCompleted, completion_of}
 use Rattle.tm_machine.proofs.Ended.{completed, completes, same_busy}
 use Rattle.tm_machine.proofs.Telling.{short_pad}
 use Rattle.tm_machine.proofs.finish.end_work.Goals as goal
@@ -37,13 +37,13 @@ returns-clause-completed c = λ busy is.
 
 pub returns-clause-told : goal.returns-clause-told
 returns-clause-told c = λ busy is.
-    subst (λ (b : Busy). Tells c.args.unit c.args.room (completion_of c.args.region c.args.tables.now b) c.args.tables.now c.args.told.now.items c.complete.new.told.items) (same_busy c.args.regions.now.items c.as_slice.result.now (c.args.region - 1) c.busy_at-busy.result.now busy c.as_slice.ensures.value c.busy_at-busy.ensures is)
-    (subst (λ (s : LastingStep). Tells c.args.unit c.args.room s c.args.tables.now c.args.told.now.items c.complete.new.told.items) (completes c.args.region c.args.tables.now c.busy_at-busy.result.now c.in_ok-outputs.outputs.items c.in_ok-outputs.ensures c.in_ok-pad.pad c.in_ok-pad.ensures.value) c.in_ok-complete.ensures.told)
+    subst (λ (b : Busy). TellsStep c.args.unit c.args.room (completion_of c.args.region c.args.tables.now b) c.args.tables.now c.args.told.now.items c.complete.new.told.items) (same_busy c.args.regions.now.items c.as_slice.result.now (c.args.region - 1) c.busy_at-busy.result.now busy c.as_slice.ensures.value c.busy_at-busy.ensures is)
+    (subst (λ (s : LastingStep). TellsStep c.args.unit c.args.room s c.args.tables.now c.args.told.now.items c.complete.new.told.items) (completes c.args.region c.args.tables.now c.busy_at-busy.result.now c.in_ok-outputs.outputs.items c.in_ok-outputs.ensures c.in_ok-pad.pad c.in_ok-pad.ensures.value) c.in_ok-complete.ensures.told)
 
 pub returns-in_err-complete-clause-full : goal.returns-in_err-complete-clause-full
 returns-in_err-complete-clause-full c =
     err_where c.from_residual-in_err-complete.result
-    (λ (longer : IsLonger c.args.unit c.args.room (Completes c.busy_at-busy.result.now.id (region_at c.args.region c.args.tables.now.databases).rows c.in_ok-outputs.outputs.items c.in_ok-pad.pad) c.args.tables.now) busy is.
-    subst (λ (b : Busy). IsLonger c.args.unit c.args.room (completion_of c.args.region c.args.tables.now b) c.args.tables.now) (same_busy c.args.regions.now.items c.as_slice.result.now (c.args.region - 1) c.busy_at-busy.result.now busy c.as_slice.ensures.value c.busy_at-busy.ensures is)
-    (subst (λ (s : LastingStep). IsLonger c.args.unit c.args.room s c.args.tables.now) (completes c.args.region c.args.tables.now c.busy_at-busy.result.now c.in_ok-outputs.outputs.items c.in_ok-outputs.ensures c.in_ok-pad.pad c.in_ok-pad.ensures.value) longer))
+    (λ (longer : AreRecordsLonger c.args.unit c.args.room (Completes c.busy_at-busy.result.now.id (region_at c.args.region c.args.tables.now.databases).rows c.in_ok-outputs.outputs.items c.in_ok-pad.pad) c.args.tables.now) busy is.
+    subst (λ (b : Busy). AreRecordsLonger c.args.unit c.args.room (completion_of c.args.region c.args.tables.now b) c.args.tables.now) (same_busy c.args.regions.now.items c.as_slice.result.now (c.args.region - 1) c.busy_at-busy.result.now busy c.as_slice.ensures.value c.busy_at-busy.ensures is)
+    (subst (λ (s : LastingStep). AreRecordsLonger c.args.unit c.args.room s c.args.tables.now) (completes c.args.region c.args.tables.now c.busy_at-busy.result.now c.in_ok-outputs.outputs.items c.in_ok-outputs.ensures c.in_ok-pad.pad c.in_ok-pad.ensures.value) longer))
     (search rules)

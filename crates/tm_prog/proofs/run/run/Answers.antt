@@ -3,7 +3,7 @@ use Rattle.std.proofs.Common.{rules, map, sym, subst}
 use Rattle.std.specs.Prelude.{string_bytes}
 use Rattle.tm_session.specs.declared.outcome.Ended.{Ended}
 use Rattle.tm_prog.specs.Words.{workload_of}
-use Rattle.tm_prog.specs.Workload.{told_by}
+use Rattle.tm_prog.specs.Workload.{bytes_served_by}
 use Rattle.tm_prog.specs.Status.{IsNear}
 use Rattle.tm_prog.proofs.Causes.{complete_run, near_run}
 use Rattle.tm_prog.proofs.Runs.{no_room}
@@ -24,7 +24,7 @@ returns-clause-complete g c = λ valid reads writes within.
 
 pub returns-then-is_err-clause-near : goal.returns-then-is_err-clause-near
 returns-then-is_err-clause-near g c =
-    subst (λ (s : Ended). IsNear (told_by (workload_of (map (λ word. string_bytes word) c.args.words.now)) (g.S.Source.left c.args.source.now)) (g.D.Disk.state c.args.disk) s) (sym c.unbegun.ensures.status) tt
+    subst (λ (s : Ended). IsNear (bytes_served_by (workload_of (map (λ word. string_bytes word) c.args.words.now)) (g.S.Source.left c.args.source.now)) (g.D.Disk.state c.args.disk) s) (sym c.unbegun.ensures.status) tt
 
 pub returns-clause-near : goal.returns-clause-near
 returns-clause-near g c =

@@ -1,8 +1,8 @@
 use Rattle.std.proofs.Common.{length, sym, ◌∙◌, ap, subst}
 use Rattle.model_image.specs.Slots.{all_slots, slot_fault}
-use Rattle.image_loading.specs.Databases.{databases_in, AreImages}
-use Rattle.image_loading.specs.ImageLoadingLoading.{AreSlotted}
-use Rattle.image_reading.specs.Giving.{AreNamedBytes}
+use Rattle.image_loading.specs.Databases.{slots_of_databases, AreImages}
+use Rattle.image_loading.specs.LoadedStores.{AreSlotted}
+use Rattle.image_reading.specs.NamedBytes.{AreNamedBytes}
 use Rattle.tm_restart.proofs.NamedSlots.{given_images, databases_are, same_fault, same_count}
 use Rattle.tm_restart.proofs.databases.load_named.Goals as goal
 
@@ -26,4 +26,4 @@ returns-in-Err-clause-value g c tells snapshot log are =
     let image = (g.D.Disk.state c.args.disk.now).shown in
     let given = c.deref.result.now in
     let bytes : AreNamedBytes (length system.databases) c.args.named.now given = subst (λ l. AreNamedBytes (length system.databases) c.args.named.now l) (sym c.deref.ensures.value) (same_count _ (length system.databases) c.args.named.now c.in-Ok.given.items (ap length c.databases.ensures.value) c.in-Ok.ensures) in
-    same_fault c.in-Err.fault (databases_in system image given 0 system.databases) (all_slots system image snapshot log 0 system.databases) (databases_are system image c.args.named.now given snapshot log bytes are) (c.in-Err.ensures.value tells)
+    same_fault c.in-Err.fault (slots_of_databases system image given 0 system.databases) (all_slots system image snapshot log 0 system.databases) (databases_are system image c.args.named.now given snapshot log bytes are) (c.in-Err.ensures.value tells)

@@ -2,8 +2,8 @@ use Rattle.std.proofs.Common.{ℕ, Ok, Err, sym, subst, ap, ◌∙◌}
 use Rattle.tm_disk.specs.Disk.{Image}
 use Rattle.tm_disk.proofs.Words.{keeps_on}
 use Rattle.restart_data.specs.Restart.{restart_in}
-use Rattle.restart_data.specs.Images.{TellsRestart}
-use Rattle.tm_restart.specs.Found.{TellsFound}
+use Rattle.restart_data.specs.WrittenSectors.{TellsRestart}
+use Rattle.tm_restart.specs.FoundImage.{TellsFound}
 use Rattle.tm_restart.proofs.Seen.{bad_first}
 use Rattle.openings.proofs.Reading.{told_before}
 use Rattle.tm_restart.proofs.finding.find.Goals as goal

@@ -4,7 +4,7 @@ use Rattle.tm_disk.proofs.Words.{keeps_on}
 use Rattle.restart_data.specs.Restart.{restart_in}
 use Rattle.model_image.specs.Areas.{snapshot_area}
 use Rattle.model_image.specs.Text.{text_in, first_difference}
-use Rattle.tm_restart.specs.Found.{TellsFound}
+use Rattle.tm_restart.specs.FoundImage.{TellsFound}
 use Rattle.tm_restart.proofs.Seen.{other_seen}
 use Rattle.openings.proofs.Reading.{told_before, told_behind}
 use Rattle.tm_restart.proofs.FoundBehind.{found_cause, found_size}

@@ -1,5 +1,5 @@
 use Rattle.std.proofs.Common.{Err, subst, sym}
-use Rattle.tm_restart.specs.Looked.{TellsLook, LookCause}
+use Rattle.tm_restart.specs.LookedImage.{TellsLook, LookCause}
 use Rattle.tm_restart.proofs.Seen.{bad_seen, spent_seen}
 use Rattle.tm_restart.proofs.finding.find_rest.Goals as goal
 

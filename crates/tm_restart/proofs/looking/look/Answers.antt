@@ -2,11 +2,11 @@ use Rattle.std.proofs.Common.{Ok, Err, ◌*◌, sym, ◌∙◌, ap, subst, IsTru
 use Rattle.tm_disk.specs.Disk.{Image}
 use Rattle.tm_disk.proofs.Words.{keeps_on}
 use Rattle.model_image.specs.Areas.{log_first}
-use Rattle.model_image.specs.Recovered.{log_in, first_later}
+use Rattle.model_image.specs.RecoveredState.{log_in, first_later}
 use Rattle.model_image.specs.Slots.{all_slots}
-use Rattle.image_records.specs.NamedSlots.{AreNamed}
+use Rattle.image_records.specs.NamedSlots.{AreSlotsNamed}
 use Rattle.tm_restart.specs.declared.replaying.Reread.{Reread}
-use Rattle.tm_restart.specs.Databases.{TellsNamed}
+use Rattle.tm_restart.specs.NamedDatabases.{TellsNamed}
 use Rattle.tm_restart.proofs.LookedAt.{look_good, look_later, look_bad}
 use Rattle.tm_restart.proofs.looking.look.Goals as goal
 
@@ -17,7 +17,7 @@ returns-in-Err-Bad-clause-value g c tells =
     let keeps = c.in-Ok.ensures.keeps in
     let rp = c.in-Ok.ensures.value tells in
     let log = (log_in system old.shown c.args.restart.now).records in
-    let are = subst (λ l. AreNamed rp.snapshot log l) (sym (c.deref.ensures.value ∙ ap (λ (x : Reread). x.replayed.slots) c.reread.view_is)) rp.behind.slots in
+    let are = subst (λ l. AreSlotsNamed rp.snapshot log l) (sym (c.deref.ensures.value ∙ ap (λ (x : Reread). x.replayed.slots) c.reread.view_is)) rp.behind.slots in
     let told = c.in-Err-Bad.ensures.value (subst IsTrue (sym keeps.stays.tells) tells) rp.snapshot log are in
     look_bad system old.shown c.args.restart.now (c.requires.has tells) c.in-Ok.reread rp (c.in-Err-Bad.rule, c.in-Err-Bad.sector)
     (subst (λ fault. TellsNamed (Err fault) (all_slots system old.shown rp.snapshot log 0 system.databases)) c.in-Err-Bad.field-0-is
@@ -34,7 +34,7 @@ returns-in-Ok-None-clause-value g c tells =
     let both = keeps_on old mid last (g.met.D.Disk.is_disk c.args.disk.now) keeps c.in-Ok-load_named.ensures.keeps in
     let rp = c.in-Ok.ensures.value tells in
     let log = (log_in system old.shown r).records in
-    let are = subst (λ l. AreNamed rp.snapshot log l) (sym (c.deref.ensures.value ∙ ap (λ (x : Reread). x.replayed.slots) c.reread.view_is)) rp.behind.slots in
+    let are = subst (λ l. AreSlotsNamed rp.snapshot log l) (sym (c.deref.ensures.value ∙ ap (λ (x : Reread). x.replayed.slots) c.reread.view_is)) rp.behind.slots in
     let told = subst (λ (i : Image). TellsNamed (Ok c.in-Ok-load_named.named) (all_slots system i rp.snapshot log 0 system.databases)) keeps.shown (c.in-Ok-load_named.ensures.value (subst IsTrue (sym keeps.stays.tells) tells) rp.snapshot log are) in
     let later = c.in-Ok-None.ensures.value (subst IsTrue (sym both.stays.tells) tells) in
     look_good system old.shown r (c.requires.has tells) (record { reread = c.in-Ok.reread; named = c.in-Ok-load_named.named }) rp c.in-Ok-load_named.ensures.made told.1 told.0
@@ -65,7 +65,7 @@ returns-in-Ok-Some-clause-value g c tells =
     let both = keeps_on old mid last (g.met.D.Disk.is_disk c.args.disk.now) keeps c.in-Ok-load_named.ensures.keeps in
     let rp = c.in-Ok.ensures.value tells in
     let log = (log_in system old.shown r).records in
-    let are = subst (λ l. AreNamed rp.snapshot log l) (sym (c.deref.ensures.value ∙ ap (λ (x : Reread). x.replayed.slots) c.reread.view_is)) rp.behind.slots in
+    let are = subst (λ l. AreSlotsNamed rp.snapshot log l) (sym (c.deref.ensures.value ∙ ap (λ (x : Reread). x.replayed.slots) c.reread.view_is)) rp.behind.slots in
     let told = subst (λ (i : Image). TellsNamed (Ok c.in-Ok-load_named.named) (all_slots system i rp.snapshot log 0 system.databases)) keeps.shown (c.in-Ok-load_named.ensures.value (subst IsTrue (sym keeps.stays.tells) tells) rp.snapshot log are) in
     let later = c.in-Ok-Some.ensures.value (subst IsTrue (sym both.stays.tells) tells) in
     look_later system old.shown r (c.requires.has tells) (record { reread = c.in-Ok.reread; named = c.in-Ok-load_named.named }) rp c.in-Ok-Some.sector c.in-Ok-load_named.ensures.made told.1 told.0

@@ -1,7 +1,7 @@
 use Rattle.std.proofs.Common.{◌≡◌, IsTrue}
 use Rattle.tm_disk.specs.Disk.{Stays, Within, Follows}
 use Rattle.model_image.specs.Areas.{data_first}
-use Rattle.tm_restart.specs.Given.{MayPutAll, HasPutFront}
+use Rattle.tm_restart.specs.GivenSlots.{MayPutAll, HasPutFront}
 use Rattle.tm_restart.proofs.putting.put_all.Given as goal
 
 abbrev pub invariant-loop-place : goal.invariant-loop-place

@@ -1,10 +1,9 @@
 use Rattle.std.proofs.Common.{sym, subst}
-use Rattle.tm_disk.specs.Disk.{Within, Follows}
-use Rattle.restart_data.specs.Snapshot.{sectors_of}
-use Rattle.restart_data.specs.Images.{ChangesOnly}
+use Rattle.tm_disk.specs.Disk.{Within, Follows, ChangesOnly}
+use Rattle.restart_data.specs.Snapshot.{snapshot_sectors_of}
 use Rattle.model_image.specs.Areas.{snapshot_area}
 use Rattle.seg_store.proofs.Putting.{at_ok}
-use Rattle.tm_restart.specs.Given.{HasPutAll}
+use Rattle.tm_restart.specs.GivenSlots.{HasPutAll}
 use Rattle.tm_restart.proofs.Rewriting.{sectors_fit, prepared_within}
 use Rattle.tm_restart.proofs.renewing.prepare.Goals as goal
 
@@ -19,7 +18,7 @@ returns-in-Ok-clause-any_moment g c =
     let new = g.D.Disk.state c.save_snapshot.new.disk in
     prepared_within system given bytes now old mid new (sectors_fit (Rattle.std.specs.Prelude.length bytes) (snapshot_area system) c.requires.fits) c.save_slots.ensures.any_moment
     (at_ok c.save_slots.result (Follows (HasPutAll system given) old mid) (sym c.if-is_err.ensures.value) c.save_slots.ensures.done)
-    (subst (λ first. Within (ChangesOnly first (sectors_of (Rattle.std.specs.Prelude.length bytes))) mid new) c.snapshot_first-first.ensures.value c.save_snapshot.ensures.any_moment)
+    (subst (λ first. Within (ChangesOnly first (snapshot_sectors_of (Rattle.std.specs.Prelude.length bytes))) mid new) c.snapshot_first-first.ensures.value c.save_snapshot.ensures.any_moment)
 
 pub returns-in-Err-clause-any_moment : goal.returns-in-Err-clause-any_moment
 returns-in-Err-clause-any_moment g c =
@@ -32,4 +31,4 @@ returns-in-Err-clause-any_moment g c =
     let new = g.D.Disk.state c.save_snapshot.new.disk in
     prepared_within system given bytes now old mid new (sectors_fit (Rattle.std.specs.Prelude.length bytes) (snapshot_area system) c.requires.fits) c.save_slots.ensures.any_moment
     (at_ok c.save_slots.result (Follows (HasPutAll system given) old mid) (sym c.if-is_err.ensures.value) c.save_slots.ensures.done)
-    (subst (λ first. Within (ChangesOnly first (sectors_of (Rattle.std.specs.Prelude.length bytes))) mid new) c.snapshot_first-first.ensures.value c.save_snapshot.ensures.any_moment)
+    (subst (λ first. Within (ChangesOnly first (snapshot_sectors_of (Rattle.std.specs.Prelude.length bytes))) mid new) c.snapshot_first-first.ensures.value c.save_snapshot.ensures.any_moment)

@@ -1,9 +1,9 @@
 use Rattle.std.proofs.Common.{Ok, subst}
 use Rattle.tm_disk.specs.Disk.{Image}
-use Rattle.openings.specs.Opening.{TellsOpening}
+use Rattle.openings.specs.OpenedImage.{TellsOpening}
 use Rattle.openings.proofs.Reading.{read_cause, told_before, told_behind}
-use Rattle.tm_restart.specs.Found.{FindAlways, TellsFind, IsSeen}
-use Rattle.tm_restart.proofs.TmRestartRecovering.{cold_within, read_counts, read_counts_then, read_then, read_within}
+use Rattle.tm_restart.specs.FoundImage.{FindAlways, TellsFind, IsSeen}
+use Rattle.tm_restart.proofs.OpenedOrCold.{cold_within, read_counts, read_counts_then, read_then, read_within}
 use Rattle.tm_restart.proofs.restarting.recover.Goals as goal
 
 pub returns-in-Ok-None-clause-any_moment : goal.returns-in-Ok-None-clause-any_moment

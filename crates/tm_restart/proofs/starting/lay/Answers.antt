@@ -1,9 +1,9 @@
 use Rattle.std.proofs.Common.{sym}
 use Rattle.tm_disk.specs.Disk.{Follows}
-use Rattle.log_sectors.proofs.Links.{at_ok}
 use Rattle.openings.specs.FirstImage.{IsFirstImage}
 use Rattle.tm_restart.proofs.Renewed.{begun, may_begin, empties_within, raises_within, all_renewed, all_hold}
 use Rattle.tm_restart.proofs.starting.lay.Goals as goal
+use Rattle.tm_disk.proofs.States.{at_ok}
 
 pub returns-then-is_err-clause-any_moment : goal.returns-then-is_err-clause-any_moment
 returns-then-is_err-clause-any_moment g c =

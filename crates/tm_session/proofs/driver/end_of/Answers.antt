@@ -2,7 +2,7 @@
 use Rattle.std.proofs.Common.{inl, sym, subst}
 use Rattle.tm_edge.specs.Lines.{unread}
 use Rattle.session_lives.proofs.Leading.{leads_same, leads_map}
-use Rattle.tm_session.specs.Driving.{StopsBetween}
+use Rattle.tm_session.specs.DrivenSession.{StopsBetween}
 use Rattle.tm_session.proofs.Reading.{past_between, stops_whole, last_between}
 use Rattle.tm_session.proofs.Taking.{back_served}
 use Rattle.tm_session.proofs.driver.end_of.Goals as goal

@@ -3,7 +3,7 @@ use Rattle.std.proofs.Common.{◌≡◌, sym, subst}
 use Rattle.std.specs.Prelude.{Some, None}
 use Rattle.session_lives.proofs.Leading.{leads_same, leads_map}
 use Rattle.tm_session.specs.declared.outcome.Ended.TheVariants.{Done}
-use Rattle.tm_session.specs.Driving.{EndsWhole}
+use Rattle.tm_session.specs.DrivenSession.{EndsWhole}
 use Rattle.tm_session.proofs.Steps.{whole_none}
 use Rattle.tm_session.proofs.driver.serve_end.Goals as goal
 

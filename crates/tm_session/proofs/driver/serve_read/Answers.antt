@@ -5,7 +5,7 @@ use Rattle.text_rows.specs.Lines.{is_passed_over}
 use Rattle.model_session.specs.Blocks.{and_line, is_further}
 use Rattle.session_lives.proofs.Leading.{leads_same, leads_map}
 use Rattle.tm_session.specs.declared.outcome.Ended.TheVariants.{Memory}
-use Rattle.tm_session.specs.Driving.{Goes, Ends, IsOpen}
+use Rattle.tm_session.specs.DrivenSession.{SessionGoes, SessionEnds, IsBlockOpen}
 use Rattle.tm_session.proofs.Steps.{goes_passed, goes_longer, ends_longer, kept_goes}
 use Rattle.tm_session.proofs.driver.serve_read.Goals as goal
 
@@ -26,11 +26,11 @@ returns-then-lengthen-clause-step g c =
     let some : c.args.pending.now ≡ Some c.in-Some.block = cc in
     let seen : is_passed_over c.args.line ≡ false = sym (ap is_passed_over c.bytes.ensures) ∙ sym c.is_passed_over.ensures ∙ c.if-is_passed_over.false in
     let plus : is_further c.args.line ≡ true = sym (ap is_further c.bytes-2.ensures) ∙ sym c.is_further.ensures ∙ c.if-is_further.true in
-    let takes : IsOpen c.in-Some.block = subst (λ p. IfSome p IsOpen) some c.requires.begun in
+    let takes : IsBlockOpen c.in-Some.block = subst (λ p. IfSome p IsBlockOpen) some c.requires.begun in
     let longer : c.lengthen.new.pending ≡ Some (and_line c.in-Some.block c.args.line) = c.lengthen.ensures.added c.if-lengthen.true in
     leads_same g.D.Disk.state _ c.args.session.now
-    (λ setting x. subst (λ p. Goes setting p c.args.line c.lengthen.new.pending (g.K.Sink.written c.args.sink.now) (g.K.Sink.written c.args.sink.now) x x) (sym some)
-    (subst (λ q. Goes setting (Some c.in-Some.block) c.args.line q (g.K.Sink.written c.args.sink.now) (g.K.Sink.written c.args.sink.now) x x) (sym longer)
+    (λ setting x. subst (λ p. SessionGoes setting p c.args.line c.lengthen.new.pending (g.K.Sink.written c.args.sink.now) (g.K.Sink.written c.args.sink.now) x x) (sym some)
+    (subst (λ q. SessionGoes setting (Some c.in-Some.block) c.args.line q (g.K.Sink.written c.args.sink.now) (g.K.Sink.written c.args.sink.now) x x) (sym longer)
     (goes_longer setting c.in-Some.block c.args.line (g.K.Sink.written c.args.sink.now) x seen plus takes)))
 
 pub returns-then-is_further-clause-step : goal.returns-then-is_further-clause-step
@@ -38,9 +38,9 @@ returns-then-is_further-clause-step g c =
     let some : c.args.pending.now ≡ Some c.in-Some.block = cc in
     let seen : is_passed_over c.args.line ≡ false = sym (ap is_passed_over c.bytes.ensures) ∙ sym c.is_passed_over.ensures ∙ c.if-is_passed_over.false in
     let plus : is_further c.args.line ≡ true = sym (ap is_further c.bytes-2.ensures) ∙ sym c.is_further.ensures ∙ c.if-is_further.true in
-    let takes : IsOpen c.in-Some.block = subst (λ p. IfSome p IsOpen) some c.requires.begun in
+    let takes : IsBlockOpen c.in-Some.block = subst (λ p. IfSome p IsBlockOpen) some c.requires.begun in
     leads_same g.D.Disk.state _ c.args.session.now
-    (λ setting x. subst (λ p. Ends setting Memory p c.args.line (g.K.Sink.written c.args.sink.now) (g.K.Sink.written c.args.sink.now) x x) (sym some)
+    (λ setting x. subst (λ p. SessionEnds setting Memory p c.args.line (g.K.Sink.written c.args.sink.now) (g.K.Sink.written c.args.sink.now) x x) (sym some)
     (ends_longer setting c.in-Some.block c.args.line (g.K.Sink.written c.args.sink.now) x seen plus takes))
 
 pub returns-clause-step : goal.returns-clause-step

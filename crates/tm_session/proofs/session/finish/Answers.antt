@@ -1,6 +1,6 @@
 -- as it was closed
 use Rattle.std.proofs.Common.{◌∙◌, ap}
-use Rattle.tm_session.specs.Opened.{by_standing}
+use Rattle.tm_session.specs.BegunSession.{by_standing}
 use Rattle.tm_session.proofs.session.finish.Goals as goal
 
 pub returns-clause-closed : goal.returns-clause-closed

@@ -1,8 +1,8 @@
 -- each line goes on from those before it
 use Rattle.std.proofs.Common.{rules, ◌≡◌, ◌≤◌, ◌+◌, ◌-◌, ◌++◌, ◌∷◌, [], length, true, false, sym, ◌∙◌, ap, subst, refl, arith}
 use Rattle.tm_edge.specs.Lines.{unread}
-use Rattle.sysdef_text.specs.Ends.{ends_definition, stays_inside, with_line}
-use Rattle.tm_session.specs.Opening.{DefinitionSoFar, ReadsDefinition}
+use Rattle.sysdef_text.specs.DefinitionEnd.{ends_definition, stays_inside, with_read_line}
+use Rattle.tm_session.specs.ReadDefinition.{DefinitionSoFar, ReadsDefinition}
 use Rattle.tm_session.specs.Outcome.{HasCause}
 use Rattle.tm_session.proofs.Reading.{unread_cause}
 use Rattle.tm_session.proofs.Opened.{reading_start, reading_next, reading_ends, reading_none, reading_stops, room_for}
@@ -41,7 +41,7 @@ returns-then-has_ended-clause-back g c = back_twice _ _ _ c.loop-line.invariant.
 
 pub returns-then-has_ended-clause-read : goal.returns-then-has_ended-clause-read
 returns-then-has_ended-clause-read g c =
-    let added : c.add.new.self ≡ with_line c.in-Ok-Some.line c.loop-line.reader = search rules in
+    let added : c.add.new.self ≡ with_read_line c.in-Ok-Some.line c.loop-line.reader = search rules in
     let ends : ends_definition c.loop-line.reader.inside c.loop-line.reader.room c.in-Ok-Some.line ≡ true = sym (ap (λ r. r.ended) added) ∙ sym c.has_ended.ensures ∙ c.if-has_ended.true in
     subst (λ texts. ReadsDefinition (unread c.args.lines.now (g.S.Source.left c.args.source.now)) texts (unread c.read_line.new.lines (g.S.Source.left c.read_line.new.source))) (sym (ap (λ r. r.lines) added))
     (reading_ends (unread c.args.lines.now (g.S.Source.left c.args.source.now)) (unread c.loop-line.lines (g.S.Source.left c.loop-line.source)) (unread c.read_line.new.lines (g.S.Source.left c.read_line.new.source))
@@ -58,7 +58,7 @@ loop-line-init g c =
 
 pub loop-line-preserved : goal.loop-line-preserved
 loop-line-preserved g c =
-    let added : c.add.new.self ≡ with_line c.in-Ok-Some.line c.loop-line.reader = search rules in
+    let added : c.add.new.self ≡ with_read_line c.in-Ok-Some.line c.loop-line.reader = search rules in
     let goes : ends_definition c.loop-line.reader.inside c.loop-line.reader.room c.in-Ok-Some.line ≡ false = sym (ap (λ r. r.ended) added) ∙ sym c.has_ended.ensures ∙ c.if-has_ended.false in
     let next : DefinitionSoFar (unread c.args.lines.now (g.S.Source.left c.args.source.now)) (c.loop-line.reader.lines ++ c.in-Ok-Some.line ∷ []) (unread c.read_line.new.lines (g.S.Source.left c.read_line.new.source)) (stays_inside c.loop-line.reader.inside c.in-Ok-Some.line) (c.loop-line.reader.room - (length c.in-Ok-Some.line + 1)) =
     reading_next (unread c.args.lines.now (g.S.Source.left c.args.source.now)) (unread c.loop-line.lines (g.S.Source.left c.loop-line.source)) (unread c.read_line.new.lines (g.S.Source.left c.read_line.new.source))
@@ -72,7 +72,7 @@ loop-line-preserved g c =
 
 pub loop-line-smaller : goal.loop-line-smaller
 loop-line-smaller g c =
-    let added : c.add.new.self ≡ with_line c.in-Ok-Some.line c.loop-line.reader = search rules in
+    let added : c.add.new.self ≡ with_read_line c.in-Ok-Some.line c.loop-line.reader = search rules in
     let goes : ends_definition c.loop-line.reader.inside c.loop-line.reader.room c.in-Ok-Some.line ≡ false = sym (ap (λ r. r.ended) added) ∙ sym c.has_ended.ensures ∙ c.if-has_ended.false in
     let room : length c.in-Ok-Some.line + 1 ≤ c.loop-line.reader.room = room_for c.loop-line.reader.inside c.loop-line.reader.room c.in-Ok-Some.line goes in
     let now : c.add.new.self.room ≡ c.loop-line.reader.room - (length c.in-Ok-Some.line + 1) = ap (λ r. r.room) added in

@@ -1,15 +1,15 @@
 -- the lines so far, and those that are still to come
 use Rattle.std.proofs.Common.{◌≡◌, false}
 use Rattle.tm_edge.specs.Lines.{unread}
-use Rattle.tm_session.specs.Opening.{DefinitionSoFar}
-use Rattle.tm_session.specs.Outcome.{IsBack}
+use Rattle.tm_session.specs.ReadDefinition.{DefinitionSoFar}
+use Rattle.tm_session.specs.Outcome.{IsTextBack}
 use Rattle.tm_session.proofs.source.read_definition.Given as goal
 
 abbrev pub invariant-loop-line : goal.invariant-loop-line
 invariant-loop-line g l = record {
   so_far : DefinitionSoFar (unread l.fn.lines (g.S.Source.left l.fn.source)) l.reader.lines (unread l.lines (g.S.Source.left l.source)) l.reader.inside l.reader.room;
   open_end : l.reader.ended ≡ false;
-  back : IsBack (unread l.fn.lines (g.S.Source.left l.fn.source)) (unread l.lines (g.S.Source.left l.source));
+  back : IsTextBack (unread l.fn.lines (g.S.Source.left l.fn.source)) (unread l.lines (g.S.Source.left l.source));
   count : g.S.Source.faults l.source ≡ g.S.Source.faults l.fn.source;
 }
 

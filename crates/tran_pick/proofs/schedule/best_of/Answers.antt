@@ -6,7 +6,7 @@ use Rattle.std.proofs.lemmas.Slice.Zip.{Zip-more, either_empty_from_Zip}
 use Rattle.model_messages.specs.Queue.{first_free}
 use Rattle.tran_pick.proofs.Better.{best_more, best_all}
 use Rattle.tran_pick.proofs.Found.{better_keeps}
-use Rattle.tran_pick.specs.Picked.{IsFirstFree}
+use Rattle.tran_pick.specs.RegionPick.{IsFirstFree}
 use Rattle.tran_pick.proofs.schedule.best_of.Goals as goal
 
 pub loop-code-preserved : goal.loop-code-preserved

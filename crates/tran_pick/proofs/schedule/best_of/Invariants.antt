@@ -4,7 +4,7 @@ use Rattle.std.specs.Slice.Iter.{iter_rest}
 use Rattle.std.specs.Iterator.Adapters.{zip_first, zip_second}
 use Rattle.model_messages.specs.Queue.{first_free}
 use Rattle.model_machine.specs.Pick.{better, best_of}
-use Rattle.tran_pick.specs.Picked.{IsFirstFree}
+use Rattle.tran_pick.specs.RegionPick.{IsFirstFree}
 use Rattle.tran_pick.proofs.schedule.best_of.Given as goal
 
 -- the best so far, with the best of what is left, is the best of all; and its message is free

@@ -2,7 +2,7 @@ use Rattle.std.proofs.Common.{◌≡◌, ◌+◌, ◌-◌, ◌∷◌, List, true
 use Rattle.std.proofs.lemmas.List.{length-set, drop_more}
 use Rattle.unit_work.specs.declared.change.Change.{Change}
 use Rattle.model_data.specs.declared.row.Row.{Row}
-use Rattle.seg_store.specs.Changed.{stored}
+use Rattle.seg_store.specs.ChangedSlots.{stored}
 use Rattle.seg_store.specs.Slots.{has_root}
 use Rattle.unit_work.specs.Images.{image_at}
 use Rattle.unit_work.specs.BackOut.{cleared, is_touched, IsStored}

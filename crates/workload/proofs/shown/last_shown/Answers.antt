@@ -3,7 +3,7 @@ use Rattle.std.proofs.Common.{◌∙◌, ap, sym, ℕ, List, Bor}
 use Rattle.std.specs.Prelude.{Option}
 use Rattle.std.specs.Option.{option_map}
 use Rattle.text_rows.specs.Lines.{split_at}
-use Rattle.workload.specs.Shown.{later, last_reply}
+use Rattle.workload.specs.ShownReply.{later, last_reply}
 use Rattle.workload.proofs.Printed.{line_more, line_end}
 use Rattle.workload.proofs.shown.last_shown.Goals as goal
 

@@ -1,6 +1,6 @@
 use Rattle.std.proofs.Common.{◌≡◌, length}
 use Rattle.std.specs.Option.{option_map}
-use Rattle.workload.specs.Shown.{later, last_shown, last_reply, printed_lines}
+use Rattle.workload.specs.ShownReply.{later, last_shown, last_reply, printed_lines}
 use Rattle.workload.proofs.shown.last_shown.Given as goal
 
 abbrev pub invariant-loop-line : goal.invariant-loop-line

@@ -1,15 +1,15 @@
 use Rattle.std.proofs.Common.{ap, subst, List}
 use Rattle.tm_disk.specs.Disk.{Follows}
 use Rattle.log_records.specs.declared.record.Record.{Record}
-use Rattle.disk_law.specs.Committed.{Touches}
-use Rattle.checkpointing.specs.Parts.{CheckpointParts}
+use Rattle.disk_law.specs.CommittedBytes.{Touches}
+use Rattle.checkpointing.specs.CheckpointParts.{CheckpointParts}
 use Rattle.checkpointing.specs.Checkpoint.{IsCheckpointed}
-use Rattle.disk_law.specs.Checkpointing.{after_checkpoint}
+use Rattle.disk_law.specs.LifeCheckpoint.{after_checkpoint}
 use Rattle.disk_law.specs.Life.{LifeOnDisk}
-use Rattle.disk_law.specs.Kept.{AreKept}
-use Rattle.disk_law.specs.Journal.{JournalState}
+use Rattle.disk_law.specs.KeptImages.{AreImagesKept}
+use Rattle.disk_law.specs.JournalState.{JournalState}
 use Rattle.restart_data.specs.declared.restart.RestartSector.{RestartSector}
-use Rattle.journal.specs.Checkpoints.{IsOf, parts_for}
+use Rattle.journal.specs.CheckpointFor.{AreCheckpointPartsOf, parts_for}
 use Rattle.journal.proofs.Stepping.{when_done}
 use Rattle.journal.proofs.Checkpointing.{asks_with, parts_at, same_parts, follows_kept}
 use Rattle.journal.proofs.journal.Journal.checkpoint.Goals as goal
@@ -51,7 +51,7 @@ returns-clause-kept g c =
     let bytes = c.args.snapshot.now in
     let parts : CheckpointParts = parts_at system c.self.inside.restart bytes c.snapshot_first.result c.snapshot_area.result c.log_first.result c.logs.result in
     when_done c.take_checkpoint.result (Follows (IsCheckpointed parts c.args.self.now.log stores) old new)
-    ((life : LifeOnDisk) → (touches : Touches) → (told : List Record) → IsOf system c.args.self.now stores bytes touches told old life → AreKept (after_checkpoint bytes touches life) new)
+    ((life : LifeOnDisk) → (touches : Touches) → (told : List Record) → AreCheckpointPartsOf system c.args.self.now stores bytes touches told old life → AreImagesKept (after_checkpoint bytes touches life) new)
     (λ follows life touches told is.
     follows_kept system c.args.self.now stores bytes touches told life old is new
     (subst (λ (r : RestartSector). Follows (IsCheckpointed (parts_for system r bytes) c.args.self.now.log stores) old new) (ap (λ (j : JournalState). j.restart) c.self.view_is)

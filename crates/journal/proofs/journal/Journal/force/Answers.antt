@@ -1,9 +1,9 @@
 use Rattle.tm_disk.specs.Disk.{Follows}
-use Rattle.log_writer.specs.Log.{AddsAll}
+use Rattle.log_writer.specs.ForcedLog.{AddsAll}
 use Rattle.disk_law.specs.Life.{LifeOnDisk}
-use Rattle.disk_law.specs.Kept.{AreKept}
-use Rattle.disk_law.specs.Steps.{StepOnDisk, after_step}
-use Rattle.journal.specs.State.{IsStepOf}
+use Rattle.disk_law.specs.KeptImages.{AreImagesKept}
+use Rattle.disk_law.specs.LifeSteps.{StepOnDisk, after_step}
+use Rattle.journal.specs.JournalDisk.{IsStepOf}
 use Rattle.journal.proofs.Stepping.{within_recovers, follows_kept, when_done}
 use Rattle.journal.proofs.journal.Journal.force.Goals as goal
 
@@ -17,6 +17,6 @@ returns-clause-kept g c =
     let new = g.D.Disk.state c.write.new.disk in
     let log = c.args.self.now.log in
     when_done c.write.result (Follows (AddsAll log) old new)
-    ((life : LifeOnDisk) → (step : StepOnDisk) → IsStepOf log life step → AreKept life old → AreKept (after_step step life) new)
+    ((life : LifeOnDisk) → (step : StepOnDisk) → IsStepOf log life step → AreImagesKept life old → AreImagesKept (after_step step life) new)
     (λ follows life step is kept. follows_kept log life step is old kept new follows)
     c.write.ensures.done

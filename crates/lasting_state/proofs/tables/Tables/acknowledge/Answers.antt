@@ -1,5 +1,5 @@
 use Rattle.std.proofs.Common.{sym, ap, ◌∙◌}
-use Rattle.lasting_state.specs.Telling.{removes_by}
+use Rattle.lasting_state.specs.ToldSteps.{removes_by}
 use Rattle.lasting_state.proofs.Told.{declined_told}
 use Rattle.lasting_state.proofs.tables.Tables.acknowledge.Goals as goal
 

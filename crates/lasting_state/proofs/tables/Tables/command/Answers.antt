@@ -2,10 +2,10 @@ use Rattle.std.proofs.Common.{[], ◌∷◌, rules}
 use Rattle.std.proofs.lemmas.Result.{IfErr-weaker}
 use Rattle.tm_types.specs.Commands as command_text
 use Rattle.log_records.specs.declared.record.Record.TheVariants.{Command}
-use Rattle.log_records.specs.Telling.{IsUntold}
-use Rattle.model_machine.specs.Lasting.LastingStep.{Commands}
-use Rattle.lasting_state.specs.Untold.{WhereFull}
-use Rattle.lasting_state.specs.Telling.{IsLonger}
+use Rattle.log_records.specs.ToldRecords.{AreRecordsUntold}
+use Rattle.model_machine.specs.LastingSteps.LastingStep.{Commands}
+use Rattle.lasting_state.specs.UntoldSteps.{WhereFull}
+use Rattle.lasting_state.specs.ToldSteps.{AreRecordsLonger}
 use Rattle.lasting_state.proofs.Commanded.{applies_command}
 use Rattle.lasting_state.proofs.Told.{tells, longer}
 use Rattle.lasting_state.proofs.tables.Tables.command.Goals as goal
@@ -18,6 +18,6 @@ returns-clause-told c = tells 0 c.args.room (Commands c.args.command.now) c.args
 
 pub returns-in_err-tell_command-clause-full : goal.returns-in_err-tell_command-clause-full
 returns-in_err-tell_command-clause-full c =
-    IfErr-weaker c.from_residual.result (IsUntold (Command (command_text.spelling c.args.command.now) ∷ []) c.args.room) (WhereFull (IsLonger 0 c.args.room (Commands c.args.command.now) c.args.self.now))
+    IfErr-weaker c.from_residual.result (AreRecordsUntold (Command (command_text.command_spelling c.args.command.now) ∷ []) c.args.room) (WhereFull (AreRecordsLonger 0 c.args.room (Commands c.args.command.now) c.args.self.now))
     (λ error h. longer 0 c.args.room (Commands c.args.command.now) c.args.self.now error (λ settings. h))
     (search rules)

@@ -1,6 +1,6 @@
 use Rattle.std.proofs.Common.{◌≡◌, ◌∙◌, refl, sym, ap, subst}
-use Rattle.program_rows.specs.Answering.{IsCommitted}
-use Rattle.model_machine.specs.Lasting.{padded}
+use Rattle.program_rows.specs.CallAnswers.{IsCommitted}
+use Rattle.model_machine.specs.LastingSteps.{with_pad_changed}
 use Rattle.lasting_state.specs.Tables.{TablesState}
 use Rattle.lasting_state.proofs.Finished.{closes, completes_is, some_message}
 use Rattle.lasting_state.proofs.tables.Tables.commit.Goals as goal
@@ -11,8 +11,8 @@ returns-clause-step c =
     let is : left ≡ record c.finish.new.self { databases = c.commit.new.self; conversations = c.change_pad.new.conversations } = rw (sym c.self.view_is) refl in
     let stays : IsCommitted c.args.region c.args.self.now.databases c.commit.new.self =
     subst (λ d. IsCommitted c.args.region d c.commit.new.self) (ap (λ t. t.databases) c.self.view_is ∙ c.in_ok-origin.ensures.databases) c.commit.ensures.value in
-    let pad : c.change_pad.new.conversations ≡ padded c.args.pad c.in_ok-origin.origin c.finish.new.self.conversations =
-    c.change_pad.ensures ∙ ap (λ t. padded c.args.pad c.in_ok-origin.origin t.conversations) c.self.view_is in
+    let pad : c.change_pad.new.conversations ≡ with_pad_changed c.args.pad c.in_ok-origin.origin c.finish.new.self.conversations =
+    c.change_pad.ensures ∙ ap (λ t. with_pad_changed c.args.pad c.in_ok-origin.origin t.conversations) c.self.view_is in
     completes_is c.args.region c.args.self.now left c.args.id c.args.outputs.items c.args.pad stays
     (closes c.commit.new.self c.change_pad.new.conversations (λ _. c.args.pad) (λ _. c.args.outputs.items) c.args.pad c.args.outputs.items c.in_ok-origin.origin c.args.self.now c.finish.new.self left c.args.id
     (some_message c.args.id c.args.self.now.queues.queued (λ _. (c.args.outputs.items ≡ c.args.outputs.items) × (c.args.pad ≡ c.args.pad)) c.requires.found (λ _. (refl, refl))) c.in_ok-origin.ensures.ok c.in_ok-origin.ensures.origin pad is)

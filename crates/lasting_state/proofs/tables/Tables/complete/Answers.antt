@@ -1,14 +1,14 @@
 use Rattle.std.proofs.Common.{List, [], ◌∷◌, ◌++◌, refl, rules, subst, sym}
 use Rattle.log_records.specs.declared.record.Record.{Record}
 use Rattle.log_records.specs.declared.record.Record.TheVariants.{SyncPoint}
-use Rattle.log_records.specs.Telling.{IsUntold, Tells as RecordsTell}
-use Rattle.model_machine.specs.Lasting.LastingStep.{Completes}
+use Rattle.log_records.specs.ToldRecords.{AreRecordsUntold, TellsInRoom as RecordsTell}
+use Rattle.model_machine.specs.LastingSteps.LastingStep.{Completes}
 use Rattle.model_machine.specs.Machine.{LastingState}
-use Rattle.program_rows.specs.State.{region_at}
-use Rattle.model_image.specs.Records.{completion_records}
-use Rattle.lasting_state.specs.Untold.{WhereFull}
+use Rattle.program_rows.specs.DatabasesState.{region_at}
+use Rattle.model_image.specs.StepRecords.{completion_records}
+use Rattle.lasting_state.specs.UntoldSteps.{WhereFull}
 use Rattle.lasting_state.specs.Tables.{lasting_of, TablesState}
-use Rattle.lasting_state.specs.Telling.{IsLonger}
+use Rattle.lasting_state.specs.ToldSteps.{AreRecordsLonger}
 use Rattle.lasting_state.proofs.Told.{completion_are, cut_back, err_is, longer, tells}
 use Rattle.lasting_state.proofs.tables.Tables.complete.Goals as goal
 
@@ -16,10 +16,10 @@ pub returns-in_err-tell_completion-clause-full : goal.returns-in_err-tell_comple
 returns-in_err-tell_completion-clause-full c =
     let old : TablesState = record { databases = c.self.inside.databases; queues = c.self.inside.queues; next_id = c.self.inside.next_id; terminals = c.self.inside.terminals.items; outputs = c.self.inside.outputs; conversations = c.self.inside.conversations; steps = c.self.inside.steps } in
     rw (sym c.self.view_is)
-    (err_is (WhereFull (IsLonger c.args.unit c.args.room (Completes c.args.id (region_at c.args.region old.databases).rows c.args.outputs.items c.args.pad) old))
+    (err_is (WhereFull (AreRecordsLonger c.args.unit c.args.room (Completes c.args.id (region_at c.args.region old.databases).rows c.args.outputs.items c.args.pad) old))
     c.from_residual.result c.in_err-tell_completion.field-0.0 (search rules)
     (longer c.args.unit c.args.room (Completes c.args.id (region_at c.args.region old.databases).rows c.args.outputs.items c.args.pad) old c.in_err-tell_completion.field-0.0
-    (λ settings. subst (λ (rs : List Record). IsUntold rs c.args.room c.in_err-tell_completion.field-0.0)
+    (λ settings. subst (λ (rs : List Record). AreRecordsUntold rs c.args.room c.in_err-tell_completion.field-0.0)
     (completion_are c.args.unit old c.args.id c.args.outputs.items c.args.pad c.in-Some.message.now c.in-Some.ensures (region_at c.args.region old.databases).rows settings)
     (c.in_err-tell_completion.ensures.full (lasting_of settings old) refl refl))))
 

@@ -2,11 +2,11 @@ use Rattle.std.proofs.Common.{List, [], ◌∷◌, rules, subst, sym}
 use Rattle.std.proofs.lemmas.Result.{IfErr-weaker}
 use Rattle.log_records.specs.declared.record.Record.{Record}
 use Rattle.log_records.specs.declared.record.Record.TheVariants.{Discarded}
-use Rattle.log_records.specs.Telling.{IsUntold, Tells as RecordsTell}
-use Rattle.model_machine.specs.Lasting.LastingStep.{Discards}
-use Rattle.lasting_state.specs.Untold.{WhereFull}
+use Rattle.log_records.specs.ToldRecords.{AreRecordsUntold, TellsInRoom as RecordsTell}
+use Rattle.model_machine.specs.LastingSteps.LastingStep.{Discards}
+use Rattle.lasting_state.specs.UntoldSteps.{WhereFull}
 use Rattle.lasting_state.specs.Tables.{TablesState}
-use Rattle.lasting_state.specs.Telling.{IsLonger}
+use Rattle.lasting_state.specs.ToldSteps.{AreRecordsLonger}
 use Rattle.lasting_state.proofs.Told.{discarding_are, longer, tells}
 use Rattle.lasting_state.proofs.tables.Tables.discard.Goals as goal
 
@@ -14,10 +14,10 @@ pub returns-in_err-tell_discarded-clause-full : goal.returns-in_err-tell_discard
 returns-in_err-tell_discarded-clause-full c =
     let old : TablesState = record { databases = c.self.inside.databases; queues = c.self.inside.queues; next_id = c.self.inside.next_id; terminals = c.self.inside.terminals.items; outputs = c.self.inside.outputs; conversations = c.self.inside.conversations; steps = c.self.inside.steps } in
     rw (sym c.self.view_is)
-    (IfErr-weaker c.from_residual.result (IsUntold (Discarded c.args.unit c.args.id c.args.abend c.next_number-number.result ∷ []) c.args.room)
-    (WhereFull (IsLonger c.args.unit c.args.room (Discards c.args.id c.args.abend) old))
+    (IfErr-weaker c.from_residual.result (AreRecordsUntold (Discarded c.args.unit c.args.id c.args.abend c.next_number-number.result ∷ []) c.args.room)
+    (WhereFull (AreRecordsLonger c.args.unit c.args.room (Discards c.args.id c.args.abend) old))
     (λ error h. longer c.args.unit c.args.room (Discards c.args.id c.args.abend) old error
-    (λ settings. subst (λ (rs : List Record). IsUntold rs c.args.room error)
+    (λ settings. subst (λ (rs : List Record). AreRecordsUntold rs c.args.room error)
     (discarding_are c.args.unit old c.args.id c.args.abend c.in-Some.message.now c.next_number-number.result c.in-Some.ensures c.next_number-number.ensures settings) h))
     (search rules))
 

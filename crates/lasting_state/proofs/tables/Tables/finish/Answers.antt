@@ -1,14 +1,14 @@
 use Rattle.std.proofs.Common.{sym, subst}
 use Rattle.std.specs.Prelude.{IsSome}
 use Rattle.model_messages.specs.Queue.{queued_at}
-use Rattle.lasting_state.specs.Sending.{switches, switched_messages}
+use Rattle.lasting_state.specs.SentOutputs.{outputs_to_codes, switched_messages}
 use Rattle.lasting_state.proofs.Finished.{finished_is, finished_new, found_below, still_found}
 use Rattle.lasting_state.proofs.tables.Tables.finish.Goals as goal
 
 pub remove-requires : goal.remove-requires
 remove-requires c =
     subst (λ q. IsSome (queued_at c.args.id q.queued)) (sym c.in_ok-next.ensures.ok.queues)
-    (still_found c.args.id (switched_messages c.in-Some.message.now.origin (switches c.self.inside.outputs c.args.outputs.items) c.self.inside.next_id) c.self.inside.queues.queued
+    (still_found c.args.id (switched_messages c.in-Some.message.now.origin (outputs_to_codes c.self.inside.outputs c.args.outputs.items) c.self.inside.next_id) c.self.inside.queues.queued
     (rw (← c.self.view_is) at c.requires))
 
 pub invariant_of-self-2 : goal.invariant_of-self-2

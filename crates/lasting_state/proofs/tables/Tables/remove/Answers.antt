@@ -2,11 +2,11 @@ use Rattle.std.proofs.Common.{List, [], ◌∷◌, rules, subst}
 use Rattle.std.proofs.lemmas.Result.{IfErr-weaker}
 use Rattle.log_records.specs.declared.record.Record.{Record}
 use Rattle.log_records.specs.declared.record.Record.TheVariants.{Acknowledged}
-use Rattle.log_records.specs.Telling.{IsUntold, Tells as RecordsTell}
+use Rattle.log_records.specs.ToldRecords.{AreRecordsUntold, TellsInRoom as RecordsTell}
 use Rattle.model_machine.specs.Machine.{output_at}
-use Rattle.model_machine.specs.Lasting.LastingStep.{Acknowledges}
-use Rattle.lasting_state.specs.Untold.{WhereFull}
-use Rattle.lasting_state.specs.Telling.{WouldAcknowledge}
+use Rattle.model_machine.specs.LastingSteps.LastingStep.{Acknowledges}
+use Rattle.lasting_state.specs.UntoldSteps.{WhereFull}
+use Rattle.lasting_state.specs.ToldSteps.{WouldAcknowledge}
 use Rattle.lasting_state.proofs.Told.{acknowledged_are, removed_told, removes_so, tells, longer, where_full}
 use Rattle.lasting_state.proofs.tables.Tables.remove.Goals as goal
 
@@ -19,9 +19,9 @@ returns-clause-told c =
 
 pub returns-in_err-tell_acknowledged-clause-full : goal.returns-in_err-tell_acknowledged-clause-full
 returns-in_err-tell_acknowledged-clause-full c =
-    IfErr-weaker c.from_residual.result (IsUntold (Acknowledged c.args.terminal.now c.args.number ∷ []) c.args.room) (WhereFull (WouldAcknowledge c.args.self.now c.args.terminal.now c.args.number c.args.room))
+    IfErr-weaker c.from_residual.result (AreRecordsUntold (Acknowledged c.args.terminal.now c.args.number ∷ []) c.args.room) (WhereFull (WouldAcknowledge c.args.self.now c.args.terminal.now c.args.number c.args.room))
     (λ error h. where_full error
     (λ is_longer. record { removes = (removes_so (output_at c.args.self.now.outputs c.args.terminal.now) c.args.number c.requires.removes).0; longer = is_longer })
     (longer 0 c.args.room (Acknowledges c.args.terminal.now) c.args.self.now error
-    (λ settings. subst (λ (rs : List Record). IsUntold rs c.args.room error) (acknowledged_are c.args.self.now c.args.terminal.now c.args.number c.requires.removes settings) h)))
+    (λ settings. subst (λ (rs : List Record). AreRecordsUntold rs c.args.room error) (acknowledged_are c.args.self.now c.args.terminal.now c.args.number c.requires.removes settings) h)))
     (search rules)

@@ -2,7 +2,7 @@
 use Rattle.std.proofs.Common.{◌*◌, Err, refl, arith, ◌∙◌, ap, sym, inl}
 use Rattle.model_machine.specs.declared.entry.CheckpointRefused.TheVariants.{BusyRegion}
 use Rattle.model_machine.specs.declared.entry.Entry.TheVariants.{Checked}
-use Rattle.logged_machine.specs.Logged.{LoggedState}
+use Rattle.logged_machine.specs.LoggedState.{LoggedState}
 use Rattle.logged_machine.proofs.Checked.{busy_answer, most_same}
 use Rattle.logged_machine.proofs.Checkpointed.{answered_still}
 use Rattle.logged_machine.proofs.Frugality.{nothing_counted}

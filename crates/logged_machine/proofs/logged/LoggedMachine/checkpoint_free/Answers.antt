@@ -3,9 +3,9 @@ use Rattle.std.proofs.Common.{ℕ, Err, Result, IfErr, IfOk, OnOk, sym, subst}
 use Rattle.model_machine.specs.declared.entry.CheckpointRefused.{CheckpointRefused}
 use Rattle.model_machine.specs.declared.entry.CheckpointRefused.TheVariants.{Fault}
 use Rattle.model_machine.specs.declared.entry.Entry.TheVariants.{Checked}
-use Rattle.logged_machine.specs.Doing.{Did}
+use Rattle.logged_machine.specs.Attempts.{Did}
 use Rattle.openings.specs.Faults.{fault_in}
-use Rattle.logged_machine.specs.Taken.{IsTaken, LeavesSettled, StaysUntaken}
+use Rattle.logged_machine.specs.TakenCheckpoint.{IsTaken, LeavesSettled, StaysUntaken}
 use Rattle.logged_machine.proofs.Checked.{is_taken, leaves_settled, stays_untaken, taken_did, untaken_most}
 use Rattle.logged_machine.proofs.Checkpointed.{unrefreshed}
 use Rattle.logged_machine.proofs.Frugality.{checked_counts, checked_raises, unchecked_counts, unchecked_raises}

@@ -1,6 +1,6 @@
 -- each image has the number
 use Rattle.std.proofs.Common.{◌∙◌, ap, sym}
-use Rattle.logged_machine.specs.Logged.{LoggedState}
+use Rattle.logged_machine.specs.LoggedState.{LoggedState}
 use Rattle.logged_machine.proofs.Checked.{has_number}
 use Rattle.logged_machine.proofs.logged.LoggedMachine.number_taken.Goals as goal
 

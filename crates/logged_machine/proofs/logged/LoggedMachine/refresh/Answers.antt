@@ -1,8 +1,8 @@
 -- a checkpoint, by what it wrote
 use Rattle.std.proofs.Common.{◌∙◌, sym, ap, subst, List, ℕ}
-use Rattle.journal.specs.Counted.{IsCounted}
-use Rattle.logged_machine.specs.PartsLifeLogged.{IsLogged}
-use Rattle.logged_machine.specs.Logged.{LoggedState}
+use Rattle.journal.specs.CountRanges.{AreCountsInRange}
+use Rattle.logged_machine.specs.LoggedParts.{IsLogged}
+use Rattle.logged_machine.specs.LoggedState.{LoggedState}
 use Rattle.logged_machine.proofs.Checkpointed.{logged_by, refreshed, unrefreshed_by}
 use Rattle.logged_machine.proofs.logged.LoggedMachine.refresh.Goals as goal
 
@@ -21,7 +21,7 @@ invariant_of-self g c =
 pub returns-in-Ok-clause-done : goal.returns-in-Ok-clause-done
 returns-in-Ok-clause-done g c =
     rw (sym c.self.view_is) (refreshed g.D.Disk.state c.self.inside.parts c.checkpoint.new.parts c.self.inside.text c.self.inside.journal c.checkpoint.new.journal c.self.inside.units.items c.self.inside.next_unit c.self.inside.disk c.checkpoint.new.disk c.self.inside.served
-    (c.self.invariant (ap (λ (v : LoggedState _). v.served) c.self.view_is ∙ c.requires.served)) c.checkpoint.ensures.system c.checkpoint.ensures.moment c.checkpoint.ensures.stays c.checkpoint.ensures.any_moment c.checkpoint.ensures.texts c.checkpoint.ensures.counts c.checkpoint.ensures.writes (ap (λ (v : LoggedState _). v.served) c.self.view_is ∙ c.requires.served) c.in-Ok.ensures.settled (subst (λ (v : LoggedState _). IsCounted 0 v.machine.moment.lasting v.next_unit v.journal) (sym c.self.view_is) c.requires.counted) c.in-Ok.ensures.takes c.in-Ok.ensures.synced c.in-Ok.ensures.no_fault c.in-Ok.ensures.raised)
+    (c.self.invariant (ap (λ (v : LoggedState _). v.served) c.self.view_is ∙ c.requires.served)) c.checkpoint.ensures.system c.checkpoint.ensures.moment c.checkpoint.ensures.stays c.checkpoint.ensures.any_moment c.checkpoint.ensures.texts c.checkpoint.ensures.counts c.checkpoint.ensures.writes (ap (λ (v : LoggedState _). v.served) c.self.view_is ∙ c.requires.served) c.in-Ok.ensures.settled (subst (λ (v : LoggedState _). AreCountsInRange 0 v.machine.moment.lasting v.next_unit v.journal) (sym c.self.view_is) c.requires.counted) c.in-Ok.ensures.takes c.in-Ok.ensures.synced c.in-Ok.ensures.no_fault c.in-Ok.ensures.raised)
 
 pub invariant_of-self-in-Err : goal.invariant_of-self-in-Err
 invariant_of-self-in-Err g c =

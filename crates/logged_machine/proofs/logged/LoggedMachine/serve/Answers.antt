@@ -2,7 +2,7 @@
 use Rattle.std.proofs.Common.{◌*◌, arith, subst}
 use Rattle.model_machine.specs.declared.entry.ControlCall.{ControlCall}
 use Rattle.openings.specs.Faults.{fault_in}
-use Rattle.logged_machine.specs.Frugal.{IsFrugal}
+use Rattle.logged_machine.specs.CheckpointDue.{TakesCheckpointWhereDue}
 use Rattle.logged_machine.proofs.Doing.{counted, crashes, goes}
 use Rattle.logged_machine.proofs.Unspent.{counted_now}
 use Rattle.logged_machine.proofs.logged.LoggedMachine.serve.Goals as goal
@@ -22,5 +22,5 @@ returns-clause-counts g c =
 
 pub returns-clause-frugal : goal.returns-clause-frugal
 returns-clause-frugal g c =
-    subst (λ (call : ControlCall). IsFrugal g.D.Disk.state (fault_in (g.C.Call.entry c.args.call.now c.serve_any-answer.result)) c.args.self.now.machine c.args.self.now.units call c.args.self.now.journal c.serve_any-answer.new.self.journal c.args.self.now.disk c.serve_any-answer.new.self.disk)
+    subst (λ (call : ControlCall). TakesCheckpointWhereDue g.D.Disk.state (fault_in (g.C.Call.entry c.args.call.now c.serve_any-answer.result)) c.args.self.now.machine c.args.self.now.units call c.args.self.now.journal c.serve_any-answer.new.self.journal c.args.self.now.disk c.serve_any-answer.new.self.disk)
     (g.met.C.Call.of_call c.args.call.now c.serve_any-answer.result) c.serve_any-answer.ensures.did.frugal

@@ -5,10 +5,10 @@ use Rattle.model_machine.specs.History.{IsCall}
 use Rattle.model_machine.specs.declared.entry.ControlCall.{ControlCall}
 use Rattle.model_machine.specs.declared.entry.ControlFault.{ControlFault}
 use Rattle.openings.specs.Faults.{fault_in}
-use Rattle.logged_machine.specs.Calls.{own_bytes}
-use Rattle.logged_machine.specs.Telling.{IsAllBut, StayFree}
-use Rattle.logged_machine.specs.Doing.{DoneFrugally}
-use Rattle.logged_machine.specs.Logged.{LoggedState}
+use Rattle.logged_machine.specs.ToldCalls.{own_bytes}
+use Rattle.logged_machine.specs.RecordsBehindLog.{IsAllBut, StayFree}
+use Rattle.logged_machine.specs.Attempts.{DoneFrugally}
+use Rattle.logged_machine.specs.LoggedState.{LoggedState}
 use Rattle.logged_machine.proofs.Checkpointed.{counted_more, counted_same, served_same}
 use Rattle.logged_machine.proofs.Frugality.{done_due, done_nothing, done_once, longer}
 use Rattle.logged_machine.proofs.logged.LoggedMachine.serve_any.Goals as goal

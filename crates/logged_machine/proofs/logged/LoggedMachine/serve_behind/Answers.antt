@@ -1,13 +1,13 @@
 -- behind a checkpoint
 use Rattle.std.proofs.Common.{◌∙◌, sym, ap, subst, refl, List, ℕ, true, false}
 use Rattle.model_machine.specs.declared.entry.ControlFault.TheVariants.{Disk}
-use Rattle.journal.specs.Counted.{IsCounted}
-use Rattle.logged_machine.specs.PartsLifeLogged.{IsLogged}
-use Rattle.logged_machine.specs.Forcing.{IsForced}
-use Rattle.logged_machine.specs.Logged.{LoggedState}
+use Rattle.journal.specs.CountRanges.{AreCountsInRange}
+use Rattle.logged_machine.specs.LoggedParts.{IsLogged}
+use Rattle.logged_machine.specs.ForcedLog.{IsForced}
+use Rattle.logged_machine.specs.LoggedState.{LoggedState}
 use Rattle.logged_machine.proofs.Attempts.{after_broken}
-use Rattle.logged_machine.proofs.LoggedMachineBehind.{behind_call, done_off, done_on, logged_behind, may_force_behind}
-use Rattle.logged_machine.proofs.LoggedMachineDue.{done_refused}
+use Rattle.logged_machine.proofs.DueAnswered.{behind_call, done_off, done_on, logged_behind, may_force_behind}
+use Rattle.logged_machine.proofs.DueCalls.{done_refused}
 use Rattle.logged_machine.proofs.logged.LoggedMachine.serve_behind.Goals as goal
 
 pub due-done-requires-clause-logged : goal.due-done-requires-clause-logged
@@ -23,7 +23,7 @@ pub force-requires-clause-may : goal.force-requires-clause-may
 force-requires-clause-may g c =
     may_force_behind g.D.Disk.state
     (behind_call g.D.Disk.state (ap (λ (v : LoggedState _). v.served) c.self.view_is ∙ c.requires.served) (c.self.invariant (ap (λ (v : LoggedState _). v.served) c.self.view_is ∙ c.requires.served))
-    (subst (λ (v : LoggedState _). IsCounted 0 v.machine.moment.lasting v.next_unit v.journal) (sym c.self.view_is) c.requires.counted)
+    (subst (λ (v : LoggedState _). AreCountsInRange 0 v.machine.moment.lasting v.next_unit v.journal) (sym c.self.view_is) c.requires.counted)
     c.due-done.ensures.keeps c.due-done.ensures.counts c.due-done.ensures.writes c.as_slice.ensures.value c.in-Ok.ensures.before c.in-Ok.ensures.slots
     (g.C.Call.entry c.args.call.now c.in-Ok.answer) c.note.new.units.items c.note.new.next (g.met.C.Call.of_call c.args.call.now c.in-Ok.answer) (g.met.C.Call.last c.args.call.now) c.requires.within c.in-Ok.ensures.behind c.in-Ok.ensures.does c.note.ensures)
 
@@ -31,7 +31,7 @@ pub invariant_of-self-then-force : goal.invariant_of-self-then-force
 invariant_of-self-then-force g c =
     λ up. logged_behind g.D.Disk.state
     (behind_call g.D.Disk.state (ap (λ (v : LoggedState _). v.served) c.self.view_is ∙ c.requires.served) (c.self.invariant (ap (λ (v : LoggedState _). v.served) c.self.view_is ∙ c.requires.served))
-    (subst (λ (v : LoggedState _). IsCounted 0 v.machine.moment.lasting v.next_unit v.journal) (sym c.self.view_is) c.requires.counted)
+    (subst (λ (v : LoggedState _). AreCountsInRange 0 v.machine.moment.lasting v.next_unit v.journal) (sym c.self.view_is) c.requires.counted)
     c.due-done.ensures.keeps c.due-done.ensures.counts c.due-done.ensures.writes c.as_slice.ensures.value c.in-Ok.ensures.before c.in-Ok.ensures.slots
     (g.C.Call.entry c.args.call.now c.in-Ok.answer) c.note.new.units.items c.note.new.next (g.met.C.Call.of_call c.args.call.now c.in-Ok.answer) (g.met.C.Call.last c.args.call.now) c.requires.within c.in-Ok.ensures.behind c.in-Ok.ensures.does c.note.ensures)
     c.force.new.journal c.force.new.disk true
@@ -43,7 +43,7 @@ returns-then-force g c =
     rw (sym c.self.view_is) (record {
       did = done_on g.D.Disk.state
           (behind_call g.D.Disk.state (ap (λ (v : LoggedState _). v.served) c.self.view_is ∙ c.requires.served) (c.self.invariant (ap (λ (v : LoggedState _). v.served) c.self.view_is ∙ c.requires.served))
-          (subst (λ (v : LoggedState _). IsCounted 0 v.machine.moment.lasting v.next_unit v.journal) (sym c.self.view_is) c.requires.counted)
+          (subst (λ (v : LoggedState _). AreCountsInRange 0 v.machine.moment.lasting v.next_unit v.journal) (sym c.self.view_is) c.requires.counted)
           c.due-done.ensures.keeps c.due-done.ensures.counts c.due-done.ensures.writes c.as_slice.ensures.value c.in-Ok.ensures.before c.in-Ok.ensures.slots
           (g.C.Call.entry c.args.call.now c.in-Ok.answer) c.note.new.units.items c.note.new.next (g.met.C.Call.of_call c.args.call.now c.in-Ok.answer) (g.met.C.Call.last c.args.call.now) c.requires.within c.in-Ok.ensures.behind c.in-Ok.ensures.does c.note.ensures)
           c.force.new.journal c.force.new.disk true
@@ -56,7 +56,7 @@ returns g c =
     rw (sym c.self.view_is) (record {
       did = done_off g.D.Disk.state
           (behind_call g.D.Disk.state (ap (λ (v : LoggedState _). v.served) c.self.view_is ∙ c.requires.served) (c.self.invariant (ap (λ (v : LoggedState _). v.served) c.self.view_is ∙ c.requires.served))
-          (subst (λ (v : LoggedState _). IsCounted 0 v.machine.moment.lasting v.next_unit v.journal) (sym c.self.view_is) c.requires.counted)
+          (subst (λ (v : LoggedState _). AreCountsInRange 0 v.machine.moment.lasting v.next_unit v.journal) (sym c.self.view_is) c.requires.counted)
           c.due-done.ensures.keeps c.due-done.ensures.counts c.due-done.ensures.writes c.as_slice.ensures.value c.in-Ok.ensures.before c.in-Ok.ensures.slots
           (g.C.Call.entry c.args.call.now c.in-Ok.answer) c.note.new.units.items c.note.new.next (g.met.C.Call.of_call c.args.call.now c.in-Ok.answer) (g.met.C.Call.last c.args.call.now) c.requires.within c.in-Ok.ensures.behind c.in-Ok.ensures.does c.note.ensures)
           c.force.new.journal c.force.new.disk false

@@ -1,5 +1,5 @@
 use Rattle.std.proofs.Common.{◌-◌, ◌∙◌, ap, sym, arith}
-use Rattle.logged_machine.specs.Logged.{LoggedState}
+use Rattle.logged_machine.specs.LoggedState.{LoggedState}
 use Rattle.logged_machine.proofs.Serving.{sequences}
 use Rattle.logged_machine.proofs.Unspent.{spent_is}
 use Rattle.logged_machine.proofs.logged.LoggedMachine.spent.Goals as goal

@@ -1,7 +1,7 @@
 use Rattle.std.proofs.Common.{◌+◌, sym, ap, refl, subst, ◌∙◌}
 use Rattle.system_types.specs.Jobs.{lent_job}
 use Rattle.model_machine.specs.Trial.WorkEnd.{Ends, Abends}
-use Rattle.program_rows.specs.State.{DatabasesState}
+use Rattle.program_rows.specs.DatabasesState.{DatabasesState}
 use Rattle.message_run.specs.RunState.{IsBetweenTurns}
 use Rattle.message_run.proofs.Calls.{is_call}
 use Rattle.message_run.proofs.Steps.{stops_so, syncs, abends, waits_for, goes_by, still, taken_back, rests_on}

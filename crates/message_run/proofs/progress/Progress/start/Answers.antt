@@ -2,7 +2,7 @@ use Rattle.std.proofs.Common.{ℕ, replicate, ap, refl, ◌∙◌}
 use Rattle.model_data.specs.Data.{nowhere}
 use Rattle.system_types.specs.Jobs.{lent_job}
 use Rattle.std.specs.Option.{option_copied}
-use Rattle.message_run.specs.Ahead.{given_with}
+use Rattle.message_run.specs.WorkAhead.{given_with}
 use Rattle.message_run.proofs.Steps.{start_is}
 use Rattle.message_run.proofs.progress.Progress.start.Goals as goal
 

@@ -1,18 +1,18 @@
 use Rattle.std.proofs.Common.{refl, sym, subst}
 use Rattle.std.specs.Map.{values_of}
-use Rattle.msg_queues.specs.Places.{IsBehind}
+use Rattle.msg_queues.specs.Places.{IsIdBehind}
 use Rattle.msg_queues.proofs.Indexed.{places_behind, conversing_behind, kept_same, kept_undone}
 use Rattle.msg_queues.proofs.queues.Queues.add.Goals as goal
 
 pub put-requires-clause-code : goal.put-requires-clause-code
 put-requires-clause-code c =
     let fresh = rw (← c.self.view_is) at c.requires.above in
-    subst (IsBehind c.args.message.id) (sym (c.self.invariant.indexed c.args.message.code)) (places_behind c.args.message.code c.args.message.id (values_of c.self.inside.messages.entries) fresh)
+    subst (IsIdBehind c.args.message.id) (sym (c.self.invariant.indexed c.args.message.code)) (places_behind c.args.message.code c.args.message.id (values_of c.self.inside.messages.entries) fresh)
 
 pub put-requires-clause-terminal : goal.put-requires-clause-terminal
 put-requires-clause-terminal c =
     let fresh = rw (← c.self.view_is) at c.requires.above in
-    subst (IsBehind c.args.message.id) (sym (c.self.invariant.conversing c.args.message.origin)) (conversing_behind c.args.message.origin c.args.message.id (values_of c.self.inside.messages.entries) fresh)
+    subst (IsIdBehind c.args.message.id) (sym (c.self.invariant.conversing c.args.message.origin)) (conversing_behind c.args.message.origin c.args.message.id (values_of c.self.inside.messages.entries) fresh)
 
 pub invariant_of-self : goal.invariant_of-self
 invariant_of-self c =

@@ -1,7 +1,7 @@
 use Rattle.std.proofs.Common.{◌≡◌, ◌+◌, ◌-◌, sym, arith, subst, take, drop, suc}
 use Rattle.std.specs.Vec.{vec_len}
 use Rattle.std.proofs.lemmas.Bool.{eqb-true}
-use Rattle.pi_enqueue.specs.Lists.{seen, AreEmpty}
+use Rattle.pi_enqueue.specs.Lists.{table_of_lists, AreEmpty}
 use Rattle.pi_enqueue.proofs.Alone.{alone_free}
 use Rattle.pi_enqueue.proofs.lists.Lists.is_alone.Goals as goal
 
@@ -14,4 +14,4 @@ returns c = λ yes request own.
     alone_free c.args.region c.args.self.now.regions c.requires.first c.args.self.now.held.items
     (subst (λ index. AreEmpty (take (c.args.region - 1) index)) c.deref.ensures.value empty.0)
     (subst (λ index. AreEmpty (drop (suc (c.args.region - 1)) index)) c.deref.ensures.value (subst (λ n. AreEmpty (drop n c.deref.result.now)) up empty.1))
-    request own (seen c.args.self.now) (omega (arith, us)) (omega (arith, ws)) c.requires.small c.requires.listed
+    request own (table_of_lists c.args.self.now) (omega (arith, us)) (omega (arith, ws)) c.requires.small c.requires.listed

@@ -1,6 +1,6 @@
 use Rattle.std.proofs.Common.{◌-◌, [], ap, ◌∙◌, set}
-use Rattle.program_rows.specs.State.{DatabasesState, dbds_of}
-use Rattle.program_rows.specs.Answering.{regions_backed}
+use Rattle.program_rows.specs.DatabasesState.{DatabasesState, dbds_of}
+use Rattle.program_rows.specs.CallAnswers.{regions_backed}
 use Rattle.program_rows.proofs.Ending.{has_unit, can_back_out, taken_back_units, taken_back_touched, back_slots, taken_back_committed, taken_back_dbds, taken_back_regions, there_back}
 use Rattle.program_rows.proofs.databases.Databases.back_out.Goals as goal
 

@@ -1,8 +1,8 @@
 use Rattle.std.proofs.Common.{◌-◌, [], ap, ◌∙◌, arith, set}
 use Rattle.model_data.specs.Table.{EnqueueTable}
-use Rattle.model_data.specs.Ask.{released}
-use Rattle.program_rows.specs.State.{DatabasesState, dbds_of}
-use Rattle.program_rows.specs.Answering.{regions_backed}
+use Rattle.model_data.specs.EnqueueRequests.{released}
+use Rattle.program_rows.specs.DatabasesState.{DatabasesState, dbds_of}
+use Rattle.program_rows.specs.CallAnswers.{regions_backed}
 use Rattle.program_rows.proofs.Ending.{has_unit, can_back_out, taken_back_units, taken_back_touched, taken_back_committed, taken_back_dbds, taken_back_regions, given_up_units, given_up_touched, back_gives_up, there_back}
 use Rattle.program_rows.proofs.Having.{whole_slots}
 use Rattle.program_rows.proofs.databases.Databases.give_up.Goals as goal

@@ -1,5 +1,5 @@
 use Rattle.std.proofs.Common.{◌≡◌, ◌∙◌, [], ap, sym, length, map, replicate}
-use Rattle.program_rows.specs.State.{DatabasesState, rows_of, clean_region}
+use Rattle.program_rows.specs.DatabasesState.{DatabasesState, rows_of_stores, clean_region}
 use Rattle.program_rows.specs.declared.opened.Opened.{Opened}
 use Rattle.program_rows.proofs.Ending.{opens, opens_slots, opens_touched, opens_marks, opens_committed, opens_regions, committed_are_rows}
 use Rattle.program_rows.proofs.Clearing.{units_count, regions_count}
@@ -36,7 +36,7 @@ returns-clause-regions c =
     let count = sym (units_count c.self.inside.opened) ∙ c.self.invariant.units.count in
     let same : n ≡ length c.args.self.now.regions = sym (regions_count c.self.inside.opened) ∙ ap (λ (d : DatabasesState). length d.regions) c.self.view_is in
     opens_regions dbds n o c.clear_units.ensures c.slots_valid.ensures c.self.invariant.units.compatible count c.self.invariant.units.numbered
-    ∙ ap (λ m. replicate m (clean_region (rows_of c.args.stores.stores))) same
+    ∙ ap (λ m. replicate m (clean_region (rows_of_stores c.args.stores.stores))) same
 
 pub returns-clause-rows : goal.returns-clause-rows
 returns-clause-rows c =

@@ -1,5 +1,5 @@
 use Rattle.std.proofs.Common.{◌∙◌, ap, sym}
-use Rattle.program_rows.specs.State.{DatabasesState}
+use Rattle.program_rows.specs.DatabasesState.{DatabasesState}
 use Rattle.program_rows.proofs.Settling.{whole_put, seen_put}
 use Rattle.program_rows.proofs.databases.Databases.put_stores.Goals as goal
 

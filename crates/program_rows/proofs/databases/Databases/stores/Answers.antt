@@ -1,5 +1,5 @@
 use Rattle.std.proofs.Common.{subst}
-use Rattle.program_rows.specs.OnSlots.{AreOnSlots}
+use Rattle.program_rows.specs.SlotsState.{AreOnSlots}
 use Rattle.program_rows.proofs.Having.{whole_slots}
 use Rattle.program_rows.proofs.databases.Databases.stores.Goals as goal
 

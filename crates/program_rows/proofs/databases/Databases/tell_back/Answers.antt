@@ -1,7 +1,7 @@
 use Rattle.std.proofs.Common.{List, length, ap, arith, refl, subst}
 use Rattle.std.specs.Prelude.{IfErr, OnOk}
 use Rattle.log_records.specs.declared.record.Record.{Record}
-use Rattle.log_records.specs.Telling.{Tells, IsUntold}
+use Rattle.log_records.specs.ToldRecords.{TellsInRoom, AreRecordsUntold}
 use Rattle.program_rows.proofs.Ending.{has_unit, back_toldable, back_told_is}
 use Rattle.program_rows.proofs.databases.Databases.tell_back.Goals as goal
 
@@ -18,12 +18,12 @@ tell_slots-requires c =
 
 pub returns-clause-tells : goal.returns-clause-tells
 returns-clause-tells c =
-    subst (λ (rs : List Record). OnOk c.tell_slots.result (Tells rs c.args.room c.args.told.now.items c.tell_slots.new.told.items))
+    subst (λ (rs : List Record). OnOk c.tell_slots.result (TellsInRoom rs c.args.room c.args.told.now.items c.tell_slots.new.told.items))
     (back_told_is c.args.unit c.self.inside.opened c.args.self.now c.args.region c.deref.result.now c.unit_of.result.now c.touched.result.now c.self.inside.opened.stores.stores
     c.self.view_is c.deref.ensures.value c.unit_of.ensures c.touched.ensures.value refl) c.tell_slots.ensures.tells
 
 pub returns-clause-full : goal.returns-clause-full
 returns-clause-full c =
-    subst (λ (rs : List Record). IfErr c.tell_slots.result (IsUntold rs c.args.room))
+    subst (λ (rs : List Record). IfErr c.tell_slots.result (AreRecordsUntold rs c.args.room))
     (back_told_is c.args.unit c.self.inside.opened c.args.self.now c.args.region c.deref.result.now c.unit_of.result.now c.touched.result.now c.self.inside.opened.stores.stores
     c.self.view_is c.deref.ensures.value c.unit_of.ensures c.touched.ensures.value refl) c.tell_slots.ensures.full

@@ -2,7 +2,7 @@ use Rattle.std.proofs.Common.{◌≡◌, ◌&&◌, take, map, sym, subst, ap, �
 use Rattle.std.specs.List.{list_all}
 use Rattle.model_data.specs.Search.{meets_ssa}
 use Rattle.row_search.specs.Arguments.{Arguments}
-use Rattle.row_search.specs.Asked.{looked_up, is_met}
+use Rattle.row_search.specs.AskedArguments.{looked_up, is_met}
 use Rattle.row_search.proofs.LookedUp.{all_is}
 use Rattle.row_search.proofs.asked.Asked.are_met.Goals as goal
 

@@ -1,6 +1,6 @@
 use Rattle.std.proofs.Common.{◌≡◌, ◌+◌, ◌-◌, length, sym, ap, ◌∙◌, arith}
 use Rattle.model_data.specs.declared.row.Row.{Row}
-use Rattle.model_data.specs.Reading.{last_path}
+use Rattle.model_data.specs.RowsOfBytes.{last_path}
 use Rattle.seg_rows.proofs.Lists.{last_path_at}
 use Rattle.seg_rows.proofs.image.RecordImage.last_path.Goals as goal
 

@@ -1,6 +1,6 @@
 use Rattle.std.proofs.Common.{◌≡◌, ◌≢◌, ◌≤◌, ◌<◌, [], Some, None, length, subst, sym, ap, ◌∙◌, arith}
-use Rattle.model_data.specs.Record.{spelling, record_limit}
-use Rattle.model_data.specs.Rows.{Database, with_record, rows_of, IsImage, AreRows}
+use Rattle.model_data.specs.Record.{rows_spelling, record_limit}
+use Rattle.model_data.specs.Rows.{Database, with_record, rows_of_records, IsImage, AreRows}
 use Rattle.seg_rows.specs.StoreRefused.{set_refusal}
 use Rattle.seg_rows.specs.declared.rows.StoreRefused.TheVariants.{RootLimit, RecordTooLong}
 use Rattle.seg_rows.proofs.Kept.{kept_rows, kept_remove, rows_inserted, rows_removed, due_roots, due_length, due_none, kept_set, passed}
@@ -35,8 +35,8 @@ returns-then-is_full-clause-valid c = subst (λ (d : Database). AreRows d.dbd d.
 pub returns-then-not-fits-clause-refused : goal.returns-then-not-fits-clause-refused
 returns-then-not-fits-clause-refused c =
     let some : c.args.image ≢ [] = λ e. let t = c.is_empty.ensures.1 e in let f = c.if-is_empty.false in absurd (cc) in
-    let long : record_limit c.self.inside.dbd < length (spelling c.args.image) =
-    subst (λ n. n < length (spelling c.args.image)) c.record_limit.ensures (passed c.fits.result _ _ c.fits.ensures c.if-not-fits.true) in
+    let long : record_limit c.self.inside.dbd < length (rows_spelling c.args.image) =
+    subst (λ n. n < length (rows_spelling c.args.image)) c.record_limit.ensures (passed c.fits.result _ _ c.fits.ensures c.if-not-fits.true) in
     subst (λ (d : Database). set_refusal d.dbd c.args.root.now c.args.image d.rows ≡ Some RecordTooLong) c.self.view_is
     (due_length c.self.inside.dbd c.self.inside.records.entries c.args.root.now c.args.image c.self.invariant some (sym c.is_full.ensures.value ∙ c.if-is_full.false) long)
 
@@ -46,8 +46,8 @@ returns-then-not-fits-clause-valid c = subst (λ (d : Database). AreRows d.dbd d
 pub invariant_of-self-in-Ok : goal.invariant_of-self-in-Ok
 invariant_of-self-in-Ok c =
     let some : c.args.image ≢ [] = λ e. let t = c.is_empty.ensures.1 e in let f = c.if-is_empty.false in absurd (cc) in
-    let fits : length (spelling c.args.image) ≤ record_limit c.self.inside.dbd =
-    subst (λ n. length (spelling c.args.image) ≤ n) c.record_limit.ensures (c.fits.ensures.0 c.if-not-fits.false) in
+    let fits : length (rows_spelling c.args.image) ≤ record_limit c.self.inside.dbd =
+    subst (λ n. length (rows_spelling c.args.image) ≤ n) c.record_limit.ensures (c.fits.ensures.0 c.if-not-fits.false) in
     let may : IsImage c.self.inside.dbd c.args.root.now c.args.image =
     subst (λ (d : Database). IsImage d.dbd c.args.root.now c.args.image) (sym c.self.view_is) c.requires in
     kept_set c.self.inside.dbd c.args.root.now c.args.image c.self.inside.records.entries c.insert.new.self.entries c.in-Ok.field-0 c.self.invariant may some fits
@@ -61,8 +61,8 @@ returns-in-Ok-clause-replaced c =
 pub returns-in-Ok-clause-accepted : goal.returns-in-Ok-clause-accepted
 returns-in-Ok-clause-accepted c =
     let some : c.args.image ≢ [] = λ e. let t = c.is_empty.ensures.1 e in let f = c.if-is_empty.false in absurd (cc) in
-    let fits : length (spelling c.args.image) ≤ record_limit c.self.inside.dbd =
-    subst (λ n. length (spelling c.args.image) ≤ n) c.record_limit.ensures (c.fits.ensures.0 c.if-not-fits.false) in
+    let fits : length (rows_spelling c.args.image) ≤ record_limit c.self.inside.dbd =
+    subst (λ n. length (rows_spelling c.args.image) ≤ n) c.record_limit.ensures (c.fits.ensures.0 c.if-not-fits.false) in
     subst (λ (d : Database). set_refusal d.dbd c.args.root.now c.args.image d.rows ≡ None) c.self.view_is
     (due_none c.self.inside.dbd c.self.inside.records.entries c.args.root.now c.args.image c.self.invariant some (sym c.is_full.ensures.value ∙ c.if-is_full.false) fits)
 
@@ -71,4 +71,4 @@ returns-in-Ok-clause-valid c = kept_rows c.self.inside.dbd c.insert.new.self.ent
 
 pub returns-clause-valid : goal.returns-clause-valid
 returns-clause-valid c =
-    subst (λ es. AreRows c.self.inside.dbd (rows_of es)) (sym c.in-Err.ensures.err) (kept_rows c.self.inside.dbd c.self.inside.records.entries c.self.invariant)
+    subst (λ es. AreRows c.self.inside.dbd (rows_of_records es)) (sym c.in-Err.ensures.err) (kept_rows c.self.inside.dbd c.self.inside.records.entries c.self.invariant)

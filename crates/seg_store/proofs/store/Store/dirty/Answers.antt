@@ -1,5 +1,5 @@
 use Rattle.std.proofs.Common.{arith, subst}
-use Rattle.seg_store.specs.Changed.{Kept, AreChanged}
+use Rattle.seg_store.specs.ChangedSlots.{Kept, AreChanged}
 use Rattle.seg_store.proofs.Changes.{changed_few}
 use Rattle.seg_store.proofs.store.Store.dirty.Goals as goal
 

@@ -5,8 +5,8 @@ use Rattle.std.specs.List.{slice_get}
 use Rattle.std.specs.List.Sorted.{IsStrictlySortedBy}
 use Rattle.std.specs.Ordering.{nat_cmp}
 use Rattle.std.proofs.lemmas.Option.{slice_get_within}
-use Rattle.seg_store.specs.Changed.{Kept}
-use Rattle.seg_store.specs.Slots.{slot_of, rows_of_slots}
+use Rattle.seg_store.specs.ChangedSlots.{Kept}
+use Rattle.seg_store.specs.Slots.{slot_of_root, rows_of_slots}
 use Rattle.model_data.specs.Rows.{with_record}
 use Rattle.seg_store.proofs.SlotRows.{rows_filled}
 use Rattle.model_data.specs.Record.{IsRecord}
@@ -40,7 +40,7 @@ invariant_of-self c =
       indexed = indexed_new _ _ _ _ _ _ c.self.invariant.indexed c.args.root.now c.args.slot c.args.image _ _ _ _ _
           (subst (λ (s : Kept). IsRecord s.dbd c.args.root.now c.args.image) (sym c.self.view_is) c.requires.valid)
           (subst (λ (s : Kept). slice_get s.slots c.args.slot ≡ Some []) (sym c.self.view_is) c.requires.free)
-          (subst (λ (s : Kept). slot_of c.args.root.now s.slots ≡ None) (sym c.self.view_is) c.requires.new)
+          (subst (λ (s : Kept). slot_of_root c.args.root.now s.slots ≡ None) (sym c.self.view_is) c.requires.new)
           c.put.ensures c.add_root.ensures.items c.add_root.ensures.room c.take_slot.ensures.items c.take_slot.ensures.room;
     }
 
@@ -58,5 +58,5 @@ returns-clause-rows c =
     ∙ (rows_filled c.self.inside.dbd c.self.inside.slots.items c.args.root.now c.args.slot c.args.image c.self.invariant.indexed.valid
     (subst (λ (s : Kept). IsRecord s.dbd c.args.root.now c.args.image) (sym c.self.view_is) c.requires.valid)
     (subst (λ (s : Kept). slice_get s.slots c.args.slot ≡ Some []) (sym c.self.view_is) c.requires.free)
-    (subst (λ (s : Kept). slot_of c.args.root.now s.slots ≡ None) (sym c.self.view_is) c.requires.new)
+    (subst (λ (s : Kept). slot_of_root c.args.root.now s.slots ≡ None) (sym c.self.view_is) c.requires.new)
     ∙ ap (λ (s : Kept). with_record c.args.root.now c.args.image (rows_of_slots s.slots)) c.self.view_is)

@@ -4,8 +4,8 @@ use Rattle.std.proofs.Common.{◌<◌, arith, ◌≡◌, [], Some, sym, subst, a
 use Rattle.std.specs.List.Sorted.{IsStrictlySortedBy}
 use Rattle.std.specs.Ordering.{nat_cmp}
 use Rattle.model_data.specs.Rows.{with_record}
-use Rattle.seg_store.specs.Changed.{Kept}
-use Rattle.seg_store.specs.Slots.{without_root, slot_of, with_root, rows_of_slots}
+use Rattle.seg_store.specs.ChangedSlots.{Kept}
+use Rattle.seg_store.specs.Slots.{without_root, slot_of_root, with_root, rows_of_slots}
 use Rattle.seg_store.proofs.Entries.{remove_none}
 use Rattle.seg_store.proofs.Indexed.{free_room, indexed_gone, indexed_absent}
 use Rattle.seg_store.proofs.Numbers.{numbers_sorted}
@@ -57,7 +57,7 @@ add_changed-requires-clause-room c =
 
 pub returns-clause-rows : goal.returns-clause-rows
 returns-clause-rows c =
-    let there : slot_of c.args.root.now c.self.inside.slots.items ≡ Some c.in-Some.slot = sym (c.self.invariant.indexed.found c.args.root.now) ∙ sym c.in-Some.ensures.value in
+    let there : slot_of_root c.args.root.now c.self.inside.slots.items ≡ Some c.in-Some.slot = sym (c.self.invariant.indexed.found c.args.root.now) ∙ sym c.in-Some.ensures.value in
     let is : c.put.new.slots.items ≡ set c.self.inside.slots.items c.in-Some.slot [] = c.put.ensures ∙ ap (set c.self.inside.slots.items c.in-Some.slot) c.new.ensures in
     ap rows_of_slots is
     ∙ (rows_gone c.self.inside.dbd c.self.inside.slots.items (set c.self.inside.slots.items c.in-Some.slot []) c.args.root.now c.self.invariant.indexed.valid.each
@@ -75,7 +75,7 @@ returns-in_default-clause-freed c =
 
 pub returns-clause-freed : goal.returns-clause-freed
 returns-clause-freed c =
-    let there : slot_of c.args.root.now c.self.inside.slots.items ≡ Some c.in-Some.slot = sym (c.self.invariant.indexed.found c.args.root.now) ∙ sym c.in-Some.ensures.value in
+    let there : slot_of_root c.args.root.now c.self.inside.slots.items ≡ Some c.in-Some.slot = sym (c.self.invariant.indexed.found c.args.root.now) ∙ sym c.in-Some.ensures.value in
     c.put.ensures
     ∙ (ap (set c.self.inside.slots.items c.in-Some.slot) c.new.ensures
     ∙ (without_there c.args.root.now c.self.inside.slots.items c.in-Some.slot (c.self.invariant.indexed.valid.apart c.args.root.now) there

@@ -1,4 +1,4 @@
-use Rattle.seg_store.specs.Changed.{Kept}
+use Rattle.seg_store.specs.ChangedSlots.{Kept}
 use Rattle.seg_store.proofs.Changes.{changed_few}
 use Rattle.seg_store.proofs.store.Store.write_changed.Goals as goal
 use Rattle.std.proofs.Common.{◌≤◌, length, subst}

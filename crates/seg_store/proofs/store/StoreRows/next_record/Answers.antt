@@ -2,7 +2,7 @@ use Rattle.std.proofs.Common.{◌≡◌, ◌<◌, Some, None, subst, sym, ap, �
 use Rattle.std.specs.Option.{option_copied}
 use Rattle.model_data.specs.Rows.{AreRows}
 use Rattle.seg_rows.specs.NextRecord.{next_record}
-use Rattle.seg_store.specs.Changed.{Kept}
+use Rattle.seg_store.specs.ChangedSlots.{Kept}
 use Rattle.seg_store.specs.Slots.{rows_of_slots}
 use Rattle.seg_store.specs.Store.{next_entry}
 use Rattle.seg_store.proofs.Nexts.{next_within, next_record_is, next_record_none, indexed_rows}

@@ -1,7 +1,7 @@
 use Rattle.std.proofs.Common.{◌≡◌, Some, None, subst, sym, ap, ◌∙◌}
 use Rattle.std.specs.Option.{option_map, option_copied}
 use Rattle.model_data.specs.Rows.{next_root, AreRows}
-use Rattle.seg_store.specs.Changed.{Kept}
+use Rattle.seg_store.specs.ChangedSlots.{Kept}
 use Rattle.seg_store.specs.Slots.{rows_of_slots}
 use Rattle.seg_store.specs.Store.{next_entry}
 use Rattle.seg_store.proofs.Nexts.{next_root_is, indexed_rows}

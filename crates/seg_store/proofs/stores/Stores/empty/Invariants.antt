@@ -1,5 +1,5 @@
 use Rattle.std.proofs.Common.{◌≡◌, take}
-use Rattle.seg_store.specs.Changed.{all_stores}
+use Rattle.seg_store.specs.ChangedSlots.{all_stores}
 use Rattle.seg_store.specs.Stores.{empty_stores, no_changed}
 use Rattle.seg_store.proofs.stores.Stores.empty.Given as goal
 

@@ -1,6 +1,6 @@
 use Rattle.std.proofs.Common.{◌∙◌, ap}
-use Rattle.seg_store.specs.Changed.{all_stores}
-use Rattle.seg_store.specs.WriteBack.{all_written}
+use Rattle.seg_store.specs.ChangedSlots.{all_stores}
+use Rattle.seg_store.specs.WrittenSlots.{all_written}
 use Rattle.seg_store.proofs.WritingBack.{written_seen}
 use Rattle.seg_store.proofs.stores.Stores.settle.Goals as goal
 

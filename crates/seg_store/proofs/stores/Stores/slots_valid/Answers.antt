@@ -1,7 +1,7 @@
 use Rattle.std.proofs.Common.{subst}
 use Rattle.std.specs.List.{AllByRecursion}
 use Rattle.seg_store.specs.Slots.{Stored, AreSlots}
-use Rattle.seg_store.specs.Changed.{Kept, AllStores}
+use Rattle.seg_store.specs.ChangedSlots.{Kept, AllStores}
 use Rattle.seg_store.proofs.WritingBack.{valid_seen}
 use Rattle.seg_store.proofs.stores.Stores.slots_valid.Goals as goal
 

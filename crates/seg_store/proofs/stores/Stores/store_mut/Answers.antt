@@ -1,7 +1,7 @@
 use Rattle.std.proofs.Common.{◌≡◌, ◌<◌, length, arith, refl, sym, ap, ◌∙◌, subst, Some, ◌-◌}
 use Rattle.std.proofs.lemmas.Option.{slice_get-get_or}
 use Rattle.std.proofs.lemmas.List.{length-map}
-use Rattle.seg_store.specs.Changed.{AllStores, stored}
+use Rattle.seg_store.specs.ChangedSlots.{AllStores, stored}
 use Rattle.seg_store.specs.Stores.{IsStoreOf, with_store}
 use Rattle.seg_store.proofs.AllStores.{one_set, one_of}
 use Rattle.seg_store.proofs.stores.Stores.store_mut.Goals as goal

@@ -3,9 +3,9 @@ use Rattle.std.specs.Prelude.{OnOk, OnErr}
 use Rattle.std.specs.List.{AllByRecursion}
 use Rattle.tm_disk.specs.Disk.{Within, Follows}
 use Rattle.seg_store.specs.Slots.{Stored}
-use Rattle.seg_store.specs.Changed.{Kept, AllStores}
+use Rattle.seg_store.specs.ChangedSlots.{Kept, AllStores}
 use Rattle.seg_store.specs.DataSectors.{MayPut, HasPut, PutsFront}
-use Rattle.seg_store.specs.WriteBack.{changed_bytes, kept_bytes}
+use Rattle.seg_store.specs.WrittenSlots.{changed_bytes, kept_bytes}
 use Rattle.seg_store.proofs.WritingBack.{bytes_seen, sectors_seen}
 use Rattle.seg_store.proofs.stores.Stores.write_changed.Goals as goal
 

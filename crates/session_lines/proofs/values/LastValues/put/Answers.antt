@@ -1,6 +1,6 @@
 use Rattle.std.proofs.Common.{◌≡◌, ◌∙◌, true, ap, rules}
 use Rattle.tm_types.specs.Segment.{are_printable}
-use Rattle.session_lines.specs.Values.{is_kept, values_of}
+use Rattle.session_lines.specs.LastValues.{is_kept, values_of}
 use Rattle.session_lines.proofs.Latest.{stays_latest}
 use Rattle.session_lines.proofs.values.LastValues.put.Goals as goal
 

@@ -3,8 +3,8 @@ use Rattle.std.proofs.Common.{◌≡◌, ◌-◌, ◌∙◌, refl, sym, ap, subs
 use Rattle.model_machine.specs.declared.entry.Entry.{Entry}
 use Rattle.model_machine.specs.declared.entry.Entry.TheVariants.{Checked}
 use Rattle.openings.specs.Faults.{fault_in}
-use Rattle.tm_control.specs.Calls.{is_noted, noted}
-use Rattle.tm_control.specs.OnDisk.{ControlOnDisk}
+use Rattle.tm_control.specs.ControlCalls.{is_noted, noted}
+use Rattle.tm_control.specs.ControlOnDisk.{ControlOnDisk}
 use Rattle.tm_control.proofs.Going.{called, is_served, seen, still_counts, untaken}
 use Rattle.tm_control.proofs.Room.{room_saved}
 use Rattle.tm_control.proofs.Numbers.{taken_numbers}

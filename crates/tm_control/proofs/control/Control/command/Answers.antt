@@ -3,8 +3,8 @@ use Rattle.std.proofs.Common.{◌≡◌, ◌-◌, ◌∙◌, refl, sym, ap, subs
 use Rattle.model_machine.specs.declared.entry.Entry.{Entry}
 use Rattle.model_machine.specs.declared.entry.Entry.TheVariants.{Commanded}
 use Rattle.openings.specs.Faults.{fault_in}
-use Rattle.tm_control.specs.Calls.{is_noted, noted}
-use Rattle.tm_control.specs.OnDisk.{ControlOnDisk}
+use Rattle.tm_control.specs.ControlCalls.{is_noted, noted}
+use Rattle.tm_control.specs.ControlOnDisk.{ControlOnDisk}
 use Rattle.model_machine.specs.declared.entry.ControlCall.TheVariants.{Command as CommandCall}
 use Rattle.tm_control.proofs.Going.{called, frugal_too, is_served, seen, still_counts}
 use Rattle.tm_control.proofs.Room.{room_saved}

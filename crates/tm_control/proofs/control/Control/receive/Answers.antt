@@ -1,7 +1,7 @@
 -- the machine stands, and the new entry says what it shows
 use Rattle.std.proofs.Common.{◌∙◌, ap}
 use Rattle.model_machine.specs.declared.entry.Entry.TheVariants.{Show}
-use Rattle.tm_control.specs.OnDisk.{ControlOnDisk}
+use Rattle.tm_control.specs.ControlOnDisk.{ControlOnDisk}
 use Rattle.tm_control.proofs.Going.{shown_holds}
 use Rattle.tm_control.proofs.control.Control.receive.Goals as goal
 

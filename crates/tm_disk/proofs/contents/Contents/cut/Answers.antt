@@ -1,7 +1,7 @@
 use Rattle.std.proofs.Common.{◌≡◌, ℕ, ◌<◌, ◌≤◌, List, [], ◌∷◌, ◌++◌, length, drop, get_or, sym, ◌∙◌, ap, subst, inl}
 use Rattle.std.specs.Prelude.{All}
-use Rattle.tm_disk.specs.Moments.{zero_disk, picked, moments_past, IsSound}
-use Rattle.tm_disk.specs.Numbered.{image_by}
+use Rattle.tm_disk.specs.Moments.{zero_disk, picked, moments_past, IsMomentSound}
+use Rattle.tm_disk.specs.NumberedSectors.{image_by}
 use Rattle.tm_disk.specs.declared.record.Before.{Before}
 use Rattle.tm_disk.proofs.Keeping.{moment_of}
 use Rattle.tm_disk.proofs.Numbers.{length_image_by, numbered-cut}
@@ -32,7 +32,7 @@ take_over-requires-clause-others c =
 pub invariant_of-self : goal.invariant_of-self
 invariant_of-self c =
     let m = c.args.self.now in
-    let sound = subst (λ (p : Before). IsSound (image_by m.writes.items m.shown.items) (image_by m.writes.items m.synced.items) m.writes.items m.settled p) c.in-Nothing.is m.sound in
+    let sound = subst (λ (p : Before). IsMomentSound (image_by m.writes.items m.shown.items) (image_by m.writes.items m.synced.items) m.writes.items m.settled p) c.in-Nothing.is m.sound in
     let picks : image_by m.writes.items c.choose.new.numbers.items ≡ picked c.args.pick 0 (drop m.settled m.writes.items) (image_by m.writes.items m.synced.items) = c.choose.ensures.picked in
     let within : All (λ n. n ≤ length m.writes.items) c.choose.new.numbers.items = c.choose.ensures.within m.numbers.synced_in in
     let settling = numbered-cut m.shown.items m.synced.items c.take_over.new.numbers.items c.choose.new.numbers.items m.writes.items m.settled c.len-self.result c.args.pick m.numbers sound picks within c.choose.ensures.size
@@ -42,7 +42,7 @@ invariant_of-self c =
 pub returns-in-Nothing-clause-settles : goal.returns-in-Nothing-clause-settles
 returns-in-Nothing-clause-settles c =
     let m = c.args.self.now in
-    let sound = subst (λ (p : Before). IsSound (image_by m.writes.items m.shown.items) (image_by m.writes.items m.synced.items) m.writes.items m.settled p) c.in-Nothing.is m.sound in
+    let sound = subst (λ (p : Before). IsMomentSound (image_by m.writes.items m.shown.items) (image_by m.writes.items m.synced.items) m.writes.items m.settled p) c.in-Nothing.is m.sound in
     let picks : image_by m.writes.items c.choose.new.numbers.items ≡ picked c.args.pick 0 (drop m.settled m.writes.items) (image_by m.writes.items m.synced.items) = c.choose.ensures.picked in
     let within : All (λ n. n ≤ length m.writes.items) c.choose.new.numbers.items = c.choose.ensures.within m.numbers.synced_in in
     let settling = numbered-cut m.shown.items m.synced.items c.take_over.new.numbers.items c.choose.new.numbers.items m.writes.items m.settled c.len-self.result c.args.pick m.numbers sound picks within c.choose.ensures.size

@@ -1,7 +1,7 @@
 use Rattle.std.proofs.Common.{◌<◌, length, arith, sym, ◌∙◌, ap}
 use Rattle.std.proofs.lemmas.List.{get_or_read}
 use Rattle.tm_disk.specs.Disk.{Image, sector_at}
-use Rattle.tm_disk.specs.Numbered.{made_by}
+use Rattle.tm_disk.specs.NumberedSectors.{made_by}
 use Rattle.tm_disk.proofs.Numbers.{length_image_by, sector_at-image_by}
 use Rattle.tm_disk.proofs.contents.Contents.get.Goals as goal
 

@@ -1,7 +1,7 @@
 use Rattle.std.proofs.Common.{ℕ, ◌<◌, List, [], ◌∷◌, ◌++◌, length, get_or, sym, ◌∙◌, ap, subst, inl}
 use Rattle.std.specs.Prelude.{All}
-use Rattle.tm_disk.specs.Moments.{zero_disk, moments_past, IsSound}
-use Rattle.tm_disk.specs.Numbered.{image_by}
+use Rattle.tm_disk.specs.Moments.{zero_disk, moments_past, IsMomentSound}
+use Rattle.tm_disk.specs.NumberedSectors.{image_by}
 use Rattle.tm_disk.specs.declared.record.Before.{Before}
 use Rattle.tm_disk.proofs.Keeping.{moment_of}
 use Rattle.tm_disk.proofs.Numbers.{length_image_by, numbered-sync}
@@ -23,14 +23,14 @@ take_over-requires-clause-others c =
 pub invariant_of-self : goal.invariant_of-self
 invariant_of-self c =
     let m = c.args.self.now in
-    let sound = subst (λ (p : Before). IsSound (image_by m.writes.items m.shown.items) (image_by m.writes.items m.synced.items) m.writes.items m.settled p) c.in-Nothing.is m.sound in
+    let sound = subst (λ (p : Before). IsMomentSound (image_by m.writes.items m.shown.items) (image_by m.writes.items m.synced.items) m.writes.items m.settled p) c.in-Nothing.is m.sound in
     let settling = numbered-sync m.shown.items m.synced.items c.take_over.new.numbers.items m.writes.items m.settled c.len-self.result m.numbers sound (c.take_over.ensures ∙ c.deref.ensures.value) c.len-self.ensures in
     record { counts_size = m.counts_size ∙ sym settling.size; numbers = settling.numbers; sound = settling.sound }
 
 pub returns-in-Nothing-clause-settles : goal.returns-in-Nothing-clause-settles
 returns-in-Nothing-clause-settles c =
     let m = c.args.self.now in
-    let sound = subst (λ (p : Before). IsSound (image_by m.writes.items m.shown.items) (image_by m.writes.items m.synced.items) m.writes.items m.settled p) c.in-Nothing.is m.sound in
+    let sound = subst (λ (p : Before). IsMomentSound (image_by m.writes.items m.shown.items) (image_by m.writes.items m.synced.items) m.writes.items m.settled p) c.in-Nothing.is m.sound in
     let settling = numbered-sync m.shown.items m.synced.items c.take_over.new.numbers.items m.writes.items m.settled c.len-self.result m.numbers sound (c.take_over.ensures ∙ c.deref.ensures.value) c.len-self.ensures in
     inl (record {
       now = settling.now;

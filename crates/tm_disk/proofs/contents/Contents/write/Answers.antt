@@ -1,7 +1,7 @@
 use Rattle.std.proofs.Common.{◌≡◌, ◌+◌, List, [], ◌∷◌, ◌++◌, length, set, arith, refl, sym, ◌∙◌, ap, subst}
 use Rattle.std.proofs.lemmas.List.{length_push}
-use Rattle.tm_disk.specs.Moments.{zero_disk, moments_past, IsSound}
-use Rattle.tm_disk.specs.Numbered.{image_by, AreNumbers}
+use Rattle.tm_disk.specs.Moments.{zero_disk, moments_past, IsMomentSound}
+use Rattle.tm_disk.specs.NumberedSectors.{image_by, AreNumbers}
 use Rattle.tm_disk.specs.Written.{Written}
 use Rattle.tm_disk.specs.declared.record.Before.TheVariants.{Nothing}
 use Rattle.tm_disk.proofs.Keeping.{moment_of, write-past}
@@ -24,7 +24,7 @@ invariant_of-self-2 c =
     record {
       counts_size = m.counts_size;
       numbers = subst (λ l. AreNumbers (set m.shown.items c.args.at c.len.result) m.synced.items l m.settled) (sym items) (numbers-write m.shown.items m.synced.items m.writes.items m.settled c.args.at c.len.result write m.numbers m.sound.settled_in refl number);
-      sound = subst (λ l. IsSound (image_by l (set m.shown.items c.args.at c.len.result)) (image_by l m.synced.items) l m.settled Nothing) (sym items)
+      sound = subst (λ l. IsMomentSound (image_by l (set m.shown.items c.args.at c.len.result)) (image_by l m.synced.items) l m.settled Nothing) (sym items)
           (numbered-write m.shown.items m.synced.items m.writes.items m.settled m.pending c.args.at c.len.result c.args.content.now m.numbers m.sound c.requires.in_range c.requires.room number);
     }
 

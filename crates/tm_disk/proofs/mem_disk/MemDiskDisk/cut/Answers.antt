@@ -1,6 +1,6 @@
 use Rattle.std.proofs.Common.{sym, subst}
 use Rattle.tm_disk.specs.Disk.{IsCut}
-use Rattle.tm_disk.specs.Contents.{now_of, past_of}
+use Rattle.tm_disk.specs.Contents.{contents_now, past_of}
 use Rattle.tm_disk.specs.MemState.{mem_state}
 use Rattle.tm_disk.specs.declared.plan.Plan.{Plan}
 use Rattle.tm_disk.proofs.States.{cut_cuts, cut_moment}
@@ -9,7 +9,7 @@ use Rattle.tm_disk.proofs.mem_disk.MemDiskDisk.cut.Goals as goal
 pub returns-clause-cut : goal.returns-clause-cut
 returns-clause-cut c =
     let old = c.args.self.now in
-    let K : Plan → Type 0 = λ p. IsCut c.args.pick (mem_state (now_of old.contents) (past_of old.contents) old.plan.faults old.plan.writes old.plan.until_stop) (mem_state (now_of c.cut.new.self) (past_of c.cut.new.self) p.faults p.writes p.until_stop) in
+    let K : Plan → Type 0 = λ p. IsCut c.args.pick (mem_state (contents_now old.contents) (past_of old.contents) old.plan.faults old.plan.writes old.plan.until_stop) (mem_state (contents_now c.cut.new.self) (past_of c.cut.new.self) p.faults p.writes p.until_stop) in
     subst K (sym c.disarm.ensures) (cut_cuts old.contents c.cut.new.self old.plan.faults old.plan.writes c.args.pick old.plan.until_stop c.cut.ensures.settles)
 
 pub returns-clause-picked : goal.returns-clause-picked

@@ -1,6 +1,6 @@
 use Rattle.std.proofs.Common.{arith, sym, ◌∙◌, ap, subst}
 use Rattle.tm_disk.specs.Disk.{MayHaveWritten, HasWritten, one_less}
-use Rattle.tm_disk.specs.Contents.{now_of, past_of, GoesOn}
+use Rattle.tm_disk.specs.Contents.{contents_now, past_of, ContentsGoOn}
 use Rattle.tm_disk.specs.Moments.{after_write}
 use Rattle.tm_disk.specs.Count.{raised}
 use Rattle.tm_disk.specs.Plan.{faulted}
@@ -14,8 +14,8 @@ pub returns-then-fails-clause-tried : goal.returns-then-fails-clause-tried
 returns-then-fails-clause-tried c =
     let old = c.args.self.now in
     let write : Written = record { at = c.args.at; content = c.args.from.now; before = old.contents.pending } in
-    let goes = at_ok c.write.result (GoesOn old.contents c.write.new.self (after_write write (now_of old.contents))) (sym c.is_err.ensures.value ∙ c.if-is_err.false) c.write.ensures.ok in
-    let K : Plan → Type 0 = λ p. MayHaveWritten c.args.at c.args.from.now (mem_state (now_of old.contents) (past_of old.contents) old.plan.faults old.plan.writes old.plan.until_stop) (mem_state (now_of c.write.new.self) (past_of c.write.new.self) p.faults p.writes p.until_stop) in
+    let goes = at_ok c.write.result (ContentsGoOn old.contents c.write.new.self (after_write write (contents_now old.contents))) (sym c.is_err.ensures.value ∙ c.if-is_err.false) c.write.ensures.ok in
+    let K : Plan → Type 0 = λ p. MayHaveWritten c.args.at c.args.from.now (mem_state (contents_now old.contents) (past_of old.contents) old.plan.faults old.plan.writes old.plan.until_stop) (mem_state (contents_now c.write.new.self) (past_of c.write.new.self) p.faults p.writes p.until_stop) in
     subst K (sym (c.fault-then-fails.ensures ∙ ap faulted c.tell-fails.ensures.counted))
     (write_tries old.contents c.write.new.self write old.plan.faults (raised old.plan.faults) old.plan.writes old.plan.until_stop (raised_more old.plan.faults) goes)
 
@@ -23,8 +23,8 @@ pub returns-clause-tried : goal.returns-clause-tried
 returns-clause-tried c =
     let old = c.args.self.now in
     let write : Written = record { at = c.args.at; content = c.args.from.now; before = old.contents.pending } in
-    let goes = at_ok c.write.result (GoesOn old.contents c.write.new.self (after_write write (now_of old.contents))) (sym c.is_err.ensures.value ∙ c.if-is_err.false) c.write.ensures.ok in
-    let K : Plan → Type 0 = λ p. MayHaveWritten c.args.at c.args.from.now (mem_state (now_of old.contents) (past_of old.contents) old.plan.faults old.plan.writes old.plan.until_stop) (mem_state (now_of c.write.new.self) (past_of c.write.new.self) p.faults p.writes p.until_stop) in
+    let goes = at_ok c.write.result (ContentsGoOn old.contents c.write.new.self (after_write write (contents_now old.contents))) (sym c.is_err.ensures.value ∙ c.if-is_err.false) c.write.ensures.ok in
+    let K : Plan → Type 0 = λ p. MayHaveWritten c.args.at c.args.from.now (mem_state (contents_now old.contents) (past_of old.contents) old.plan.faults old.plan.writes old.plan.until_stop) (mem_state (contents_now c.write.new.self) (past_of c.write.new.self) p.faults p.writes p.until_stop) in
     subst K (sym c.tell-fails.ensures.counted)
     (write_tries old.contents c.write.new.self write old.plan.faults old.plan.faults old.plan.writes old.plan.until_stop (omega arith) goes)
 
@@ -32,7 +32,7 @@ pub returns-clause-done : goal.returns-clause-done
 returns-clause-done c =
     let old = c.args.self.now in
     let write : Written = record { at = c.args.at; content = c.args.from.now; before = old.contents.pending } in
-    let goes = at_ok c.write.result (GoesOn old.contents c.write.new.self (after_write write (now_of old.contents))) (sym c.is_err.ensures.value ∙ c.if-is_err.false) c.write.ensures.ok in
-    let K : Plan → Type 0 = λ p. HasWritten c.args.at c.args.from.now (mem_state (now_of old.contents) (past_of old.contents) old.plan.faults old.plan.writes old.plan.until_stop) (mem_state (now_of c.write.new.self) (past_of c.write.new.self) p.faults p.writes p.until_stop) in
+    let goes = at_ok c.write.result (ContentsGoOn old.contents c.write.new.self (after_write write (contents_now old.contents))) (sym c.is_err.ensures.value ∙ c.if-is_err.false) c.write.ensures.ok in
+    let K : Plan → Type 0 = λ p. HasWritten c.args.at c.args.from.now (mem_state (contents_now old.contents) (past_of old.contents) old.plan.faults old.plan.writes old.plan.until_stop) (mem_state (contents_now c.write.new.self) (past_of c.write.new.self) p.faults p.writes p.until_stop) in
     subst K (sym c.tell-fails.ensures.counted)
     (write_does old.contents c.write.new.self write old.plan.faults old.plan.faults old.plan.writes old.plan.until_stop (one_less old.plan.until_stop) c.requires goes)

@@ -2,7 +2,7 @@ use Rattle.std.proofs.Common.{◌≡◌, ◌<◌, ◌∙◌, ap, sym, subst, Lis
 use Rattle.std.specs.Prelude.{Option, IfSome}
 use Rattle.std.specs.Io.KnownBytes.{prepend_known, IsAtEnd}
 use Rattle.tm_edge.specs.Buffer.{held_bytes}
-use Rattle.tm_edge.specs.Lines.{line_size, unread, IsTooLong, ServesTold}
+use Rattle.tm_edge.specs.Lines.{line_size, unread, IsLineTooLong, ServesTold}
 use Rattle.tm_edge.proofs.Served.{serves_told, too_long_told}
 use Rattle.tm_edge.proofs.lines.Lines.next_line.Goals as goal
 
@@ -30,14 +30,14 @@ returns-in-Some-clause-line g c =
 
 pub returns-in-Err-clause-too_long : goal.returns-in-Err-clause-too_long
 returns-in-Err-clause-too_long g c = λ _.
-    let long : IsTooLong c.held.result.now = c.in-Err.ensures.too_long in
-    too_long_told c.args.self.now (g.S.Source.left c.args.source.now) (subst IsTooLong (c.held.ensures ∙ c.self.view_is) long)
+    let long : IsLineTooLong c.held.result.now = c.in-Err.ensures.too_long in
+    too_long_told c.args.self.now (g.S.Source.left c.args.source.now) (subst IsLineTooLong (c.held.ensures ∙ c.self.view_is) long)
 
 pub returns-clause-too_long : goal.returns-clause-too_long
 returns-clause-too_long g c = λ _.
     let left : Option (List ℕ) = g.S.Source.left c.read_line.new.source in
     let before : prepend_known (held_bytes c.read_line.new.buffer) left ≡ unread c.args.self.now (g.S.Source.left c.args.source.now) =
     c.read_line.ensures.told ∙ ap (λ (xs : List ℕ). prepend_known xs (g.S.Source.left c.args.source.now)) (c.reserve.ensures.held ∙ c.self.view_is) in
-    let long : IsTooLong (held_bytes c.read_line.new.buffer) = search rules in
-    let P : Option (List ℕ) → Type 0 = λ told. IfSome told IsTooLong in
+    let long : IsLineTooLong (held_bytes c.read_line.new.buffer) = search rules in
+    let P : Option (List ℕ) → Type 0 = λ told. IfSome told IsLineTooLong in
     subst P before (too_long_told _ left long)

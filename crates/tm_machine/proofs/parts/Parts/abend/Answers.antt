@@ -3,7 +3,7 @@ use Rattle.std.specs.Prelude.{Some, slice_get}
 use Rattle.tm_machine.proofs.Raising.{follow_one}
 use Rattle.tm_machine.proofs.Full.{err_where}
 use Rattle.tm_machine.proofs.Finished.{abended_tells, abended_longer, found_here, id_there, works_there, follows_abended, parts_abended, abended_turned}
-use Rattle.region_work.specs.Region.{calls_made}
+use Rattle.region_work.specs.RegionWork.{calls_made}
 use Rattle.tm_machine.proofs.Abends.{ends_right}
 use Rattle.tm_machine.proofs.Scheduled.{moment_now}
 use Rattle.tm_machine.proofs.Stepped.{slot_is}

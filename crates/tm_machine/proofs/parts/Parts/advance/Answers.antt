@@ -2,12 +2,12 @@ use Rattle.std.proofs.Common.{◌≡◌, ◌-◌, ◌<◌, length, sym, ap, ◌�
 use Rattle.std.specs.Prelude.{Some, slice_get, slice_set}
 use Rattle.std.proofs.lemmas.Option.{slice_get-get_or}
 use Rattle.lasting_state.specs.Tables.{lasting_of}
-use Rattle.tm_machine.specs.Parts.{slots_of, settings_of, flags_of}
+use Rattle.tm_machine.specs.Parts.{work_slots, settings_of, flags_of}
 use Rattle.model_messages.specs.Queue.{messages_of}
 use Rattle.tm_machine.proofs.Conversing.{have_pads}
 use Rattle.tm_machine.proofs.Stepped.{queued_work, parts_step}
-use Rattle.message_run.specs.Telling.{TellsNext}
-use Rattle.log_records.specs.Telling.{spelled}
+use Rattle.message_run.specs.MessageChanges.{TellsNext}
+use Rattle.log_records.specs.ToldRecords.{spelled_records}
 use Rattle.tm_machine.proofs.Going.{goes_is, same_moment, ok_both, keeps_by, err_map_2}
 use Rattle.region_work.proofs.Results.{on_map, if_err_map}
 use Rattle.tm_machine.proofs.Slotting.{next_of}
@@ -61,7 +61,7 @@ returns-clause-err c =
     slice_get-get_or c.self.inside.regions.items (c.args.region - 1) _ within ∙ ap Some (sym c.index_mut.ensures.value) in
     rw (sym c.self.view_is)
     (err_map_2 c.advance.result
-    (λ h k. ap (λ t. record { system = c.self.inside.system; moment = record { lasting = lasting_of (settings_of c.self.inside.codes) t; slots = slots_of (slice_set c.self.inside.regions.items (c.args.region - 1) c.advance.new.work); enqueues = t.databases.table; raised = flags_of c.self.inside.codes }; databases = t.databases }) k
+    (λ h k. ap (λ t. record { system = c.self.inside.system; moment = record { lasting = lasting_of (settings_of c.self.inside.codes) t; slots = work_slots (slice_set c.self.inside.regions.items (c.args.region - 1) c.advance.new.work); enqueues = t.databases.table; raised = flags_of c.self.inside.codes }; databases = t.databases }) k
     ∙ ap (λ ss. record { system = c.self.inside.system; moment = record { lasting = lasting_of (settings_of c.self.inside.codes) c.self.inside.tables; slots = ss; enqueues = c.self.inside.tables.databases.table; raised = flags_of c.self.inside.codes }; databases = c.self.inside.tables.databases })
     (same_moment c.self.inside.system c.self.inside.tables c.self.inside.codes c.self.inside.regions.items c.args.region c.self.invariant region
     c.index_mut.result.now c.advance.new.work get h))
@@ -88,4 +88,4 @@ returns-clause-full c =
     rw (sym c.self.view_is)
     (if_err_map c.advance.result
     (λ error. where_full error (next_of c.self.inside.system c.self.inside.tables c.self.inside.codes c.self.inside.regions.items c.args.region c.self.invariant
-    (λ records. c.args.room < length (spelled records)) c.args.unit c.index_mut.result.now get)) c.advance.ensures.full)
+    (λ records. c.args.room < length (spelled_records records)) c.args.unit c.index_mut.result.now get)) c.advance.ensures.full)

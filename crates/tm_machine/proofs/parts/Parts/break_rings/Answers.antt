@@ -3,7 +3,7 @@ use Rattle.std.specs.Prelude.{None, slice_set}
 use Rattle.std.proofs.lemmas.List.{append-nil}
 use Rattle.model_data.specs.Cycle.{Breaks}
 use Rattle.model_machine.specs.Machine.{busy_slots}
-use Rattle.tm_machine.specs.OnSlots.{slots_now, VictimsGiveUp}
+use Rattle.tm_machine.specs.SlotChanges.{slots_now, VictimsGiveUp}
 use Rattle.tm_machine.specs.Victims.{all_gave_way, gave_way}
 use Rattle.tm_machine.proofs.Slotting.{gives_more}
 use Rattle.tm_machine.proofs.Breaking.{breaks_on, busy_less, gave_more}

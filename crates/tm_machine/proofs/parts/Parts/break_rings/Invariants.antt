@@ -2,7 +2,7 @@ use Rattle.std.proofs.Common.{◌≡◌, ◌+◌, ◌≤◌, ◌++◌, List, len
 use Rattle.model_data.specs.declared.victim.Victim.{Victim}
 use Rattle.model_data.specs.Cycle.{Breaks}
 use Rattle.model_machine.specs.Machine.{busy_slots}
-use Rattle.tm_machine.specs.OnSlots.{slots_now, VictimsGiveUp}
+use Rattle.tm_machine.specs.SlotChanges.{slots_now, VictimsGiveUp}
 use Rattle.tm_machine.specs.Victims.{all_gave_way}
 use Rattle.tm_machine.proofs.parts.Parts.break_rings.Given as goal
 

@@ -4,9 +4,9 @@ use Rattle.tm_machine.proofs.Raising.{follow_is}
 use Rattle.model_machine.specs.Trial.WorkEnd.{Ends}
 use Rattle.tm_machine.proofs.Full.{err_where}
 use Rattle.tm_machine.proofs.Finished.{ends_step, completed_tells, completed_longer, may_complete, follows_completed, parts_completed, done_turned}
-use Rattle.region_work.specs.Region.{outputs_by}
-use Rattle.lasting_state.specs.Telling.{IsLonger}
-use Rattle.tm_machine.specs.Ends.{OfWork, completion_of}
+use Rattle.region_work.specs.RegionWork.{outputs_by}
+use Rattle.lasting_state.specs.ToldSteps.{AreRecordsLonger}
+use Rattle.tm_machine.specs.WorkEnds.{OfWork, completion_of}
 use Rattle.tm_machine.proofs.parts.Parts.complete.Goals as goal
 
 pub end_work-requires-clause-may : goal.end_work-requires-clause-may
@@ -52,7 +52,7 @@ returns-in_err-names-clause-full c =
     ap (λ rs. slice_get rs (c.args.region - 1)) (sym c.deref.ensures.value) ∙ c.busy_at-busy.ensures in
     let region = (rw (← c.self.view_is) at c.requires.region) in
     let ends = (rw (← c.self.view_is) at c.requires.ends) in
-    rw (sym c.self.view_is) (err_where c.from_residual.result (λ (longer : OfWork c.self.inside.regions.items c.args.region (λ busy. IsLonger c.args.unit c.args.room (completion_of c.args.region c.self.inside.tables busy) c.self.inside.tables)). completed_longer c.self.inside.system c.self.inside.tables c.self.inside.codes c.self.inside.regions.items c.args.region c.self.invariant c.busy_at-busy.result.now e region c.args.unit c.args.room (ends_step c.self.inside.system c.self.inside.tables c.self.inside.codes c.self.inside.regions.items c.args.region c.self.invariant c.busy_at-busy.result.now e region Ends ends) (longer c.busy_at-busy.result.now e)) (search rules))
+    rw (sym c.self.view_is) (err_where c.from_residual.result (λ (longer : OfWork c.self.inside.regions.items c.args.region (λ busy. AreRecordsLonger c.args.unit c.args.room (completion_of c.args.region c.self.inside.tables busy) c.self.inside.tables)). completed_longer c.self.inside.system c.self.inside.tables c.self.inside.codes c.self.inside.regions.items c.args.region c.self.invariant c.busy_at-busy.result.now e region c.args.unit c.args.room (ends_step c.self.inside.system c.self.inside.tables c.self.inside.codes c.self.inside.regions.items c.args.region c.self.invariant c.busy_at-busy.result.now e region Ends ends) (longer c.busy_at-busy.result.now e)) (search rules))
 
 pub returns-clause-slots : goal.returns-clause-slots
 returns-clause-slots c =

@@ -1,9 +1,9 @@
 use Rattle.std.proofs.Common.{◌∙◌, ap, sym, subst, rules}
-use Rattle.tm_machine.specs.Commands.{EndsNoneBusy}
+use Rattle.tm_machine.specs.LastingCommands.{EndsNoneBusy}
 use Rattle.tm_machine.specs.Parts.{PartsState, settings_of}
 use Rattle.tm_machine.proofs.Commanded.{parts_commanded, commanded_is, same_databases}
-use Rattle.model_machine.specs.Lasting.LastingStep.{Commands}
-use Rattle.lasting_state.specs.Telling.{IsLonger}
+use Rattle.model_machine.specs.LastingSteps.LastingStep.{Commands}
+use Rattle.lasting_state.specs.ToldSteps.{AreRecordsLonger}
 use Rattle.tm_machine.proofs.Full.{err_where}
 use Rattle.tm_machine.proofs.parts.Parts.do_command.Goals as goal
 
@@ -34,4 +34,4 @@ returns-clause-databases c =
 
 pub returns-in_err-command-clause-full : goal.returns-in_err-command-clause-full
 returns-in_err-command-clause-full c =
-    err_where c.from_residual.result (λ (h : IsLonger 0 c.args.room (Commands c.args.command.now) c.self.inside.tables). h (settings_of c.self.inside.codes)) (search rules)
+    err_where c.from_residual.result (λ (h : AreRecordsLonger 0 c.args.room (Commands c.args.command.now) c.self.inside.tables). h (settings_of c.self.inside.codes)) (search rules)

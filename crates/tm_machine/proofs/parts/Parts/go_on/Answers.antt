@@ -4,15 +4,15 @@ use Rattle.std.specs.List.{count_by}
 use Rattle.std.specs.Option.{is_some}
 use Rattle.model_messages.specs.Queue.{free_count}
 use Rattle.model_machine.specs.Flags.{all_followed}
-use Rattle.program_rows.specs.OnSlots.{slots_in, CommitsSo}
-use Rattle.region_work.specs.Ends.{destinations}
+use Rattle.program_rows.specs.SlotsState.{slots_state_of, CommitsSo}
+use Rattle.region_work.specs.WorkEnds.{destinations}
 use Rattle.tm_machine.proofs.Raising.{follow_is, followed_settled}
 use Rattle.model_machine.specs.Trial.WorkEnd.{Syncs}
 use Rattle.tm_machine.proofs.Full.{err_where}
 use Rattle.tm_machine.proofs.Finished.{ends_step, completed_tells, completed_longer, may_complete, follows_completed, parts_completed, sync_is, none_turned, follows_next, parts_next, next_turned}
-use Rattle.region_work.specs.Region.{outputs_by}
-use Rattle.lasting_state.specs.Telling.{IsLonger}
-use Rattle.tm_machine.specs.Ends.{OfWork, completion_of}
+use Rattle.region_work.specs.RegionWork.{outputs_by}
+use Rattle.lasting_state.specs.ToldSteps.{AreRecordsLonger}
+use Rattle.tm_machine.specs.WorkEnds.{OfWork, completion_of}
 use Rattle.tm_machine.proofs.parts.Parts.go_on.Goals as goal
 
 pub end_work-requires-clause-may : goal.end_work-requires-clause-may
@@ -91,7 +91,7 @@ returns-in_err-names-clause-full c =
     ap (λ rs. slice_get rs (c.args.region - 1)) (sym c.deref.ensures.value) ∙ c.busy_at-busy.ensures in
     let region = (rw (← c.self.view_is) at c.requires.region) in
     let ends = (rw (← c.self.view_is) at c.requires.ends) in
-    rw (sym c.self.view_is) (err_where c.from_residual.result (λ (longer : OfWork c.self.inside.regions.items c.args.region (λ busy. IsLonger c.args.unit c.args.room (completion_of c.args.region c.self.inside.tables busy) c.self.inside.tables)). completed_longer c.self.inside.system c.self.inside.tables c.self.inside.codes c.self.inside.regions.items c.args.region c.self.invariant c.busy_at-busy.result.now e region c.args.unit c.args.room (ends_step c.self.inside.system c.self.inside.tables c.self.inside.codes c.self.inside.regions.items c.args.region c.self.invariant c.busy_at-busy.result.now e region Syncs ends) (longer c.busy_at-busy.result.now e)) (search rules))
+    rw (sym c.self.view_is) (err_where c.from_residual.result (λ (longer : OfWork c.self.inside.regions.items c.args.region (λ busy. AreRecordsLonger c.args.unit c.args.room (completion_of c.args.region c.self.inside.tables busy) c.self.inside.tables)). completed_longer c.self.inside.system c.self.inside.tables c.self.inside.codes c.self.inside.regions.items c.args.region c.self.invariant c.busy_at-busy.result.now e region c.args.unit c.args.room (ends_step c.self.inside.system c.self.inside.tables c.self.inside.codes c.self.inside.regions.items c.args.region c.self.invariant c.busy_at-busy.result.now e region Syncs ends) (longer c.busy_at-busy.result.now e)) (search rules))
 
 pub returns-in_default-clause-slots : goal.returns-in_default-clause-slots
 returns-in_default-clause-slots c =
@@ -104,4 +104,4 @@ returns-clause-slots c =
     let e : slice_get c.self.inside.regions.items (c.args.region - 1) ≡ Some (Some c.busy_at-busy.result.now) =
     ap (λ rs. slice_get rs (c.args.region - 1)) (sym c.deref.ensures.value) ∙ c.busy_at-busy.ensures in
     rw (sym c.self.view_is)
-    (subst (λ s. CommitsSo c.args.region (slots_in c.self.inside.tables.databases) s) (ap (λ t. slots_in t.databases) (sym c.take.ensures.tables)) (c.in_ok-names.ensures.completed c.busy_at-busy.result.now e).committed.slots)
+    (subst (λ s. CommitsSo c.args.region (slots_state_of c.self.inside.tables.databases) s) (ap (λ t. slots_state_of t.databases) (sym c.take.ensures.tables)) (c.in_ok-names.ensures.completed c.busy_at-busy.result.now e).committed.slots)

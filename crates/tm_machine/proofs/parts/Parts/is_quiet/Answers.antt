@@ -1,5 +1,5 @@
 use Rattle.std.proofs.Common.{◌≡◌, ◌+◌, ◌<◌, ◌≤◌, ◌&&◌, length, drop, refl, sym, ap, ◌∙◌, arith}
-use Rattle.model_machine.specs.Steps.{all_rest}
+use Rattle.model_machine.specs.MachineCalls.{all_rest}
 use Rattle.tm_machine.proofs.Resting.{all_rest_step, all_rest_end, slots_length}
 use Rattle.tm_machine.proofs.parts.Parts.is_quiet.Goals as goal
 

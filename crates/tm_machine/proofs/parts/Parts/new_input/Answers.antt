@@ -1,9 +1,9 @@
 use Rattle.std.proofs.Common.{◌≡◌, sym, ap, ◌∙◌, refl}
 use Rattle.std.specs.Prelude.{Ok, slice_get}
 use Rattle.model_messages.specs.Queue.{messages_of}
-use Rattle.model_messages.specs.Input.{busy_id}
+use Rattle.model_messages.specs.ConversationInput.{busy_id}
 use Rattle.model_messages.specs.Terminals.{conversation_at}
-use Rattle.conversation.specs.Refusals.{input_answer as conversation_answer}
+use Rattle.conversation.specs.Refusals.{conversation_answer as conversation_answer}
 use Rattle.tm_machine.proofs.Asked.{unknown_input, stopped_input, halted_input, numbered_input, busy_input, uncoded_input, many_input, new_input}
 use Rattle.tm_machine.proofs.parts.Parts.new_input.Goals as goal
 

@@ -1,5 +1,5 @@
 use Rattle.std.proofs.Common.{◌≡◌, ◌≤◌, ◌∙◌, length, sym, ap, subst}
-use Rattle.model_data.specs.Cycle.{IsLeastCycle, IsRegion}
+use Rattle.model_data.specs.Cycle.{IsLeastCycle, IsTableRegion}
 use Rattle.tm_machine.proofs.Giving.{few_table, some_ring, table_region, victim_busy, weighed}
 use Rattle.tm_machine.proofs.parts.Parts.next_victim.Goals as goal
 
@@ -12,7 +12,7 @@ pub least_cycle-requires-clause-region : goal.least_cycle-requires-clause-region
 least_cycle-requires-clause-region c =
     let region = (rw (← c.self.view_is) at c.requires.region) in
     let table : c.table.result.now ≡ c.self.inside.tables.databases.table = c.table.ensures ∙ ap (λ d. d.table) c.databases.ensures in
-    subst (λ t. IsRegion t c.args.region) (sym table) (table_region c.self.inside.system c.self.inside.tables c.self.inside.codes c.self.inside.regions.items c.self.invariant c.args.region region)
+    subst (λ t. IsTableRegion t c.args.region) (sym table) (table_region c.self.inside.system c.self.inside.tables c.self.inside.codes c.self.inside.regions.items c.self.invariant c.args.region region)
 
 pub victim-region-requires-clause-some : goal.victim-region-requires-clause-some
 victim-region-requires-clause-some c =

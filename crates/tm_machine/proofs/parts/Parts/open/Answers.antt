@@ -1,11 +1,11 @@
 use Rattle.std.proofs.Common.{◌≡◌, ◌∙◌, [], ap, sym, subst, length, replicate}
 use Rattle.model_machine.specs.Machine.{Moment, empty_state, start_of}
 use Rattle.seg_store.specs.Stores.{no_changed}
-use Rattle.openings.specs.Parts.{OpeningParts}
-use Rattle.program_rows.specs.State.{clean_region, rows_of}
-use Rattle.program_rows.specs.OnSlots.{SlotsState}
+use Rattle.openings.specs.OpeningParts.{OpeningParts}
+use Rattle.program_rows.specs.DatabasesState.{clean_region, rows_of_stores}
+use Rattle.program_rows.specs.SlotsState.{SlotsState}
 use Rattle.lasting_state.specs.Tables.{TablesState}
-use Rattle.tm_machine.specs.Opening.{IsOpenedWith}
+use Rattle.tm_machine.specs.MachineOpening.{IsOpenedWith}
 use Rattle.tm_machine.specs.Parts.{PartsState, AreParts}
 use Rattle.tm_machine.proofs.Opened.{all_empty, new_id, parts_opened, moment_opened}
 use Rattle.tm_machine.proofs.parts.Parts.open.Goals as goal
@@ -34,7 +34,7 @@ invariant_of-self c =
     (parts_opened inside.system state opening c.open.new.self.databases inside.regions.items with.opening with.rules with.of_system c.self.invariant.valid names
     (all_empty (length inside.system.regions) inside.regions.items (ap (λ (m : Moment). m.slots) fresh))
     (ap (λ (s : SlotsState). s.stores) c.open.ensures.slots) (ap (λ (s : SlotsState). s.committed) c.open.ensures.slots)
-    (c.open.ensures.regions ∙ ap (λ n. replicate n (clean_region (rows_of opening.stores.stores))) c.self.invariant.databases.regions)
+    (c.open.ensures.regions ∙ ap (λ n. replicate n (clean_region (rows_of_stores opening.stores.stores))) c.self.invariant.databases.regions)
     (c.open.ensures.table ∙ ap (λ (m : Moment). m.enqueues) fresh) c.open.ensures.rows)
 
 pub returns-clause-moment : goal.returns-clause-moment
@@ -48,7 +48,7 @@ returns-clause-moment c = λ state opened.
     (moment_opened inside.system state opening c.open.new.self.databases inside.regions.items with.opening with.rules with.of_system c.self.invariant.valid names
     (all_empty (length inside.system.regions) inside.regions.items (ap (λ (m : Moment). m.slots) fresh))
     (ap (λ (s : SlotsState). s.stores) c.open.ensures.slots) (ap (λ (s : SlotsState). s.committed) c.open.ensures.slots)
-    (c.open.ensures.regions ∙ ap (λ n. replicate n (clean_region (rows_of opening.stores.stores))) c.self.invariant.databases.regions)
+    (c.open.ensures.regions ∙ ap (λ n. replicate n (clean_region (rows_of_stores opening.stores.stores))) c.self.invariant.databases.regions)
     (c.open.ensures.table ∙ ap (λ (m : Moment). m.enqueues) fresh) c.open.ensures.rows
     ∙ ap (λ (p : PartsState). start_of p.system state) c.self.view_is)
 

@@ -1,7 +1,7 @@
 use Rattle.std.proofs.Common.{◌∙◌, ap, sym, subst}
-use Rattle.program_rows.specs.State.{DatabasesState, with_marks}
+use Rattle.program_rows.specs.DatabasesState.{DatabasesState, with_marks}
 use Rattle.tm_machine.specs.Parts.{PartsState, AreParts}
-use Rattle.tm_machine.specs.PartsView.{moment_of}
+use Rattle.tm_machine.specs.PartsView.{parts_moment}
 use Rattle.tm_machine.proofs.Settled.{parts_marked}
 use Rattle.tm_machine.proofs.parts.Parts.put_stores.Goals as goal
 
@@ -17,6 +17,6 @@ invariant_of-self c =
 
 pub returns : goal.returns
 returns c =
-    ap (λ (d : DatabasesState). record { system = c.self.inside.system; moment = moment_of (record c.self.inside { tables = record c.self.inside.tables { databases = d } }); databases = d })
+    ap (λ (d : DatabasesState). record { system = c.self.inside.system; moment = parts_moment (record c.self.inside { tables = record c.self.inside.tables { databases = d } }); databases = d })
     (c.put_stores.ensures ∙ ap (with_marks c.args.stores.changed) c.databases_mut.ensures.value)
     ∙ ap (λ (p : PartsState). record p { databases = with_marks c.args.stores.changed p.databases }) c.self.view_is

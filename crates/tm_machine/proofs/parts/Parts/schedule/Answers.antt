@@ -4,9 +4,9 @@ use Rattle.std.proofs.lemmas.Option.{slice_get-get_or}
 use Rattle.model_messages.specs.Queue.{free_count}
 use Rattle.model_machine.specs.declared.entry.Turned.TheVariants.{Scheduled}
 use Rattle.lasting_state.specs.Tables.{lasting_of}
-use Rattle.program_rows.specs.OnSlots.{slots_in}
-use Rattle.tm_machine.specs.Turns.{IsTurned}
-use Rattle.tm_machine.specs.Parts.{slots_of, settings_of, flags_of, AreParts}
+use Rattle.program_rows.specs.SlotsState.{slots_state_of}
+use Rattle.tm_machine.specs.Turns.{IsRegionTurned}
+use Rattle.tm_machine.specs.Parts.{work_slots, settings_of, flags_of, AreParts}
 use Rattle.tm_machine.proofs.Raising.{follow_one, followed_settled}
 use Rattle.tm_machine.proofs.Scheduled.{moment_now, none_picked, some_picked, scheduled_answer, idle_turned, held_turned, scheduled_turned, parts_taken, follows_taken, empty_at}
 use Rattle.tm_machine.proofs.parts.Parts.schedule.Goals as goal
@@ -58,7 +58,7 @@ returns-clause-turned c =
     let turned = scheduled_turned c.self.inside.system c.self.inside.tables c.self.inside.codes c.self.inside.regions.items c.args.region c.self.invariant (record { code = c.in-Some.picked.code; taken = 1; id = c.in-Some.picked.id; unit = None }) empty region.0 c.take.new.tables c.follow.new.codes c.take.ensures.tables refl refl follows
     (scheduled_answer c.self.inside.system c.self.inside.tables c.self.inside.codes c.self.inside.regions.items c.args.region c.self.invariant empty c.in-Some.picked c.slot_need-need.result c.from-limit.result (some_picked c.self.inside.system c.self.inside.tables c.self.inside.codes c.self.inside.regions.items c.args.region c.self.invariant c.pick.result c.in-Some.picked c.in-Some.is (rw (ap (λ q. q.queued) c.queues.ensures) at c.pick.ensures.value)) (rw (← c.self.view_is) at c.slot_need-need.ensures) (c.from-limit.ensures ∙ c.limit.ensures ∙ ap (λ q. q.limit) c.queues-2.ensures ∙ c.self.invariant.limit) c.if-need-limit.false) in
     rw (sym c.self.view_is)
-    (subst (λ rs. IsTurned (record { system = c.self.inside.system; moment = moment_now c.self.inside.system c.self.inside.tables c.self.inside.codes c.self.inside.regions.items c.args.region c.self.invariant; databases = c.self.inside.tables.databases }) (record { system = c.self.inside.system; moment = record { lasting = lasting_of (settings_of c.follow.new.codes) c.take.new.tables; slots = slots_of rs; enqueues = c.take.new.tables.databases.table; raised = flags_of c.follow.new.codes }; databases = c.take.new.tables.databases }) c.args.region (Scheduled c.in-Some.picked.code c.in-Some.picked.id))
+    (subst (λ rs. IsRegionTurned (record { system = c.self.inside.system; moment = moment_now c.self.inside.system c.self.inside.tables c.self.inside.codes c.self.inside.regions.items c.args.region c.self.invariant; databases = c.self.inside.tables.databases }) (record { system = c.self.inside.system; moment = record { lasting = lasting_of (settings_of c.follow.new.codes) c.take.new.tables; slots = work_slots rs; enqueues = c.take.new.tables.databases.table; raised = flags_of c.follow.new.codes }; databases = c.take.new.tables.databases }) c.args.region (Scheduled c.in-Some.picked.code c.in-Some.picked.id))
     (sym c.take.ensures.regions) turned)
 
 pub returns-in_default-clause-slots : goal.returns-in_default-clause-slots
@@ -68,4 +68,4 @@ pub returns-then-need-limit-clause-slots : goal.returns-then-need-limit-clause-s
 returns-then-need-limit-clause-slots c = λ unit. refl
 
 pub returns-clause-slots : goal.returns-clause-slots
-returns-clause-slots c = rw (sym c.self.view_is) (λ unit. ap (λ t. slots_in t.databases) c.take.ensures.tables)
+returns-clause-slots c = rw (sym c.self.view_is) (λ unit. ap (λ t. slots_state_of t.databases) c.take.ensures.tables)

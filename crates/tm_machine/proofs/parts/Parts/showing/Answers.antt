@@ -1,7 +1,7 @@
 use Rattle.std.proofs.Common.{sym, subst}
 use Rattle.model_machine.specs.Machine.{output_at}
 use Rattle.lasting_state.specs.declared.shown.Shown.TheVariants.{Stopped}
-use Rattle.lasting_state.specs.Showing.{IsShownWhere}
+use Rattle.lasting_state.specs.ShownTerminal.{IsShownWhere}
 use Rattle.tm_machine.proofs.ShownTo.{none_shown, place_shown}
 use Rattle.tm_machine.proofs.parts.Parts.showing.Goals as goal
 

@@ -1,7 +1,7 @@
 use Rattle.std.proofs.Common.{◌≡◌, refl, sym, ap, subst, ◌∙◌}
 use Rattle.model_machine.specs.declared.entry.Turned.TheVariants.{Called as TurnCalled}
-use Rattle.tm_machine.specs.OnSlots.{changes_told, TurnsSo}
-use Rattle.tm_machine.specs.Turns.{IsTurned}
+use Rattle.tm_machine.specs.SlotChanges.{changes_told, TurnsSo}
+use Rattle.tm_machine.specs.Turns.{IsRegionTurned}
 use Rattle.tm_machine.proofs.Breaking.{turned_waits}
 use Rattle.tm_machine.proofs.Going.{err_map}
 use Rattle.region_work.proofs.Results.{ok_map, on_map, if_err_map}
@@ -14,7 +14,7 @@ use Rattle.tm_machine.proofs.parts.Parts.step.Goals as goal
 pub returns-in-Ok-None-clause-turned : goal.returns-in-Ok-None-clause-turned
 returns-in-Ok-None-clause-turned c =
     let goes = (rw c.in-Ok-None.field-0-is at c.in-Ok-None.ensures.ok) in
-    subst (λ s. IsTurned s c.schedule.new.self c.args.region c.schedule.result) goes.1 c.schedule.ensures.turned
+    subst (λ s. IsRegionTurned s c.schedule.new.self c.args.region c.schedule.result) goes.1 c.schedule.ensures.turned
 
 pub returns-in-Ok-None-clause-told : goal.returns-in-Ok-None-clause-told
 returns-in-Ok-None-clause-told c =
@@ -79,7 +79,7 @@ returns-in-Ok-Some-Ended-clause-calls c =
 pub returns-in-Ok-Some-Waits-clause-turned : goal.returns-in-Ok-Some-Waits-clause-turned
 returns-in-Ok-Some-Waits-clause-turned c =
     let goes = (rw c.in-Ok-Some-Waits.field-0-0-is at (rw c.in-Ok-Some-Waits.field-0-is at c.in-Ok-Some-Waits.ensures.ok)) in
-    subst (IsTurned c.args.self.now c.break_rings-victims.new.self c.args.region) (sym c.waited.ensures.value)
+    subst (IsRegionTurned c.args.self.now c.break_rings-victims.new.self c.args.region) (sym c.waited.ensures.value)
     (turned_waits c.args.self.now c.advance.new.self c.break_rings-victims.new.self c.args.region c.in-Ok-Some-Waits.resource c.in-Ok-Some-Waits.by c.break_rings-victims.result
     goes c.break_rings-victims.ensures.breaks)
 
@@ -90,7 +90,7 @@ returns-in-Ok-Some-Waits-clause-told c =
     tells_later c.args.self.now c.args.self.now c.args.unit c.args.room c.args.region c.args.told.now.items c.advance.new.told.items c.advance.new.told.items refl
     (none_added (changes_told c.args.self.now c.args.unit c.args.region) c.args.room c.args.told.now.items c.advance.new.told.items same c.in-Ok-Some-Waits.ensures.tells.tells) same
     (quiet_tells c.args.self.now c.break_rings-victims.new.self c.args.region c.args.unit c.args.room c.waited.result c.advance.new.told.items
-    (subst (IsTurned c.args.self.now c.break_rings-victims.new.self c.args.region) (sym c.waited.ensures.value)
+    (subst (IsRegionTurned c.args.self.now c.break_rings-victims.new.self c.args.region) (sym c.waited.ensures.value)
     (turned_waits c.args.self.now c.advance.new.self c.break_rings-victims.new.self c.args.region c.in-Ok-Some-Waits.resource c.in-Ok-Some-Waits.by c.break_rings-victims.result
     goes c.break_rings-victims.ensures.breaks)) c.waited.ensures.quiet)
 

@@ -1,5 +1,5 @@
 use Rattle.std.proofs.Common.{◌∙◌, ap, sym, subst, length, arith}
-use Rattle.program_rows.specs.State.{DatabasesState, touched_by, IsRegionOf}
+use Rattle.program_rows.specs.DatabasesState.{DatabasesState, touched_by, IsRegionOf}
 use Rattle.tm_machine.specs.Parts.{PartsState}
 use Rattle.tm_machine.proofs.parts.Parts.unit.Goals as goal
 

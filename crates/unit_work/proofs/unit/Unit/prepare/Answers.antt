@@ -1,5 +1,5 @@
 use Rattle.std.proofs.Common.{◌≡◌, sym, ap, ◌∙◌, subst, false}
-use Rattle.unit_work.specs.Changes.{Changes, AreInOrder, AreKept, is_full, with_change, with_slot}
+use Rattle.unit_work.specs.Changes.{Changes, AreSlotsInOrder, AreChangesKept, is_full, with_change, with_slot}
 use Rattle.unit_work.proofs.Keeping.{kept_touch}
 use Rattle.unit_work.proofs.Ordered.{order_with}
 use Rattle.unit_work.proofs.unit.Unit.prepare.Goals as goal
@@ -9,13 +9,13 @@ invariant_of-result c =
     let room : is_full c.args.db c.args.root c.self.inside.records.items ≡ false = ap (λ (u : Changes). is_full c.args.db c.args.root u.records) c.self.view_is ∙ c.requires in
     record {
       unit = record {
-        records = subst AreKept (sym c.in-Ok.ensures.records_stay) c.self.invariant.records;
-        slots = subst AreInOrder (sym c.in-Ok.ensures.slots_stay) c.self.invariant.slots;
+        records = subst AreChangesKept (sym c.in-Ok.ensures.records_stay) c.self.invariant.records;
+        slots = subst AreSlotsInOrder (sym c.in-Ok.ensures.slots_stay) c.self.invariant.slots;
       };
       touched = record {
         records = kept_touch (record { db = c.args.db; slot = c.args.slot; root = c.args.root; before = c.args.before.now }) c.self.inside.records.items
             (with_change c.in-Ok.touch.record c.ready.new.records.items) c.self.invariant.records room (ap (with_change c.in-Ok.touch.record) c.in-Ok.ensures.records_stay ∙ c.in-Ok.ensures.record);
-        slots = subst AreInOrder (sym (ap (with_slot c.in-Ok.touch.slot) c.in-Ok.ensures.slots_stay ∙ c.in-Ok.ensures.slot))
+        slots = subst AreSlotsInOrder (sym (ap (with_slot c.in-Ok.touch.slot) c.in-Ok.ensures.slots_stay ∙ c.in-Ok.ensures.slot))
             (order_with (record { db = c.args.db; slot = c.args.slot; root = c.args.root; before = c.args.before.now }) c.self.inside.slots.items c.self.invariant.slots c.in-Ok.ensures.place);
       };
       record_fits = c.in-Ok.ensures.record_room;

@@ -1,5 +1,5 @@
 use Rattle.std.proofs.Common.{◌≡◌, sym, ap, ◌∙◌, subst, false}
-use Rattle.unit_work.specs.Changes.{AreInOrder, AreKept, is_full}
+use Rattle.unit_work.specs.Changes.{AreSlotsInOrder, AreChangesKept, is_full}
 use Rattle.unit_work.proofs.Keeping.{kept_touch}
 use Rattle.unit_work.proofs.Ordered.{order_with}
 use Rattle.unit_work.proofs.unit.Unit.touch.Goals as goal
@@ -11,11 +11,11 @@ invariant_of-self c =
     elim c.match-keep.branch [
       | in-Ok w ↦ record {
         records = kept_touch (record { db = c.args.db; slot = c.args.slot; root = c.args.root; before = c.args.before.now }) c.self.inside.records.items c.keep.new.records.items c.self.invariant.records room w.in-Ok.ensures.records;
-        slots = subst AreInOrder (sym w.in-Ok.ensures.slots)
+        slots = subst AreSlotsInOrder (sym w.in-Ok.ensures.slots)
             (order_with (record { db = c.args.db; slot = c.args.slot; root = c.args.root; before = c.args.before.now }) c.self.inside.slots.items c.self.invariant.slots w.in-Ok.ensures.place);
       }
       | in-Err w ↦ record {
-        records = subst AreKept (sym w.in-Err.ensures.records_stay) c.self.invariant.records;
-        slots = subst AreInOrder (sym w.in-Err.ensures.slots_stay) c.self.invariant.slots;
+        records = subst AreChangesKept (sym w.in-Err.ensures.records_stay) c.self.invariant.records;
+        slots = subst AreSlotsInOrder (sym w.in-Err.ensures.slots_stay) c.self.invariant.slots;
       }
     ]

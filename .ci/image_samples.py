@@ -1,0 +1,418 @@
+"""What `.ci/images` tries: a small system, a session over several lives with the records of each line, and images that keep the rules or
+break one, each with what is wanted of it by hand.
+"""
+import os
+
+from image_records import Acknowledged, Change, Code, Command, Completed, Counts, Discarded, Message, Reply, SyncPoint, Terminal, spell
+from image_rules import LIMIT, Restart, State, System, data_sector, log_sector, pieces, put, restart_sector, snapshot_steps, SECTOR
+
+HERE = os.path.dirname(os.path.abspath(__file__))
+with open(os.path.join(HERE, "image_system.txt"), "rb") as it:
+    SYSTEM = System(it.read())
+with open(os.path.join(HERE, "..", "bench", "sessions", "bank.txt"), "rb") as it:
+    BANK = System(it.read())
+T1, T2, T9, ECHO, TALK, ROWS, GET = b"T1", b"T2", b"T9", b"ECHO", b"TALK", b"ROWS", b"GET"
+
+
+# A session over several lives: its lines, their answers, and the records that each appends, or what else it does to the disk.
+
+POWER, RESTART, COLD, CHECKPOINT, FREEZE = "power", "restart", "cold", "checkpoint", "freeze"
+LONG = [b"ECHO " + b"x" * 1991] + [b"y" * 1996] * 15
+
+
+def row(key, value, move=b""):
+    return b"\x01" + key + value + (b"\x02" + move.ljust(12) if move else b"")
+
+
+def given(terminal, number, id_, code, text, *further, kept=None):
+    segments = [text, *further]
+    record = Message(0, id_, terminal, code, number, int(code == TALK), [kept] if kept else segments)
+    line = b"IN %s %d %s" % (terminal, number, b"\n+ ".join(segments))
+    return [(line, ["ACK %s %d" % (terminal.decode(), number)], [record])]
+
+
+def turns(region, texts, *records):
+    """Turns of a region, of which the last one appends these records."""
+    steps = [(b"TURN %d" % region, ["R%d %s" % (region, text)], []) for text in texts.split("|")]
+    return steps[:-1] + [(*steps[-1][:2], list(records))]
+
+
+def ended(unit, id_, *outputs, pad=(0, b"")):
+    return [*outputs, Completed(unit, id_), SyncPoint(unit, list(pad))]
+
+
+def command(text, answer):
+    return [(text, [answer], [Command(text)])]
+
+
+def echoed(region, unit, id_, reply):
+    return turns(region, f"SCHEDULED ECHO {id_}|GU 0 OK|ISRT 0 OK|DONE ECHO {id_}", *ended(unit, id_, reply))
+
+
+ONE, TWO, THREE = row(b"0001", b"00001000"), row(b"0002", b"00000200"), row(b"0003", b"00000003")
+MOVED = row(b"0001", b"00001000", b"0001OPEN")
+MORE, LESS = row(b"0001", b"00001001", b"0001OPEN"), row(b"0002", b"00000199")
+
+SESSION = [
+    *given(T1, 1, 1, ECHO, b"ECHO A"),
+    *echoed(1, 1, 1, Reply(1, T1, 1, [b"ECHO A"])),
+    (b"RECV T1", ["OUT T1 1 ECHO A"], []),
+    (b"ACK T1 1", ["ACKED T1 1"], [Acknowledged(T1, 1)]),
+    # two accounts, one with a movement, and a record of the other database
+    *given(T1, 2, 2, ROWS, b"ROWS ADD 0001 00001000", b"x ADD 0002 00000200"),
+    *turns(1, "SCHEDULED ROWS 2|GU 0 OK|ISRT 1 OK", Change(2, 1, 0, b"", ONE)),
+    *turns(1, "GN 0 OK|ISRT 1 OK", Change(2, 1, 1, b"", TWO)),
+    *turns(1, "GN 0 QD|DONE ROWS 2", *ended(2, 2)),
+    *given(T2, 1, 3, ROWS, b"ROWS MOVE 0001 0001OPEN", b"x PAST 0007 AAAA", b"x ADD 0003 00000003"),
+    *turns(2, "SCHEDULED ROWS 3|GU 0 OK|ISRT 1 OK", Change(3, 1, 0, ONE, MOVED)),
+    *turns(2, "GN 0 OK|ISRT 2 OK", Change(3, 2, 0, b"", b"\x010007AAAA")),
+    *turns(2, "GN 0 OK|ISRT 1 OK", Change(3, 1, 2, b"", THREE)),
+    *turns(2, "GN 0 QD|DONE ROWS 3", *ended(3, 3)),
+    # a conversation: its pad is new, stays and ends; another one ends by an abend, and one by an operator
+    *given(T2, 2, 4, TALK, b"TALK HELLO", kept=b"HELLO"),
+    *turns(1, "SCHEDULED TALK 4|GU 0 OK|GN 0 OK|ISRT 0 OK|ISRT 0 OK|DONE TALK 4", *ended(4, 4, Reply(4, T2, 1, [b"HELLO"]), pad=(1, b"TALK    HELLO "))),
+    *given(T2, 3, 5, TALK, b"STAY"),
+    *turns(1, "SCHEDULED TALK 5|GU 0 OK|GN 0 OK|DONE TALK 5", *ended(5, 5)),
+    (b"/CHECKPOINT", ["CHECKPOINT 2"], CHECKPOINT),
+    *given(T2, 4, 6, TALK, b"STOP"),
+    *turns(1, "SCHEDULED TALK 6|GU 0 OK|GN 0 OK|ISRT 0 OK|DONE TALK 6", *ended(6, 6, pad=(2, b""))),
+    *given(T2, 5, 7, TALK, b"TALK FAIL", kept=b"FAIL"),
+    *turns(1, "SCHEDULED TALK 7|GU 0 OK|GN 0 OK|ABENDED TALK 7 U0100", Discarded(7, 7, 100, 2)),
+    *given(T2, 6, 8, TALK, b"TALK ON", kept=b"ON"),
+    *turns(1, "SCHEDULED TALK 8|GU 0 OK|GN 0 OK|ISRT 0 OK|ISRT 0 OK|DONE TALK 8", *ended(8, 8, Reply(8, T2, 3, [b"ON"]), pad=(1, b"TALK    ON    "))),
+    *command(b"/EXIT T2", "EXITED T2"),
+    *command(b"/DEQUEUE LTERM T2 PURGE1", "DEQUEUED 1"),
+    *command(b"/DEQUEUE LTERM T2 PURGE", "DEQUEUED 2"),
+    *command(b"/STOP LTERM T2", "STOPPED T2"),
+    *command(b"/STOP TRANSACTION TALK", "STOPPED TALK"),
+    # a switched message behind a reply, and what is dropped, abends and is rolled back
+    *given(T1, 3, 9, ROWS, b"ROWS SEND ECHO HI"),
+    *turns(1, "SCHEDULED ROWS 9|GU 0 OK|CHNG 3 OK|ISRT 3 OK|ISRT 0 OK|GN 0 QD|DONE ROWS 9", *ended(9, 9, Reply(9, T1, 2, [b"HI"]), Message(9, 10, T1, ECHO, 0, 0, [b"ECHO HI"]))),
+    *given(T1, 4, 11, ROWS, b"ROWS DROP 0003", b"x FAIL 0001 00000000"),
+    *turns(2, "SCHEDULED ROWS 11|GU 0 OK|GHU 1 OK|DLET 1 OK", Change(10, 1, 2, THREE, b"")),
+    *turns(2, "GN 0 OK|GHU 1 OK|REPL 1 OK", Change(10, 1, 0, MOVED, row(b"0001", b"00000000", b"0001OPEN"))),
+    *turns(2, "ABENDED ROWS 11 U0123", Discarded(10, 11, 123, 3)),
+    *given(T1, 5, 12, ROWS, b"ROWS BACK 0002 00000201"),
+    *turns(2, "SCHEDULED ROWS 12|GU 0 OK|GHU 1 OK|REPL 1 OK", Change(11, 1, 1, TWO, row(b"0002", b"00000201"))),
+    *turns(2, "ROLB 0 OK", Change(11, 1, 1, row(b"0002", b"00000201"), TWO)),
+    *turns(2, "GHU 1 OK|REPL 1 OK", Change(11, 1, 1, TWO, row(b"0002", b"00000201"))),
+    *turns(2, "DONE ROWS 12", *ended(11, 12)),
+    *given(T1, 6, 13, ROWS, b"ROWS SET 0002 00000200", b"x DROP 0003"),
+    *turns(2, "SCHEDULED ROWS 13|GU 0 OK|GHU 1 OK|REPL 1 OK", Change(12, 1, 1, row(b"0002", b"00000201"), TWO)),
+    *turns(2, "GN 0 OK|GHU 1 OK|DLET 1 OK", Change(12, 1, 2, THREE, b"")),
+    *turns(2, "GN 0 QD|DONE ROWS 13", *ended(12, 13)),
+    # a checkpoint while two units are open and a long message waits: its log, slots, snapshot of several sectors, and restart sector
+    *given(T9, 1, 14, ECHO, *LONG),
+    *given(T1, 7, 15, ROWS, b"ROWS SET 0001 00001001", b"x SET 0001 00001002"),
+    *given(T1, 8, 16, ROWS, b"ROWS SET 0002 00000199"),
+    *turns(2, "SCHEDULED ROWS 15|GU 0 OK|GHU 1 OK|REPL 1 OK", Change(13, 1, 0, MOVED, MORE)),
+    *command(b"/STOP TRANSACTION ECHO", "STOPPED ECHO"),
+    *turns(1, "SCHEDULED ROWS 16|GU 0 OK|GHU 1 OK|REPL 1 OK", Change(14, 1, 1, TWO, LESS)),
+    (b"/CHECKPOINT", ["CHECKPOINT 3"], CHECKPOINT),
+    *turns(2, "GN 0 OK|GHU 1 OK|REPL 1 OK", Change(13, 1, 0, MORE, row(b"0001", b"00001002", b"0001OPEN"))),
+    *turns(1, "GN 0 QD|DONE ROWS 16", *ended(14, 16)),
+    (b"/CHECKPOINT", ["CHECKPOINT 4"], CHECKPOINT),
+    *turns(2, "GN 0 QD|DONE ROWS 15", *ended(13, 15)),
+    *command(b"/START TRANSACTION ECHO", "STARTED ECHO"),
+    *command(b"/START LTERM T2", "STARTED T2"),
+    # so many commands that a checkpoint is due by itself
+    *(step for _ in range(18) for step in command(b"/STOP LTERM T2", "STOPPED T2") + command(b"/START LTERM T2", "STARTED T2")),
+    *echoed(1, 15, 10, Reply(15, T1, 4, [b"ECHO HI"])),
+    (b"/CHECKPOINT FREEZE", ["FROZEN 6"], FREEZE),
+    (b"/ERESTART", ["RESTARTED"], RESTART),
+    (b"ACK T1 2", ["ACKED T1 2"], [Acknowledged(T1, 2)]),
+    *echoed(1, 16, 14, Reply(16, T9, 1, LONG[:1])),
+    (b"/CHECKPOINT FREEZE", ["FROZEN 8"], FREEZE),
+    (b"/NRESTART CHECKPOINT 0", ["COLD STARTED"], COLD),
+    *given(T1, 1, 1, ECHO, b"ECHO B"),
+]
+
+# In a file power fails at any line, and a unit that is open then is taken back.
+OPEN = [
+    *given(T1, 2, 2, ROWS, b"ROWS ADD 0001 00001000", b"x PAST 0007 AAAA"),
+    *turns(2, "SCHEDULED ROWS 2|GU 0 OK|ISRT 1 OK", Change(1, 1, 0, b"", ONE)),
+    *turns(2, "GN 0 OK|ISRT 2 OK", Change(1, 2, 0, b"", b"\x010007AAAA")),
+    *command(b"/STOP LTERM T2", "STOPPED T2"),
+]
+LIVES = [
+    *SESSION,
+    *OPEN,
+    (b"POWER 0", ["POWER"], POWER),
+    (b"/NRESTART", ["RESTARTED"], RESTART),
+    *turns(1, "SCHEDULED ECHO 1"),
+    *turns(2, "SCHEDULED ROWS 2|GU 0 OK|ISRT 1 OK", Change(3, 1, 0, b"", ONE)),
+    (b"/CHECKPOINT", ["CHECKPOINT 3"], CHECKPOINT),
+    (b"POWER 7", ["POWER"], POWER),
+    (b"/ERESTART", ["RESTARTED"], RESTART),
+    (b"/NRESTART", ["UP"], []),
+]
+
+
+# Images that are spelled here. BASE has the records of a snapshot: message 3 and reply 1 are of T1, and the first slot has an account.
+
+COUNTS = Counts(3, 5, 9, 6)
+FIRST, SECOND, NINTH = Terminal(T1, 2, 2, 0, [0, b""]), Terminal(T2, 0, 1, 0, [0, b""]), Terminal(T9, 0, 1, 0, [0, b""])
+TALKING = Terminal(T2, 1, 1, 0, [1, TALK, b"TALK    ABCDEF"])
+CODE = {code: Code(code, 0, *setting) for code, setting in State(SYSTEM).settings.items()}
+HI = Reply(0, T1, 1, [b"HI"])
+BASE = {"counts": [COUNTS], "T1": [FIRST], "T2": [SECOND], "T9": [NINTH], **{name: [code] for name, code in CODE.items()}, "messages": [], "replies": [HI], "changes": []}
+BASE["messages"] = [Message(0, 3, T1, ECHO, 0, 0, [b"ECHO A"])]
+DATA, (LOG_A, LOG_B), (SNAPSHOT_A, SNAPSHOT_B) = SYSTEM.data, SYSTEM.logs, SYSTEM.snapshots
+NOW = Restart(4, 1, 1, 0, 11, 3, len(SYSTEM.text))
+
+
+def joined(records):
+    return b"".join(record if isinstance(record, bytes) else spell(record) for record in records)
+
+
+def having(**parts):
+    """The records of BASE, but for these."""
+    return {**BASE, **{key.encode() if key in ("ECHO", "TALK", "ROWS", "GET") else key: value for key, value in parts.items()}}
+
+
+def image_of(records=None, log=(), slots=None, now=NOW):
+    """An image with these records in its snapshot, these in each sector of its log, and these slots."""
+    image = bytearray(SYSTEM.sectors * SECTOR)
+    payload = b"".join(map(joined, (records or BASE).values()))
+    put(image, 0, restart_sector(now._replace(sectors=len(pieces(payload)))))
+    put(image, 1, SYSTEM.text)
+    for at, spelled in snapshot_steps(SYSTEM, now, payload):
+        put(image, at, spelled)
+    for place, part in enumerate(log):
+        put(image, SYSTEM.logs[now.log] + place, log_sector(now.epoch, now.sequence + place, joined(part)))
+    for at, value in enumerate([ONE] if slots is None else slots):
+        put(image, DATA + at, data_sector(value))
+    return image
+
+
+def two_units(first, second):
+    """An image in whose log unit 9 and then unit 10 change the first slot, each with its sync point or without."""
+    between = OTHER if first else ONE
+    front = [Change(9, 1, 0, ONE, OTHER)] + [SyncPoint(9, [0, b""])] * first
+    return image_of(None, [front, [Change(10, 1, 0, between, THIRD)] + [SyncPoint(10, [0, b""])] * second], [THIRD])
+
+
+OTHER, THIRD, NEW = row(b"0001", b"00001001"), row(b"0001", b"00001002"), row(b"0002", b"00000005")
+
+
+def sent(unit, number, text, terminal=T1):
+    return Reply(unit, terminal, number, [text])
+
+
+def message(id_, text=b"HI", unit=0, origin=T1, code=ECHO, number=0, flag=0):
+    return Message(unit, id_, origin, code, number, flag, [text])
+
+
+def input_of(number, terminal=T2):
+    return Message(0, number + 4, terminal, ECHO, number, 0, [b"ECHO B"])
+
+
+def end(unit, pad=0, text=b""):
+    return SyncPoint(unit, [pad, text] if pad == 1 else [pad, b""])
+
+
+# A log, a sector each, over an image in which message 4 is of T2's conversation too; and how much what lasts then has: the next id, the steps,
+# T1's last input and next reply, T2's next reply, its pad, and the ids that wait.
+WHOLE = spell(Message(0, 5, T1, ECHO, 3, 0, [b"ECHO B", b"C"]))
+PAD = b"TALK    ABCDEF"
+DOINGS = [
+    ([], (5, 6, 2, 2, 1, PAD, [3, 4])),
+    ([[WHOLE]], (6, 7, 3, 2, 1, PAD, [3, 4, 5])),
+    ([[WHOLE[:21]], [WHOLE[21:]]], (6, 7, 3, 2, 1, PAD, [3, 4, 5])),
+    ([[Message(0, 5, T1, TALK, 3, 1, [b"HELLO"])]], (6, 7, 3, 2, 1, PAD, [3, 4, 5])),
+    ([[Acknowledged(T1, 1)]], (5, 7, 2, 2, 1, PAD, [3, 4])),
+    ([[sent(9, 2, b"OK")], [Message(9, 5, T1, ECHO, 0, 0, [b"ECHO C"])], [Completed(9, 3)], [end(9)]], (6, 7, 2, 3, 1, PAD, [4, 5])),
+    ([[sent(9, 2, b"OK"), sent(9, 3, b"OK"), message(5, unit=9), message(6, unit=9)], [Completed(9, 3), end(9)]], (7, 7, 2, 4, 1, PAD, [4, 5, 6])),
+    ([[Completed(9, 4)], [end(9)]], (5, 7, 2, 2, 1, PAD, [3])),
+    ([[Completed(9, 4)], [end(9, 1, b"TALK    GHIJKL")]], (5, 7, 2, 2, 1, b"TALK    GHIJKL", [3])),
+    ([[Completed(9, 4)], [end(9, 2)]], (5, 7, 2, 2, 1, None, [3])),
+    ([[end(9, 1, b"TALK    GHIJKL")]], (5, 7, 2, 2, 1, PAD, [3, 4])),
+    ([[Discarded(9, 4, 100, 1)]], (5, 7, 2, 2, 2, None, [3])),
+    ([[Discarded(9, 3, 4095, 2)]], (5, 7, 2, 3, 1, PAD, [4])),
+    ([[Change(9, 1, 0, ONE, OTHER)], [end(9)]], (5, 7, 2, 2, 1, PAD, [3, 4])),
+    *(([[Command(text)]], (5, 7, 2, 2, 1, PAD, [3, 4])) for text in (b"/STOP TRANSACTION ECHO", b"/START TRANSACTION TALK", b"/STOP LTERM T2", b"/START LTERM T1")),
+    *(([[Command(b"/DEQUEUE LTERM T1 " + word)]], (5, 7, 2, 2, 1, PAD, [3, 4])) for word in (b"PURGE1", b"PURGE")),
+    ([[Completed(9, 4), end(9), Command(b"/EXIT T2")]], (5, 8, 2, 2, 1, None, [3])),
+    ([[Command(b"/EXIT T1")]], (5, 7, 2, 2, 1, PAD, [3, 4])),
+]
+
+
+# Changes in the snapshot, the records of the log, what the slots have, and what the first two have behind a recovery.
+STARTED, FURTHER, EMPTIED, FILLED = Change(8, 1, 0, ONE, OTHER), Change(8, 1, 0, OTHER, THIRD), Change(9, 1, 0, ONE, b""), Change(9, 1, 1, b"", NEW)
+ONCE, AGAIN = Change(9, 1, 0, ONE, OTHER), Change(9, 1, 0, OTHER, THIRD)
+VALUES = [
+    ([STARTED], [], [OTHER], (ONE, b"")),
+    ([STARTED], [end(8)], [OTHER], (OTHER, b"")),
+    ([STARTED], [FURTHER, end(8)], [OTHER], (THIRD, b"")),
+    ([STARTED], [FURTHER], [THIRD], (ONE, b"")),
+    ([STARTED], [end(8), AGAIN], [THIRD], (OTHER, b"")),
+    ([STARTED], [end(8), AGAIN, end(9)], [OTHER], (THIRD, b"")),
+    ([], [FILLED, EMPTIED], [b"", NEW], (ONE, b"")),
+    ([], [FILLED, EMPTIED, end(9)], [ONE], (b"", NEW)),
+    ([], [ONCE, AGAIN], [THIRD], (ONE, b"")),
+    ([], [ONCE, end(9)], [b"\2"], (OTHER, b"")),
+    ([], [Change(9, 1, 1, b"", OTHER)], [ONE, OTHER], (ONE, b"")),
+    ([], [Change(9, 1, 0, ONE, MOVED), end(9)], [], (MOVED, b"")),
+]
+TORN = [(15, 4), (15, 3), (23, 13), (0, 0), (4, 1), (25, 0), (26, 1), (4095, 1)]
+
+
+def hostile():
+    """An image with each kind of record of a snapshot. Unit 8 has changed two slots, and its sync point stands in the log. The other log area has
+    a sector of the life before."""
+    talk, moved = Message(0, 4, T2, TALK, 0, 1, [b"HI"]), row(b"0002", b"00000005", b"0001OPENING")
+    replies = [HI, Reply(0, T1, 2, [b"HO"]), Reply(0, T2, 1, [b"HU", b""])]
+    changes = [Change(8, 1, 0, ONE, OTHER), Change(8, 1, 1, b"", moved)]
+    records = having(T1=[FIRST._replace(next=3)], T2=[TALKING._replace(next=2)], messages=[*BASE["messages"], talk], replies=replies, changes=changes)
+    image = image_of(records, [[end(8)]], [OTHER, moved])
+    put(image, LOG_A, log_sector(3, 10, spell(end(8))))
+    return image
+
+
+# Images that break a rule: what stands in them, and the rule that is told, 0 where none is broken. Records that keep the rules stand beside them.
+
+
+def counts(**values):
+    return {"counts": [COUNTS._replace(**values)]}
+
+
+def long_message(id_, number=0):
+    return Message(0, id_, T1, ECHO, number, 0, [b"x" * 1996] * 32)
+
+
+UNKNOWN = b"\0\5\4\0\0"
+TALKED = {"T2": [TALKING], "messages": [message(3, origin=T2, code=TALK, flag=1)]}
+NO_PAD, SHORT_PAD, OTHER_PAD = [1, ECHO, b"ECHO    ABCDEF"], [1, TALK, PAD[:-1]], [1, TALK, b"TALKS   ABCDEF"]
+SNAPSHOTS = [
+    (0, {}),
+    (0, {"messages": [message(2), message(3)]}),
+    (0, TALKED),
+    (0, {"changes": [STARTED, Change(8, 1, 1, b"", NEW)]}),
+    (0, {"messages": [long_message(1), long_message(2)]}),
+    (10, {"changes": [UNKNOWN]}),
+    (10, {"changes": [b"\0\x1b\3"]}),
+    (10, {"changes": [spell(STARTED)[:-1]]}),
+    (11, {"changes": [b"\0\5\2\0\0"]}),
+    (11, {"counts": []}),
+    (11, {"counts": [COUNTS, COUNTS]}),
+    (11, {"messages": [HI, message(3)], "replies": []}),
+    (11, {"T1": [SECOND], "T2": [FIRST]}),
+    (11, {"ECHO": [CODE[TALK]], "TALK": [CODE[ECHO]]}),
+    (11, {"replies": [sent(9, 1, b"HI")]}),
+    (11, {"replies": [sent(0, 1, b"HI", T2), HI], "T2": [SECOND._replace(next=2)]}),
+    (11, {"messages": [message(3, unit=1)]}),
+    (11, {"messages": [message(3, number=1)]}),
+    (11, {"changes": [Change(8, 1, 1, b"", NEW), STARTED]}),
+    (11, {"changes": [STARTED, STARTED]}),
+    (11, {"changes": [end(9)]}),
+    (12, {"T2": []}),
+    (12, {"T2": [SECOND, SECOND]}),
+    (12, {"ECHO": []}),
+    (12, {"TALK": [CODE[ECHO]]}),
+    (12, {"GET": [CODE[GET], CODE[GET]._replace(name=b"NONE")]}),
+    *((12, counts(**{name: value})) for name, value in (("next_id", 0), ("next_unit", 0), ("steps", LIMIT), ("checkpoint", LIMIT), ("next_id", LIMIT), ("next_unit", LIMIT))),
+    *((12, {"T2": [SECOND._replace(**{name: value})]}) for name, value in (("next", 0), ("next", LIMIT), ("last", LIMIT))),
+    *((12, {"T2": [SECOND._replace(conversation=pad)]}) for pad in (NO_PAD, SHORT_PAD, OTHER_PAD, [1, TALK, b"TALK    ABC\x1fEF"], [1, b"NONE", PAD])),
+    *((12, {"ECHO": [CODE[ECHO]._replace(**{name: value})]}) for name, value in (("class_", 0), ("priority", 15))),
+    (13, {"messages": [message(3), message(2)]}),
+    (13, {"messages": [message(3), message(3)]}),
+    (13, {"messages": [message(5)]}),
+    (14, {"messages": [message(3, origin=b"T3")]}),
+    (14, {"messages": [message(3, code=b"NONE")]}),
+    (14, {"messages": [message(3, code=TALK)]}),
+    (14, {"messages": [message(3, code=TALK, flag=1)]}),
+    (14, {"T2": [TALKING], "messages": [message(3, origin=T2, code=ECHO, flag=1)]}),
+    (14, {**TALKED, "messages": [message(3, origin=T2, code=TALK, flag=1), message(4, origin=T2, code=TALK, flag=1)]}),
+    (15, {"replies": [HI, sent(0, 1, b"HI", b"T3")]}),
+    (15, {"replies": [HI, sent(0, 2, b"HI")]}),
+    (15, {"T1": [FIRST._replace(next=3)]}),
+    (15, {"T1": [FIRST._replace(next=1)], "replies": [sent(0, 0, b"HI")]}),
+    (15, {"T1": [FIRST._replace(next=4)], "replies": [HI, sent(0, 3, b"HI")]}),
+    (16, {"messages": [long_message(number) for number in (1, 2, 3, 4)]}),
+    *((17, {"changes": [Change(8, *at, *both)]}) for at, both in (((1, 3), (b"", b"")), ((3, 0), (b"", b"")), ((0, 0), (b"", b"")), ((1, 0), (b"\2", b"")), ((1, 0), (b"", b"\0010")))),
+]
+LOGS = [
+    (0, [end(9)]),
+    (0, [sent(9, 3, b"OK")]),
+    (0, [message(5, number=3)]),
+    (0, [message(6, unit=9)]),
+    (18, [UNKNOWN]),
+    (18, [end(9), b"\0\x0f\x37\0\0\0\0\0\0\0\x09\0\0\0\0"]),
+    (18, [b"\0\3\x37\0"]),
+    (18, [b"\0\3\x37"]),
+    *((19, [record]) for record in (COUNTS, FIRST, CODE[ECHO])),
+    *((19, [Change(9, *at, b"", after)]) for at, after in (((1, 3), b""), ((3, 0), b""), ((1, 0), b"\2"), ((2, 0), ONE))),
+    *((19, [Acknowledged(*at)]) for at in ((T1, 2), (T2, 1), (b"T3", 1))),
+    (19, [sent(9, 3, b"OK"), end(9)]),
+    (19, [sent(9, 3, b"OK"), sent(9, 2, b"OK"), end(9)]),
+    (19, [sent(9, 1, b"OK", b"T3")]),
+    *((19, [Discarded(9, *at)]) for at in ((4, 100, 2), (3, 100, 3), (3, 100, 1))),
+    (19, [Completed(9, 4), end(9)]),
+    *((19, [Command(text)]) for text in (b"/XYZ", b"/STOP LTERM T3", b"/STOP TRANSACTION T1", b"/STOP LTERM ECHO", b"/EXIT T3", b"/EXIT", b"/DEQUEUE LTERM T1 PURGE2", b"/DEQUEUE LTERM T1", b"/CHECKPOINT", b"/STOP LTERM T2 ", b"/DISPLAY LTERM T1")),
+    *((19, [message(*at[:1], number=at[1], origin=at[2], code=at[3], flag=at[4])]) for at in ((5, 4, T1, ECHO, 0), (5, 2, T1, ECHO, 0), (6, 3, T1, ECHO, 0), (5, 3, T1, TALK, 0), (5, 3, T1, ECHO, 1), (5, 1, b"T3", ECHO, 0), (5, 3, T1, b"NONE", 0), (3, 0, T1, ECHO, 0))),
+    (19, [message(6, unit=9), end(9)]),
+    (19, [message(5, unit=9, code=b"NONE")]),
+    (19, [message(5, number=3, code=TALK, flag=1), message(6, number=4, code=TALK, flag=1)]),
+    (19, [message(5, number=3, code=TALK, flag=1), Command(b"/EXIT T1")]),
+    (19, [message(5, number=3, code=TALK, flag=1), Completed(9, 5), end(9, 1, PAD[:-1])]),
+    (19, [long_message(5, 3), long_message(6, 4), long_message(7, 5), long_message(8, 6)]),
+]
+# A sector, a place, what is put there, and the rule.
+BYTES = [
+    *((0, place, byte, rule) for place, byte, rule in ((3, b"L", 1), (0, b"\0", 1), (4, b"\1", 2), (7, b"\2", 2), (16, b"\2", 3), (17, b"\xff", 3))),
+    *((0, place, byte, rule) for place, byte, rule in ((20, bytes(4), 4), (20, (SYSTEM.snapshot_sectors + 1).to_bytes(4, "big"), 4))),
+    *((0, place, count.to_bytes(8, "big"), 5) for place in (8, 24, 32) for count in (0, LIMIT, 2**64 - 1)),
+    *((0, place, byte, 6) for place, byte in ((18, b"\1"), (44, b"\1"), (4095, b"\1"), (40, (262145).to_bytes(4, "big")))),
+    *((SNAPSHOT_B, place, byte, rule) for place, byte, rule in ((0, b"J", 7), (15, b"\4", 7), (23, b"\1", 7), (24, b"\x10", 8), (24, bytes(2), 8), (24, b"\x0f\0", 10), (4, b"\1", 9), (26, b"\1", 9), (4095, b"\1", 9))),
+    *((DATA + 1, place, byte, rule) for place, byte, rule in ((0, b"\x0f", 21), (0, b"\x10", 20), (4095, b"\1", 20), (1, b"\1", 21), (0, b"\x0f\xa0", 21), (0, b"\x0f\xa1", 20), (0, b"\xff\xff", 20))),
+    (DATA, 2, b"\2", 21),
+    (DATA, 1, b"\x0c", 20),
+]
+LATER = [(23, b"\3", 0), (0, b"J", 7), (15, b"\4", 7), (23, b"\4", 7), (25, b"\xdf", 8), (25, b"\xe1", 8), (26, b"\1", 9)]
+
+
+# Each rule, where it is broken here, and how: parts of the snapshot, records of the log, slots, or bytes.
+RULES = {
+    1: (0, (0, 3, b"L")),
+    2: (0, (0, 7, b"\2")),
+    3: (0, (0, 16, b"\2")),
+    4: (0, (0, 22, b"\1")),
+    5: (0, (0, 15, b"\0")),
+    6: (0, (0, 4095, b"\1")),
+    7: (SNAPSHOT_B, (SNAPSHOT_B, 0, b"J")),
+    8: (SNAPSHOT_B, (SNAPSHOT_B, 24, b"\x10")),
+    9: (SNAPSHOT_B, (SNAPSHOT_B, 26, b"\1")),
+    10: (SNAPSHOT_B, {"changes": [UNKNOWN]}),
+    11: (SNAPSHOT_B, {"changes": [end(9)]}),
+    12: (SNAPSHOT_B, {"T2": [SECOND._replace(next=0)]}),
+    13: (SNAPSHOT_B, {"messages": [message(5)]}),
+    14: (SNAPSHOT_B, {"messages": [message(4, origin=b"T3")]}),
+    15: (SNAPSHOT_B, {"replies": [sent(0, 1, b"HI", b"T3")]}),
+    16: (SNAPSHOT_B, {"messages": [long_message(number) for number in range(4)]}),
+    17: (SNAPSHOT_B, {"changes": [Change(8, 1, 3, b"", b"")]}),
+    18: (LOG_B, [UNKNOWN]),
+    19: (LOG_B, [COUNTS]),
+    20: (DATA + 1, (DATA + 1, 4095, b"\1")),
+    21: (DATA, (DATA, 2, b"\2")),
+    22: (DATA, (DATA + 1, 0, data_sector(OTHER))),
+    24: (LOG_A + 5, (LOG_A + 5, 0, log_sector(5, 1, b"x"))),
+}
+
+
+def breaking(rules):
+    """An image that breaks these rules."""
+    parts, log, texts = {name: list(records) for name, records in BASE.items()}, [], []
+    for rule in sorted(rules, reverse=True):
+        _, how = RULES[rule]
+        if isinstance(how, dict):
+            for name, records in how.items():
+                parts[name] = records if name == "T2" or rule == 16 else [*parts[name], *records]
+        elif isinstance(how, list):
+            log = how + log
+        else:
+            texts.append(how)
+    parts["changes"].sort(key=lambda record: [Change, SyncPoint, bytes].index(type(record)))
+    image = image_of(parts, [log] if log else [])
+    for at, place, text in texts:
+        put(image, at, text, place)
+    return image

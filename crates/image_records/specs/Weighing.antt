@@ -1,5 +1,0 @@
--- Counts as far as 64 bits go.
-use Rattle.std.specs.Prelude.{ℕ, min, ◌-◌, ◌^◌}
-
-abbrev pub capped : ℕ → ℕ
-capped n = min n (2 ^ 64 - 1)

@@ -1,0 +1,17 @@
+-- What crashes leave since a call began.
+use Rattle.std.specs.Prelude.{◌⊎◌, ℕ, ◌≤◌, List}
+use Rattle.tm_disk.specs.Disk.{Image, DiskState}
+use Rattle.model_system.specs.System.{System}
+use Rattle.model_machine.specs.Machine.{LastingState}
+use Rattle.checkpointing.specs.DefinitionText.{HasText}
+use Rattle.disk_law.specs.KeptImages.{RecoversEither}
+
+-- The image is of this text, and recovers to one state or to another.
+pub record Brings (system : System) (text : List ℕ) (before after : LastingState) (image : Image) : Type 0 where
+  pub recovers : RecoversEither system before after image
+  pub has_text : HasText system text image
+
+-- Whatever a crash might have left since a time before, it might have left then already, or this holds of it.
+pub record CrashesLeave (P : Image → Type 0) (old new : DiskState) : Type 0 where
+  pub later : old.clock ≤ new.clock
+  pub from : (time : ℕ) (image : Image) → time ≤ old.clock → new.left_since time image → old.left_since time image ⊎ P image

@@ -1,0 +1,26 @@
+-- What holds of the parts of a machine with its log.
+use Rattle.std.specs.Prelude.{◌≡◌, ℕ, ◌≤◌, List, length}
+use Rattle.tm_disk.specs.Disk.{DiskState}
+use Rattle.disk_law.specs.JournalState.{JournalState}
+use Rattle.log_writer.specs.ForcedLog.{IsWriterReady}
+use Rattle.model_image.specs.Areas.{data_first}
+use Rattle.disk_law.specs.UnitCounts.{TellUnits}
+use Rattle.disk_law.specs.Life.{LifeOnDisk}
+use Rattle.disk_law.specs.KeptImages.{AreImagesKept}
+use Rattle.tm_machine.specs.Parts.{PartsState}
+use Rattle.logged_machine.specs.CarriedParts.{IsCarried}
+
+-- Some life goes with the machine, whose regions have units of these numbers, and each image that a crash may leave is one of
+-- it. The journal's writer is the life's, and its restart sector the one that holds. All areas of the system are on the disk.
+-- Each region has a number, and no record on the disk or to come there is of a unit to come.
+pub record IsLogged (parts : PartsState) (units : List ℕ) (next_unit : ℕ) (journal : JournalState) (text : List ℕ) (disk : DiskState) : Type 0 where
+  pub life : LifeOnDisk
+  pub carried : IsCarried parts units next_unit life
+  pub kept : AreImagesKept life disk
+  pub writer : life.log ≡ journal.log
+  pub now : life.now ≡ journal.restart
+  pub text_is : life.text ≡ text
+  pub areas : data_first parts.system (length parts.system.databases) ≤ disk.size
+  pub ready : IsWriterReady journal.log disk
+  pub counted : length units ≡ length parts.system.regions
+  pub told : TellUnits parts.system journal next_unit disk

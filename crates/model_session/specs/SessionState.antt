@@ -1,0 +1,146 @@
+-- Where a session stands, and what its disk may hold then.
+use Rattle.std.specs.Prelude.{◌≡◌, ◌⊎◌, ℕ, ◌+◌, ◌≤◌, Bool, true, false, List, [], ◌∷◌, ◌++◌, Option, Some, None}
+use Rattle.model_machine.specs.declared.entry.Entry.{Entry}
+use Rattle.model_system.specs.System.{System}
+use Rattle.model_machine.specs.Machine.{LastingState, empty_state}
+use Rattle.model_session.specs.declared.asked.ImageRefused.{ImageRefused}
+use Rattle.model_session.specs.Lives.{LifeState, LastLife, now_in, longer, with_life, HasAnswered, LifeLeaves}
+
+-- A session's system; whether its disk can be told to stop at a write to come, and whether it tells its contents; the
+-- states that the disk recovers to as it is handed in, of which there is one at most; whether it is of the definition's text then, and
+-- why it is refused; and the bounds that none of the disk's own counters is above then.
+pub record Setting : Type 1 where
+  pub system : System
+  pub can_arm : Bool
+  pub tells : Bool
+  pub begins : LastingState → Type 0
+  pub right_text : Type 0
+  pub refuses : ImageRefused → Type 0
+  pub counts : ℕ → Type 0
+
+-- The system is down: the last life, if one has begun; whether a cold start broke off since; and whether the disk has
+-- failed since that life was opened.
+pub record Outage : Type 0 where
+  pub last : Option LastLife
+  pub emptied : Bool
+  pub stopped : Bool
+
+-- the system is up, in this life; or it is down
+pub data Standing : Type 0 where
+  Up : LastLife → Standing
+  Down : Outage → Standing
+
+-- A disk fault ended a life or an opening: how often the disk had failed when that began, and when it ended.
+abbrev pub Stop : Type 0
+Stop = ℕ × ℕ
+
+-- A session so far: the lives before the last, the stops, and where it stands.
+pub record SessionState : Type 0 where
+  pub lives : List LifeState
+  pub stops : List Stop
+  pub standing : Standing
+
+-- no life has begun
+abbrev pub no_life : Outage
+no_life = record { last = None; emptied = false; stopped = false }
+
+abbrev pub unbegun : SessionState
+unbegun = record { lives = []; stops = []; standing = Down no_life }
+
+-- the life goes on with these entries
+abbrev pub life_gone_on : SessionState → LastLife → List Entry → SessionState
+life_gone_on state life entries = record state { standing = Up (longer life entries) }
+
+-- the life ended with these entries, without a fault
+abbrev pub life_ended : SessionState → LastLife → List Entry → SessionState
+life_ended state life entries = record state { standing = Down (record { last = Some (longer life entries); emptied = false; stopped = false }) }
+
+-- the life goes on with these entries, or ends with them
+abbrev pub called_on : Bool → SessionState → LastLife → List Entry → SessionState
+called_on false state life entries = life_gone_on state life entries
+called_on true state life entries = life_ended state life entries
+
+-- the disk failed, which ended the life with these entries
+abbrev pub broken : SessionState → LastLife → List Entry → Stop → SessionState
+broken state life entries stop = record {
+  lives = state.lives;
+  stops = state.stops ++ stop ∷ [];
+  standing = Down (record { last = Some (longer life entries); emptied = false; stopped = true });
+}
+
+-- a life opened with this state, so many lasting steps of the one before being kept
+abbrev pub life_opened : SessionState → Outage → ℕ → LastingState → SessionState
+life_opened state outage kept opening = record {
+  lives = with_life state.lives outage.last kept;
+  stops = state.stops;
+  standing = Up (record { opening = opening; history = [] });
+}
+
+abbrev pub or_cold : Bool → Bool → Bool
+or_cold true emptied = true
+or_cold false emptied = emptied
+
+-- the disk failed in an opening; a cold start may have emptied it
+abbrev pub failed : SessionState → Outage → Bool → Stop → SessionState
+failed state outage cold stop = record {
+  lives = state.lives;
+  stops = state.stops ++ stop ∷ [];
+  standing = Down (record { last = outage.last; emptied = or_cold cold outage.emptied; stopped = true });
+}
+
+-- ---- what the disk holds
+
+-- What the last life left, so many of its lasting steps being kept; before the first life what the disk held when it was
+-- handed in.
+abbrev pub IsStateLeft : Setting → Option LastLife → ℕ → LastingState → Type 0
+IsStateLeft setting None kept state = setting.begins state
+IsStateLeft setting (Some life) kept state = LifeLeaves setting.system life kept state
+
+-- so many lasting steps of the last life were answered
+abbrev pub LastAnswered : System → Option LastLife → ℕ → Type 0
+LastAnswered system None count = count ≡ 0
+LastAnswered system (Some life) count = HasAnswered system life count
+
+-- A cold start broke off, and the state is empty. All lasting steps of the last life that were answered count as kept.
+pub record IsStateEmptied (system : System) (last : Option LastLife) (emptied : Bool) (kept : ℕ) (state : LastingState) : Type 0 where
+  pub broke_off : emptied ≡ true
+  pub empty : state ≡ empty_state system
+  pub answered : LastAnswered system last kept
+
+-- What the disk recovers to while the system is down: what was left, or the empty state where a cold start broke off.
+abbrev pub MayBeFound : Setting → Outage → ℕ → LastingState → Type 0
+MayBeFound setting outage kept state = IsStateLeft setting outage.last kept state ⊎ IsStateEmptied setting.system outage.last outage.emptied kept state
+
+-- What it recovers to: while the system is up, the state behind all lasting steps of the life.
+abbrev pub MayHold : Setting → Standing → LastingState → Type 0
+MayHold setting (Up life) state = state ≡ (now_in setting.system life).lasting
+MayHold setting (Down outage) state = (kept : ℕ) × MayBeFound setting outage kept state
+
+-- ---- at a session's end
+
+-- the last life, if one has begun
+abbrev pub last_life : Standing → Option LastLife
+last_life (Up life) = Some life
+last_life (Down outage) = outage.last
+
+-- All lives; of the last one all lasting steps that were answered count as kept.
+pub record AreAllLives (system : System) (state : SessionState) (lives : List LifeState) : Type 0 where
+  pub count : ℕ
+  pub answered : LastAnswered system (last_life state.standing) count
+  pub are : lives ≡ with_life state.lives (last_life state.standing) count
+
+-- no life has begun yet
+abbrev pub HasNoLife : Standing → Type 0
+HasNoLife standing = last_life standing ≡ None
+
+-- the disk has failed since a life was opened last
+abbrev pub is_session_stopped : Standing → Bool
+is_session_stopped (Up life) = false
+is_session_stopped (Down outage) = outage.stopped
+
+-- The counts of the stops lie in their order between these two, and from the beginning of what a stop ended to its end
+-- the count rose, or stands at the last value that it can have.
+abbrev pub AreStops : ℕ → List Stop → ℕ → Type 0
+AreStops low [] high = low ≤ high
+AreStops low ((began, ended) ∷ stops) high =
+    (low ≤ began) × (began ≤ ended) × ((began + 1 ≤ ended) ⊎ (18446744073709551615 ≤ ended)) × AreStops ended stops high
