@@ -1,5 +1,5 @@
 //! A disk in a file of the system. It is trusted: that the file keeps what was written to it is not proved.
-ghost use Rattle.std.specs.Prelude.{◌<◌, ◌^◌};
+ghost use Rattle.std.specs.Prelude.{◌≡◌, ◌*◌, ◌<◌, ◌^◌};
 
 use crate::plan::raise;
 use crate::{Disk, Failed, SECTOR_BYTES, Sector};
@@ -37,13 +37,16 @@ fn open_or_make<R: Files<File = File>>(
     Ok((file, length))
 }
 
-fn offset(at: u32) -> u64 {
+// Where a sector stands in the file.
+fn place_of(at: u32) -> u64
+    ensures { result ≡ at * 4096 }
+{
     at as u64 * SECTOR_BYTES as u64
 }
 
 fn read_sector(file: &File, at: u32) -> io::Result<Sector> {
     let mut bytes = [0; SECTOR_BYTES];
-    file.read_exact_at(&mut bytes, offset(at))?;
+    file.read_exact_at(&mut bytes, place_of(at))?;
     Ok(Sector::from_bytes(bytes))
 }
 
@@ -99,7 +102,7 @@ impl Disk for FileDisk {
     fn write(&mut self, at: u32, from: &Sector) -> Result<(), Failed> {
         self.writes = raise(self.writes);
         if let Some(file) = &self.file {
-            if file.write_all_at(from.bytes(), offset(at)).is_ok() {
+            if file.write_all_at(from.bytes(), place_of(at)).is_ok() {
                 return Ok(());
             }
         }
