@@ -3,8 +3,9 @@ ghost use Rattle.std.specs.Prelude.{◌≡◌, ◌*◌, ◌<◌, ◌^◌};
 
 use crate::plan::raise;
 use crate::{Disk, Failed, SECTOR_BYTES, Sector};
-use std::fs::{File, Files, OpenFile, OpenOptions};
+use std::fs::{File, Files, OpenFile, OpenOptions, TryLockError};
 use std::io;
+use std::io::ErrorKind;
 use std::os::unix::fs::FileExt;
 
 /// A disk in a file. It tells nothing of its contents, and can't be armed.
@@ -17,13 +18,22 @@ pub struct FileDisk {
     ghost size_fits: { size < 2 ^ 32 },
 }
 
-// Opens the file, or makes one of zeros.
+// Locks the file until it is closed, so that no other program has it. A file system that knows no locks leaves it unlocked.
+fn lock(file: &File) -> io::Result<()> {
+    match file.try_lock() {
+        Err(TryLockError::WouldBlock) => Err(io::Error::from(ErrorKind::WouldBlock)),
+        _ => Ok(()),
+    }
+}
+
+// Opens the file, or makes one of zeros, and locks it.
 fn open_or_make<R: Files<File = File>>(
     rt: &R,
     path: &str,
     sectors: u32,
 ) -> io::Result<(File, u64)> {
     if let Ok(file) = OpenOptions::new().read(true).write(true).open(rt, path) {
+        lock(&file)?;
         let length = file.metadata()?.len();
         return Ok((file, length));
     }
@@ -32,6 +42,7 @@ fn open_or_make<R: Files<File = File>>(
         .write(true)
         .create_new(true)
         .open(rt, path)?;
+    lock(&file)?;
     let length = sectors as u64 * SECTOR_BYTES as u64;
     file.set_len(length)?;
     Ok((file, length))
@@ -55,7 +66,8 @@ impl FileDisk {
     ghost use Rattle.tm_disk.specs.FileDisk.{file_disk_state};
 
     /// Opens a file, or makes one of zeros with so many sectors. The disk has as many sectors as the file has
-    /// whole ones, and none where the file can't be opened.
+    /// whole ones, and none where the file can't be opened or another program has it. It is locked until the disk is dropped, where its
+    /// file system knows locks.
     pub fn open<R: Files<File = File>>(rt: &R, path: &str, sectors: u32) -> FileDisk
         ensures faults { (file_disk_state result).faults ≡ 0 }
         ensures writes { (file_disk_state result).writes ≡ 0 }
