@@ -5,29 +5,51 @@ use Rattle.std.specs.Str.{bytes_eq}
 use Rattle.std.specs.Prelude.{nat_lt, nat_le, if◌then◌else◌}
 use Rattle.std.proofs.lemmas.Bool.{lt-ltb, le-leb, ltb-true, leb-true, true≢false}
 use Rattle.std.proofs.lemmas.Nat.{from_be_bytes-to_be_bytes_2}
-use Rattle.std.proofs.lemmas.List.{get_or-replicate, replicate_more, take_at, drop_at, length-drop, length-take, take-append-drop, drop-drop}
+use Rattle.std.proofs.lemmas.List.{get_or-replicate, replicate_more, replicate-append-replicate, length-append, take_at, drop_at, length-drop, length-take, take-append-drop, drop-drop}
 use Rattle.std.proofs.lemmas.Slice.Eq.{bytes_eq-Decides}
 use Rattle.tm_disk.specs.Sector.{zeros, blank}
-use Rattle.log_sectors.specs.SealedSector.{header, sealed, used_of, log_payload_of, opened_payload, HoldsPayload}
+use Rattle.log_sectors.specs.SealedSector.{header, sealed, HasZerosBehind, used_of, log_payload_of, opened_payload, HoldsPayload}
 use Rattle.tm_disk.proofs.Zeros.{length-zeros, drop-zeros, blank_is, take-zeros}
 
 pub length-header : (epoch sequence used : ℕ) → length (header epoch sequence used) ≡ 32
 unfolding header
 length-header epoch sequence used = refl
 
--- a header, a payload and zeros make a sealed sector
-pub seals : (epoch sequence : ℕ) (payload front : List ℕ) → length payload ≤ 4064 → front ≡ take 0 blank ++ header epoch sequence (length payload) ++ drop (0 + length (header epoch sequence (length payload))) blank → take 32 front ++ payload ++ drop (32 + length payload) front ≡ sealed epoch sequence payload
+zeros_joined : (m n : ℕ) → zeros m ++ zeros n ≡ zeros (m + n)
+unfolding zeros
+zeros_joined m n = replicate-append-replicate m n 0
+
+-- a header, a payload and zeros where others stood make a sealed sector
+pub reseals : (epoch sequence held end : ℕ) (payload old front body : List ℕ) → length payload ≤ end → held ≤ end → end ≤ 4064 → HasZerosBehind held old → front ≡ take 0 old ++ header epoch sequence (length payload) ++ drop (0 + length (header epoch sequence (length payload))) old → body ≡ take 32 front ++ payload ++ drop (32 + length payload) front → take (32 + length payload) body ++ zeros (32 + end - (32 + length payload)) ++ drop (32 + end) body ≡ sealed epoch sequence payload
 unfolding sealed
-seals epoch sequence payload front fits is =
+reseals epoch sequence held end payload old front body most before_end fits behind is body_is =
     let h = header epoch sequence (length payload) in
     let n = length payload in
+    let k = 32 + end - (32 + n) in
     let size : 0 + length h ≡ 32 = omega (arith, length-header epoch sequence n) in
-    let made : front ≡ h ++ zeros 4064 =
-    is ∙ ap (λ k. h ++ drop k blank) size ∙ ap (λ (l : List ℕ). h ++ l) (ap (λ (l : List ℕ). drop 32 l) blank_is ∙ drop-zeros 32 4096) in
-    let first : take 32 front ≡ h = ap (λ (l : List ℕ). take 32 l) made ∙ take_at h (zeros 4064) 32 (length-header epoch sequence n) in
-    let last : drop (32 + n) front ≡ zeros (4064 - n) =
-    sym (drop-drop n 32 front) ∙ ap (λ (l : List ℕ). drop n (drop 32 l)) made ∙ ap (λ (l : List ℕ). drop n l) (drop_at h (zeros 4064) 32 (length-header epoch sequence n)) ∙ drop-zeros n 4064 in
-    ap (λ (l : List ℕ). l ++ payload ++ drop (32 + n) front) first ∙ ap (λ (l : List ℕ). h ++ payload ++ l) last
+    let made : front ≡ h ++ drop 32 old = is ∙ ap (λ j. h ++ drop j old) size in
+    let first : take 32 front ≡ h = ap (λ (l : List ℕ). take 32 l) made ∙ take_at h (drop 32 old) 32 (length-header epoch sequence n) in
+    let rest : drop 32 front ≡ drop 32 old = ap (λ (l : List ℕ). drop 32 l) made ∙ drop_at h (drop 32 old) 32 (length-header epoch sequence n) in
+    let whole : body ≡ (h ++ payload) ++ drop n (drop 32 old) =
+    body_is ∙ ap (λ (l : List ℕ). l ++ payload ++ drop (32 + n) front) first ∙ ap (λ (l : List ℕ). h ++ payload ++ l) (sym (drop-drop n 32 front) ∙ ap (λ (l : List ℕ). drop n l) rest) in
+    let long : length (h ++ payload) ≡ 32 + n = omega (arith, length-append h payload, length-header epoch sequence n) in
+    let start : take (32 + n) body ≡ h ++ payload = ap (λ (l : List ℕ). take (32 + n) l) whole ∙ take_at (h ++ payload) (drop n (drop 32 old)) (32 + n) long in
+    let after : drop (32 + n) body ≡ drop n (drop 32 old) = ap (λ (l : List ℕ). drop (32 + n) l) whole ∙ drop_at (h ++ payload) (drop n (drop 32 old)) (32 + n) long in
+    let up : 32 + n + (end - n) ≡ 32 + end = omega (arith, most) in
+    let same : n + (end - n) ≡ held + (end - held) = omega (arith, most, before_end) in
+    let left : 4064 - held - (end - held) ≡ 4064 - end = omega (arith, before_end, fits) in
+    let both : k + (4064 - end) ≡ 4064 - n = omega (arith, most, fits) in
+    let last : drop (32 + end) body ≡ zeros (4064 - end) =
+    ap (λ j. drop j body) (sym up) ∙ sym (drop-drop (end - n) (32 + n) body) ∙ ap (λ (l : List ℕ). drop (end - n) l) after
+    ∙ drop-drop (end - n) n (drop 32 old) ∙ ap (λ j. drop j (drop 32 old)) same ∙ sym (drop-drop (end - held) held (drop 32 old))
+    ∙ ap (λ (l : List ℕ). drop (end - held) l) (drop-drop held 32 old ∙ behind) ∙ drop-zeros (end - held) (4064 - held) ∙ ap zeros left in
+    ap (λ (l : List ℕ). l ++ zeros k ++ drop (32 + end) body) start
+    ∙ ap (λ (l : List ℕ). h ++ payload ++ zeros k ++ l) last
+    ∙ append_assoc (h ++ payload) (zeros k) (zeros (4064 - end))
+    ∙ ap (λ (l : List ℕ). h ++ payload ++ l) (zeros_joined k (4064 - end) ∙ ap zeros both)
+
+pub blank-behind : HasZerosBehind 0 blank
+blank-behind = ap (λ (l : List ℕ). drop 32 l) blank_is ∙ drop-zeros 32 4096
 
 -- the bytes of a header, from the bytes of its numbers
 pub header_is : (e s u : List ℕ) (epoch sequence used : ℕ) → e ≡ to_be_bytes w64 epoch → s ≡ to_be_bytes w64 sequence → u ≡ to_be_bytes w16 used → 73 ∷ 77 ∷ 83 ∷ 76 ∷ 0 ∷ 0 ∷ 0 ∷ 0 ∷ get_or e 0 0 ∷ get_or e 1 0 ∷ get_or e 2 0 ∷ get_or e 3 0 ∷ get_or e 4 0 ∷ get_or e 5 0 ∷ get_or e 6 0 ∷ get_or e 7 0 ∷ get_or s 0 0 ∷ get_or s 1 0 ∷ get_or s 2 0 ∷ get_or s 3 0 ∷ get_or s 4 0 ∷ get_or s 5 0 ∷ get_or s 6 0 ∷ get_or s 7 0 ∷ get_or u 0 0 ∷ get_or u 1 0 ∷ 0 ∷ 0 ∷ 0 ∷ 0 ∷ 0 ∷ 0 ∷ [] ≡ header epoch sequence used
@@ -45,6 +67,12 @@ used_of-sealed epoch sequence payload fits = from_be_bytes-to_be_bytes_2 (length
 rest_of-sealed : (epoch sequence : ℕ) (payload : List ℕ) → drop 32 (sealed epoch sequence payload) ≡ payload ++ zeros (4064 - length payload)
 unfolding sealed header
 rest_of-sealed epoch sequence payload = refl
+
+pub sealed-behind : (epoch sequence : ℕ) (payload : List ℕ) → HasZerosBehind (length payload) (sealed epoch sequence payload)
+sealed-behind epoch sequence payload =
+    sym (drop-drop (length payload) 32 (sealed epoch sequence payload))
+    ∙ ap (λ (l : List ℕ). drop (length payload) l) (rest_of-sealed epoch sequence payload)
+    ∙ drop_at payload (zeros (4064 - length payload)) (length payload) refl
 
 front_of-sealed : (epoch sequence : ℕ) (payload : List ℕ) → take 32 (sealed epoch sequence payload) ≡ header epoch sequence (length payload)
 unfolding sealed header

@@ -1,5 +1,5 @@
 -- How a log sector is spelled.
-use Rattle.std.specs.Prelude.{◌≡◌, ℕ, ◌-◌, ◌<◌, ◌≤◌, ◌&&◌, List, [], ◌∷◌, ◌++◌, length, take, drop, nat_lt, nat_le, if◌then◌else◌, Option, Some, None}
+use Rattle.std.specs.Prelude.{◌≡◌, ℕ, ◌+◌, ◌-◌, ◌<◌, ◌≤◌, ◌&&◌, List, [], ◌∷◌, ◌++◌, length, take, drop, nat_lt, nat_le, if◌then◌else◌, Option, Some, None}
 use Rattle.std.specs.Int.{w16, w64, to_be_bytes, from_be_bytes}
 use Rattle.std.specs.Str.{bytes_eq}
 use Rattle.tm_disk.specs.Sector.{zeros}
@@ -12,6 +12,10 @@ header epoch sequence used =
 -- the header, the payload, and zeros to the end
 unfoldable pub sealed : ℕ → ℕ → List ℕ → List ℕ
 sealed epoch sequence payload = header epoch sequence (length payload) ++ payload ++ zeros (4064 - length payload)
+
+-- behind so many bytes of payload there are zeros
+abbrev pub HasZerosBehind : ℕ → List ℕ → Type 0
+HasZerosBehind held sector = drop (32 + held) sector ≡ zeros (4064 - held)
 
 -- how many bytes of payload a sector says it holds, and which
 abbrev pub used_of : List ℕ → ℕ

@@ -1,7 +1,7 @@
 //! How a log sector is spelled and read.
 ghost use Rattle.std.specs.Prelude.{◌≡◌, ◌<◌, ◌≤◌, ◌↔◌, length, MatchOption, IsTrue, None, Some};
 ghost use Rattle.tm_disk.specs.Sector.{zeros};
-ghost use Rattle.log_sectors.specs.SealedSector.{header, sealed, opened_payload, used_of};
+ghost use Rattle.log_sectors.specs.SealedSector.{header, sealed, HasZerosBehind, opened_payload, used_of};
 
 use tm_disk::{SECTOR_BYTES, Sector};
 
@@ -23,6 +23,21 @@ fn header(epoch: u64, sequence: u64, used: u16) -> [u8; HEADER_BYTES]
     ]
 }
 
+/// Makes a sector, in which there are zeros behind so many bytes of payload, a log sector of this epoch and sequence with this
+/// payload. Only what it leaves of those bytes is zeroed.
+pub fn reseal(sector: &mut Sector, held: usize, epoch: u64, sequence: u64, payload: &[u8])
+    requires some { 0 < length payload.now }
+    requires fits { length payload.now ≤ 4064 }
+    requires few { held ≤ 4064 }
+    requires behind { HasZerosBehind held sector.old }
+    ensures { sector.new ≡ sealed epoch sequence payload.now }
+{
+    sector.set(0, &header(epoch, sequence, payload.len() as u16));
+    sector.set(HEADER_BYTES, payload);
+    let end = payload.len().max(held);
+    sector.clear(HEADER_BYTES + payload.len(), HEADER_BYTES + end);
+}
+
 /// A log sector of this epoch and sequence with this payload.
 pub fn seal(epoch: u64, sequence: u64, payload: &[u8]) -> Sector
     requires some { 0 < length payload.now }
@@ -30,8 +45,7 @@ pub fn seal(epoch: u64, sequence: u64, payload: &[u8]) -> Sector
     ensures { result ≡ sealed epoch sequence payload.now }
 {
     let mut sector = Sector::blank();
-    sector.set(0, &header(epoch, sequence, payload.len() as u16));
-    sector.set(HEADER_BYTES, payload);
+    reseal(&mut sector, 0, epoch, sequence, payload);
     sector
 }
 

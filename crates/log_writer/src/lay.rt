@@ -3,8 +3,8 @@ ghost use Rattle.std.specs.Prelude.{◌≡◌, ◌+◌, ◌*◌, ◌<◌, ◌≤
 ghost use Rattle.tm_disk.specs.Disk.{Stays, Within, Follows, WritesAtMost, FailedSince};
 ghost use Rattle.log_writer.specs.ForcedLog.{log_sectors_of, log_pieces, log_piece, Lays, HasLaid};
 
-use log_sectors::{PAYLOAD_BYTES, seal};
-use tm_disk::{Disk, DiskFault};
+use log_sectors::{PAYLOAD_BYTES, reseal};
+use tm_disk::{Disk, DiskFault, Sector};
 
 /// How many sectors so many bytes take.
 pub fn sectors_of(length: usize) -> usize
@@ -44,8 +44,12 @@ pub fn lay<D: Disk>(
     ensures cause { OnErr result (FailedSince (D.state disk.old) (D.state disk.new)) }
 {
     let count = sectors_of(bytes.len());
+    let mut sector = Sector::blank();
+    let mut held = 0;
     for place in 0..count {
-        let sector = seal(epoch, sequence + place as u64, piece(bytes, place));
+        let payload = piece(bytes, place);
+        reseal(&mut sector, held, epoch, sequence + place as u64, payload);
+        held = payload.len();
         if disk.write(at + place as u32, &sector).is_err() {
             return Err(DiskFault::Disk);
         }

@@ -1,6 +1,6 @@
 //! Sectors of 4,096 bytes.
-ghost use Rattle.std.specs.Prelude.{◌≡◌, ◌≤◌, ◌+◌, ◌<◌, length, take, drop, ◌++◌};
-ghost use Rattle.tm_disk.specs.Sector.{blank};
+ghost use Rattle.std.specs.Prelude.{◌≡◌, ◌≤◌, ◌+◌, ◌-◌, ◌<◌, length, take, drop, ◌++◌};
+ghost use Rattle.tm_disk.specs.Sector.{blank, zeros};
 
 use std::marker::Model;
 
@@ -55,5 +55,15 @@ impl Sector {
         ensures value { self.new ≡ take at self.old ++ bytes.now ++ drop (at + length bytes.now) self.old }
     {
         self.bytes[at..at + bytes.len()].copy_from_slice(bytes);
+    }
+
+    /// Zeros its bytes from one place up to another.
+    #[tactic(auto, unfolding(crate::specs::Sector::zeros))]
+    pub fn clear(&mut self, from: usize, to: usize)
+        requires order { from ≤ to }
+        requires within { to ≤ 4096 }
+        ensures { self.new ≡ take from self.old ++ zeros (to - from) ++ drop to self.old }
+    {
+        self.bytes[from..to].fill(0);
     }
 }
