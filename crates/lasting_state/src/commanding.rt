@@ -11,6 +11,7 @@ use crate::tell_command;
 use lasting_changes::{change_pad, dequeue_all, dequeue_first, stop_terminal};
 use log_records::Untold;
 use model_messages::PadChange;
+use program_rows::Telling;
 use std::alloc::Global;
 use tm_types::LastingCommand;
 
@@ -22,20 +23,20 @@ impl Tables {
         &mut self,
         alloc: Global,
         command: &LastingCommand,
-        room: usize,
-        told: &mut Vec<u8>,
+        telling: &mut Telling,
     ) -> Result<(), Untold>
         ensures done { OnOk result (self.new ≡ command_done command.now self.old) }
         ensures applies { OnOk result (AppliesCommand command.now self.old self.new) }
-        ensures told { OnOk result (TellsStep 0 room (Commands command.now) self.old told.old.items told.new.items) }
+        ensures told { OnOk result (TellsStep 0 telling.old.room (Commands command.now) self.old telling.old.told.items telling.new.told.items) }
         ensures err { OnErr result (self.new ≡ self.old) }
-        ensures untold { OnErr result (told.new.items ≡ told.old.items) }
-        ensures full { IfErr result (WhereFull (AreRecordsLonger 0 room (Commands command.now) self.old)) }
+        ensures untold { OnErr result (telling.new.told.items ≡ telling.old.told.items) }
+        ensures place { telling.new ≡ record telling.old { told = telling.new.told } }
+        ensures full { IfErr result (WhereFull (AreRecordsLonger 0 telling.old.room (Commands command.now) self.old)) }
     {
         if self.steps >= COUNT_LIMIT {
             return Err(Untold::Memory);
         }
-        tell_command(alloc, command, room, told)?;
+        tell_command(alloc, command, telling)?;
         self.do_command(command);
         Ok(())
     }

@@ -17,6 +17,7 @@ use log_records::{
 };
 use model_messages::{EndedMessage, PadChange};
 use out_queues::Outputs;
+use program_rows::Telling;
 use std::alloc::Global;
 use std::collections::VecDeque;
 use tm_types::{AbendCode, LastingCommand, Memory, Name, Segments};
@@ -24,25 +25,33 @@ use tm_types::{AbendCode, LastingCommand, Memory, Name, Segments};
 /// Tells a completion: the outputs of a message with this origin and id, that it is completed, and the sync point.
 /// `Memory` is answered too where a number would have more than 64 bits.
 pub fn tell_completion(
-    unit: u64,
     terminals: &Outputs,
     next_id: u64,
     origin: &Name,
     id: u64,
     outputs: &VecDeque<EndedMessage>,
     pad: &PadChange,
-    room: usize,
-    told: &mut Vec<u8>,
+    telling: &mut Telling,
 ) -> Result<(), Untold>
     requires counts { HaveCounts outputs.now.items }
     requires pad { HasShortPad pad.now }
-    ensures told { OnOk result ((lasting : LastingState) → lasting.outputs ≡ terminals.now → lasting.next_id ≡ next_id → TellsInRoom (completion_records unit origin.now id outputs.now.items lasting ++ SyncPoint unit pad.now ∷ []) room told.old.items told.new.items) }
-    ensures untold { OnErr result (told.new.items ≡ told.old.items) }
-    ensures full { IfErr result (λ error. (lasting : LastingState) → lasting.outputs ≡ terminals.now → lasting.next_id ≡ next_id → AreRecordsUntold (completion_records unit origin.now id outputs.now.items lasting ++ SyncPoint unit pad.now ∷ []) room error) }
+    ensures told { OnOk result ((lasting : LastingState) → lasting.outputs ≡ terminals.now → lasting.next_id ≡ next_id → TellsInRoom (completion_records telling.old.unit origin.now id outputs.now.items lasting ++ SyncPoint telling.old.unit pad.now ∷ []) telling.old.room telling.old.told.items telling.new.told.items) }
+    ensures untold { OnErr result (telling.new.told.items ≡ telling.old.told.items) }
+    ensures place { telling.new ≡ record telling.old { told = telling.new.told } }
+    ensures full { IfErr result (λ error. (lasting : LastingState) → lasting.outputs ≡ terminals.now → lasting.next_id ≡ next_id → AreRecordsUntold (completion_records telling.old.unit origin.now id outputs.now.items lasting ++ SyncPoint telling.old.unit pad.now ∷ []) telling.old.room error) }
 {
-    let start = told.len();
-    let written = put_completion(told, unit, terminals, next_id, origin, id, outputs, pad);
-    end_telling(told, start, room, written)
+    let start = telling.told.len();
+    let written = put_completion(
+        &mut telling.told,
+        telling.unit,
+        terminals,
+        next_id,
+        origin,
+        id,
+        outputs,
+        pad,
+    );
+    end_telling(&mut telling.told, start, telling.room, written)
 }
 
 fn put_completion(
@@ -68,21 +77,20 @@ fn put_completion(
 /// Tells that a message is discarded after an abend; the reply of this number tells its origin so.
 #[tactic(auto, using(log_records::proofs::Told::one_told))]
 pub fn tell_discarded(
-    unit: u64,
     id: u64,
     abend: AbendCode,
     number: u64,
-    room: usize,
-    told: &mut Vec<u8>,
+    telling: &mut Telling,
 ) -> Result<(), Untold>
     requires { IsAbend abend.number }
-    ensures told { OnOk result (TellsInRoom (Discarded unit id abend number ∷ []) room told.old.items told.new.items) }
-    ensures untold { OnErr result (told.new.items ≡ told.old.items) }
-    ensures full { IfErr result (AreRecordsUntold (Discarded unit id abend number ∷ []) room) }
+    ensures told { OnOk result (TellsInRoom (Discarded telling.old.unit id abend number ∷ []) telling.old.room telling.old.told.items telling.new.told.items) }
+    ensures untold { OnErr result (telling.new.told.items ≡ telling.old.told.items) }
+    ensures place { telling.new ≡ record telling.old { told = telling.new.told } }
+    ensures full { IfErr result (AreRecordsUntold (Discarded telling.old.unit id abend number ∷ []) telling.old.room) }
 {
-    let start = told.len();
-    let written = append_discarded(told, unit, id, abend, number);
-    end_telling(told, start, room, written)
+    let start = telling.told.len();
+    let written = append_discarded(&mut telling.told, telling.unit, id, abend, number);
+    end_telling(&mut telling.told, start, telling.room, written)
 }
 
 /// Tells a command that lasts.
@@ -90,30 +98,31 @@ pub fn tell_discarded(
 pub fn tell_command(
     alloc: Global,
     command: &LastingCommand,
-    room: usize,
-    told: &mut Vec<u8>,
+    telling: &mut Telling,
 ) -> Result<(), Untold>
-    ensures told { OnOk result (TellsInRoom (Command (command_text.command_spelling command.now) ∷ []) room told.old.items told.new.items) }
-    ensures untold { OnErr result (told.new.items ≡ told.old.items) }
-    ensures full { IfErr result (AreRecordsUntold (Command (command_text.command_spelling command.now) ∷ []) room) }
+    ensures told { OnOk result (TellsInRoom (Command (command_text.command_spelling command.now) ∷ []) telling.old.room telling.old.told.items telling.new.told.items) }
+    ensures untold { OnErr result (telling.new.told.items ≡ telling.old.told.items) }
+    ensures place { telling.new ≡ record telling.old { told = telling.new.told } }
+    ensures full { IfErr result (AreRecordsUntold (Command (command_text.command_spelling command.now) ∷ []) telling.old.room) }
     ensures named { IsName (command_text.name_in command.now) }
 {
     let _name = name_in(command).as_bytes();
     let mut text = Vec::with_capacity(alloc, 80)?;
     command.write(&mut text)?;
-    tell_text(&text, room, told)
+    tell_text(&text, telling)
 }
 
 #[tactic(auto, using(log_records::proofs::Told::one_told))]
-fn tell_text(text: &[u8], room: usize, told: &mut Vec<u8>) -> Result<(), Untold>
+fn tell_text(text: &[u8], telling: &mut Telling) -> Result<(), Untold>
     requires { length text.now ≤ 80 }
-    ensures told { OnOk result (TellsInRoom (Command text.now ∷ []) room told.old.items told.new.items) }
-    ensures untold { OnErr result (told.new.items ≡ told.old.items) }
-    ensures full { IfErr result (AreRecordsUntold (Command text.now ∷ []) room) }
+    ensures told { OnOk result (TellsInRoom (Command text.now ∷ []) telling.old.room telling.old.told.items telling.new.told.items) }
+    ensures untold { OnErr result (telling.new.told.items ≡ telling.old.told.items) }
+    ensures place { telling.new ≡ record telling.old { told = telling.new.told } }
+    ensures full { IfErr result (AreRecordsUntold (Command text.now ∷ []) telling.old.room) }
 {
-    let start = told.len();
-    let written = append_command(told, text);
-    end_telling(told, start, room, written)
+    let start = telling.told.len();
+    let written = append_command(&mut telling.told, text);
+    end_telling(&mut telling.told, start, telling.room, written)
 }
 
 /// The code or terminal that a command names.
@@ -140,32 +149,37 @@ pub fn tell_input(
     number: u64,
     conversation: bool,
     segments: &Segments,
-    room: usize,
-    told: &mut Vec<u8>,
+    telling: &mut Telling,
 ) -> Result<(), Untold>
     requires { IsCount segments.now }
-    ensures told { OnOk result (TellsInRoom (Input 0 id terminal.now code.now number conversation segments.now ∷ []) room told.old.items told.new.items) }
-    ensures untold { OnErr result (told.new.items ≡ told.old.items) }
-    ensures full { IfErr result (AreRecordsUntold (Input 0 id terminal.now code.now number conversation segments.now ∷ []) room) }
+    ensures told { OnOk result (TellsInRoom (Input 0 id terminal.now code.now number conversation segments.now ∷ []) telling.old.room telling.old.told.items telling.new.told.items) }
+    ensures untold { OnErr result (telling.new.told.items ≡ telling.old.told.items) }
+    ensures place { telling.new ≡ record telling.old { told = telling.new.told } }
+    ensures full { IfErr result (AreRecordsUntold (Input 0 id terminal.now code.now number conversation segments.now ∷ []) telling.old.room) }
 {
-    let start = told.len();
-    let written = append_input(told, 0, id, terminal, code, number, conversation, segments);
-    end_telling(told, start, room, written)
+    let start = telling.told.len();
+    let written = append_input(
+        &mut telling.told,
+        0,
+        id,
+        terminal,
+        code,
+        number,
+        conversation,
+        segments,
+    );
+    end_telling(&mut telling.told, start, telling.room, written)
 }
 
 /// Tells that a reply is acknowledged.
 #[tactic(auto, using(log_records::proofs::Told::one_told))]
-pub fn tell_acknowledged(
-    terminal: &Name,
-    number: u64,
-    room: usize,
-    told: &mut Vec<u8>,
-) -> Result<(), Untold>
-    ensures told { OnOk result (TellsInRoom (Acknowledged terminal.now number ∷ []) room told.old.items told.new.items) }
-    ensures untold { OnErr result (told.new.items ≡ told.old.items) }
-    ensures full { IfErr result (AreRecordsUntold (Acknowledged terminal.now number ∷ []) room) }
+pub fn tell_acknowledged(terminal: &Name, number: u64, telling: &mut Telling) -> Result<(), Untold>
+    ensures told { OnOk result (TellsInRoom (Acknowledged terminal.now number ∷ []) telling.old.room telling.old.told.items telling.new.told.items) }
+    ensures untold { OnErr result (telling.new.told.items ≡ telling.old.told.items) }
+    ensures place { telling.new ≡ record telling.old { told = telling.new.told } }
+    ensures full { IfErr result (AreRecordsUntold (Acknowledged terminal.now number ∷ []) telling.old.room) }
 {
-    let start = told.len();
-    let written = append_acknowledged(told, terminal, number);
-    end_telling(told, start, room, written)
+    let start = telling.told.len();
+    let written = append_acknowledged(&mut telling.told, terminal, number);
+    end_telling(&mut telling.told, start, telling.room, written)
 }

@@ -28,6 +28,7 @@ use model_machine::{AckRefused, Acked};
 use model_messages::{EndedMessage, PadChange, TerminalReplies};
 use msg_queues::SLOT_ROOM;
 use out_queues::Outputs;
+use program_rows::Telling;
 use std::alloc::Global;
 use std::collections::VecDeque;
 use tm_types::{AbendCode, Memory, Name};
@@ -44,17 +45,17 @@ impl Tables {
         number: u64,
         kept: KeptInput,
         busy: u32,
-        room: usize,
-        told: &mut Vec<u8>,
+        telling: &mut Telling,
     ) -> Result<Enqueued, Untold>
         requires place { terminal_place self.old.terminals terminal.now ≡ Some place }
         requires within { place < length self.old.terminals }
         requires count { IsCount kept.segments }
         ensures ok { IfOk result (IsEnqueued self.old self.new terminal.now number kept busy) }
-        ensures told { IfOk result (TellsInput self.old terminal.now number kept room told.old.items told.new.items) }
+        ensures told { IfOk result (TellsInput self.old terminal.now number kept telling.old.room telling.old.told.items telling.new.told.items) }
         ensures err { OnErr result (self.new ≡ self.old) }
-        ensures untold { OnErr result (told.new.items ≡ told.old.items) }
-        ensures full { IfErr result (WhereFull (WouldTell self.old terminal.now number kept busy room)) }
+        ensures untold { OnErr result (telling.new.told.items ≡ telling.old.told.items) }
+        ensures place { telling.new ≡ record telling.old { told = telling.new.told } }
+        ensures full { IfErr result (WhereFull (WouldTell self.old terminal.now number kept busy telling.old.room)) }
         ensures above { OnOk result (IsNewId self.old.next_id self.old.queues.queued) }
     {
         let Some(bytes) = self.needed(&kept, busy) else {
@@ -66,7 +67,7 @@ impl Tables {
                 Err(_) => Err(Untold::Memory),
             };
         }
-        self.keep_told(place, terminal, number, kept, busy, room, told)
+        self.keep_told(place, terminal, number, kept, busy, telling)
     }
 
     /// The bytes that an input needs beside so many busy regions, or None where they pass the limit of all counts.
@@ -109,27 +110,27 @@ impl Tables {
         number: u64,
         kept: KeptInput,
         busy: u32,
-        room: usize,
-        told: &mut Vec<u8>,
+        telling: &mut Telling,
     ) -> Result<Enqueued, Untold>
         requires place { terminal_place self.old.terminals terminal.now ≡ Some place }
         requires within { place < length self.old.terminals }
         requires count { IsCount kept.segments }
         requires fits { tables_input_needs self.old kept.segments busy ≤ self.old.queues.limit }
         ensures ok { IfOk result (IsEnqueued self.old self.new terminal.now number kept busy) }
-        ensures told { IfOk result (TellsInput self.old terminal.now number kept room told.old.items told.new.items) }
+        ensures told { IfOk result (TellsInput self.old terminal.now number kept telling.old.room telling.old.told.items telling.new.told.items) }
         ensures err { OnErr result (self.new ≡ self.old) }
-        ensures untold { OnErr result (told.new.items ≡ told.old.items) }
-        ensures full { IfErr result (WhereFull (WouldTell self.old terminal.now number kept busy room)) }
+        ensures untold { OnErr result (telling.new.told.items ≡ telling.old.told.items) }
+        ensures place { telling.new ≡ record telling.old { told = telling.new.told } }
+        ensures full { IfErr result (WhereFull (WouldTell self.old terminal.now number kept busy telling.old.room)) }
         ensures above { OnOk result (IsNewId self.old.next_id self.old.queues.queued) }
     {
-        let start = told.len();
-        tell_kept(self.next_id, terminal, number, &kept, room, told)?;
+        let start = telling.told.len();
+        tell_kept(self.next_id, terminal, number, &kept, telling)?;
         match self.keep(place, terminal, number, kept, busy) {
             Ok(Enqueued::New(id)) => Ok(Enqueued::New(id)),
             Ok(Enqueued::Full(_needed, _limit)) => unreachable!(),
             Err(_) => {
-                told.truncate(start);
+                telling.told.truncate(start);
                 Err(Untold::Memory)
             }
         }
@@ -141,20 +142,20 @@ impl Tables {
         &mut self,
         terminal: &Name,
         number: u64,
-        room: usize,
-        told: &mut Vec<u8>,
+        telling: &mut Telling,
     ) -> Result<Result<Acked, AckRefused>, Untold>
         ensures state { IfOk result (IsAcknowledged self.old self.new terminal.now number) }
-        ensures told { IfOk result (TellsAcknowledged self.old terminal.now room told.old.items told.new.items) }
+        ensures told { IfOk result (TellsAcknowledged self.old terminal.now telling.old.room telling.old.told.items telling.new.told.items) }
         ensures err { OnErr result (self.new ≡ self.old) }
-        ensures untold { OnErr result (told.new.items ≡ told.old.items) }
-        ensures full { IfErr result (WhereFull (WouldAcknowledge self.old terminal.now number room)) }
+        ensures untold { OnErr result (telling.new.told.items ≡ telling.old.told.items) }
+        ensures place { telling.new ≡ record telling.old { told = telling.new.told } }
+        ensures full { IfErr result (WhereFull (WouldAcknowledge self.old terminal.now number telling.old.room)) }
     {
         if self.steps >= COUNT_LIMIT {
             return Err(Untold::Memory);
         }
         if removes(self.outputs.terminal(terminal), number) {
-            return self.remove(terminal, number, room, told);
+            return self.remove(terminal, number, telling);
         }
         Ok(self.take_acknowledgement(terminal, number))
     }
@@ -164,18 +165,18 @@ impl Tables {
         &mut self,
         terminal: &Name,
         number: u64,
-        room: usize,
-        told: &mut Vec<u8>,
+        telling: &mut Telling,
     ) -> Result<Result<Acked, AckRefused>, Untold>
         requires steps { self.old.steps < 2 ^ 60 }
         requires removes { removes_by (output_at self.old.outputs terminal.now) number ≡ true }
         ensures state { IfOk result (IsAcknowledged self.old self.new terminal.now number) }
-        ensures told { IfOk result (TellsAcknowledged self.old terminal.now room told.old.items told.new.items) }
+        ensures told { IfOk result (TellsAcknowledged self.old terminal.now telling.old.room telling.old.told.items telling.new.told.items) }
         ensures err { OnErr result (self.new ≡ self.old) }
-        ensures untold { OnErr result (told.new.items ≡ told.old.items) }
-        ensures full { IfErr result (WhereFull (WouldAcknowledge self.old terminal.now number room)) }
+        ensures untold { OnErr result (telling.new.told.items ≡ telling.old.told.items) }
+        ensures place { telling.new ≡ record telling.old { told = telling.new.told } }
+        ensures full { IfErr result (WhereFull (WouldAcknowledge self.old terminal.now number telling.old.room)) }
     {
-        tell_acknowledged(terminal, number, room, told)?;
+        tell_acknowledged(terminal, number, telling)?;
         Ok(self.take_acknowledgement(terminal, number))
     }
 
@@ -189,44 +190,41 @@ impl Tables {
         id: u64,
         outputs: VecDeque<EndedMessage>,
         pad: PadChange,
-        unit: u64,
-        room: usize,
-        told: &mut Vec<u8>,
+        telling: &mut Telling,
     ) -> Result<(), Untold>
         requires region { IsRegionOf self.old.databases region }
         requires found { IsSome (queued_at id self.old.queues.queued) }
         requires counts { HaveCounts outputs.items }
         requires pad { HasShortPad pad }
         ensures step { OnOk result (Applies (Completes id (region_at region self.old.databases).rows outputs.items pad) self.old self.new) }
-        ensures told { OnOk result (TellsStep unit room (Completes id (region_at region self.old.databases).rows outputs.items pad) self.old told.old.items told.new.items) }
+        ensures told { OnOk result (TellsStep telling.old.unit telling.old.room (Completes id (region_at region self.old.databases).rows outputs.items pad) self.old telling.old.told.items telling.new.told.items) }
         ensures closed { OnOk result (IsMessageClosed self.new.databases (λ _. pad) (λ _. outputs.items) self.old self.new id) }
         ensures databases { OnOk result (IsCommitted region self.old.databases self.new.databases) }
         ensures rows { OnOk result (AreRowsOf (dbds_of self.new.databases) (committed_rows self.new.databases)) }
         ensures dbds { dbds_of self.new.databases ≡ dbds_of self.old.databases }
         ensures err { OnErr result (self.new ≡ self.old) }
-        ensures untold { OnErr result (told.new.items ≡ told.old.items) }
-        ensures full { IfErr result (WhereFull (AreRecordsLonger unit room (Completes id (region_at region self.old.databases).rows outputs.items pad) self.old)) }
+        ensures untold { OnErr result (telling.new.told.items ≡ telling.old.told.items) }
+        ensures place { telling.new ≡ record telling.old { told = telling.new.told } }
+        ensures full { IfErr result (WhereFull (AreRecordsLonger telling.old.unit telling.old.room (Completes id (region_at region self.old.databases).rows outputs.items pad) self.old)) }
         ensures above { OnOk result (IsNewId self.old.next_id self.old.queues.queued) }
     {
         let Some(message) = self.queues.find(id) else {
             unreachable!()
         };
-        let start = told.len();
+        let start = telling.told.len();
         tell_completion(
-            unit,
             &self.outputs,
             self.next_id,
             &message.origin,
             id,
             &outputs,
             &pad,
-            room,
-            told,
+            telling,
         )?;
         match self.commit(region, id, outputs, pad) {
             Ok(()) => Ok(()),
             Err(_) => {
-                told.truncate(start);
+                telling.told.truncate(start);
                 Err(Untold::Memory)
             }
         }
@@ -242,33 +240,32 @@ impl Tables {
         region: u32,
         id: u64,
         abend: AbendCode,
-        unit: u64,
-        room: usize,
-        told: &mut Vec<u8>,
+        telling: &mut Telling,
     ) -> Result<(), Untold>
         requires region { IsRegionOf self.old.databases region }
         requires found { IsSome (queued_at id self.old.queues.queued) }
         requires abend { IsAbend abend.number }
         ensures step { OnOk result (Applies (Discards id abend) self.old self.new) }
-        ensures told { OnOk result (TellsStep unit room (Discards id abend) self.old told.old.items told.new.items) }
+        ensures told { OnOk result (TellsStep telling.old.unit telling.old.room (Discards id abend) self.old telling.old.told.items telling.new.told.items) }
         ensures closed { OnOk result (IsMessageClosed self.new.databases discarded_pad (λ message. abend_outputs message abend) self.old self.new id) }
         ensures databases { OnOk result (IsGivenUp region self.old.databases self.new.databases) }
         ensures dbds { dbds_of self.new.databases ≡ dbds_of self.old.databases }
         ensures err { OnErr result (self.new ≡ self.old) }
-        ensures untold { OnErr result (told.new.items ≡ told.old.items) }
-        ensures full { IfErr result (WhereFull (AreRecordsLonger unit room (Discards id abend) self.old)) }
+        ensures untold { OnErr result (telling.new.told.items ≡ telling.old.told.items) }
+        ensures place { telling.new ≡ record telling.old { told = telling.new.told } }
+        ensures full { IfErr result (WhereFull (AreRecordsLonger telling.old.unit telling.old.room (Discards id abend) self.old)) }
         ensures above { OnOk result (IsNewId self.old.next_id self.old.queues.queued) }
     {
         let Some(message) = self.queues.find(id) else {
             unreachable!()
         };
         let number = next_number(&self.outputs, &message.origin);
-        let start = told.len();
-        tell_discarded(unit, id, abend, number, room, told)?;
+        let start = telling.told.len();
+        tell_discarded(id, abend, number, telling)?;
         match self.back_out(alloc, region, id, abend) {
             Ok(()) => Ok(()),
             Err(_) => {
-                told.truncate(start);
+                telling.told.truncate(start);
                 Err(Untold::Memory)
             }
         }
@@ -281,13 +278,13 @@ fn tell_kept(
     terminal: &Name,
     number: u64,
     kept: &KeptInput,
-    room: usize,
-    told: &mut Vec<u8>,
+    telling: &mut Telling,
 ) -> Result<(), Untold>
     requires { IsCount kept.now.segments }
-    ensures told { OnOk result (RecordsTell (Input 0 id terminal.now kept.now.code number kept.now.conversation kept.now.segments ∷ []) room told.old.items told.new.items) }
-    ensures untold { OnErr result (told.new.items ≡ told.old.items) }
-    ensures full { IfErr result (AreRecordsUntold (Input 0 id terminal.now kept.now.code number kept.now.conversation kept.now.segments ∷ []) room) }
+    ensures told { OnOk result (RecordsTell (Input 0 id terminal.now kept.now.code number kept.now.conversation kept.now.segments ∷ []) telling.old.room telling.old.told.items telling.new.told.items) }
+    ensures untold { OnErr result (telling.new.told.items ≡ telling.old.told.items) }
+    ensures place { telling.new ≡ record telling.old { told = telling.new.told } }
+    ensures full { IfErr result (AreRecordsUntold (Input 0 id terminal.now kept.now.code number kept.now.conversation kept.now.segments ∷ []) telling.old.room) }
 {
     tell_input(
         id,
@@ -296,8 +293,7 @@ fn tell_kept(
         number,
         kept.conversation,
         &kept.segments,
-        room,
-        told,
+        telling,
     )
 }
 

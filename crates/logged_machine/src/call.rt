@@ -9,6 +9,7 @@ ghost use Rattle.logged_machine.specs.ToldCalls.{DoesCall, IsCallWithin, Numbers
 
 use log_records::Untold;
 use model_machine::ControlFault;
+use program_rows::Telling;
 use std::alloc::Global;
 use tm_machine::Parts;
 
@@ -34,15 +35,15 @@ pub trait Call {
         alloc: Global,
         parts: &mut Parts,
         units: &[u64],
-        room: usize,
-        told: &mut Vec<u8>,
+        telling: &mut Telling,
     ) -> Result<Self::Answer, Untold>
         requires { IsCall parts.old.system (call self.now) }
         ensures does { IfOk result (λ answer. DoesCall units.now (entry self.now answer) parts.old parts.new) }
-        ensures told { OnOk result (TellsAllRecords (own_records parts.old units.now (call self.now)) room told.old.items told.new.items) }
-        ensures full { IfErr result (WhereFull (room < length (own_bytes parts.old units.now (call self.now)))) }
+        ensures told { OnOk result (TellsAllRecords (own_records parts.old units.now (call self.now)) telling.old.room telling.old.told.items telling.new.told.items) }
+        ensures full { IfErr result (WhereFull (telling.old.room < length (own_bytes parts.old units.now (call self.now)))) }
         ensures err { OnErr result (parts.new ≡ parts.old) }
-        ensures untold { OnErr result (told.new.items ≡ told.old.items) };
+        ensures untold { OnErr result (telling.new.told.items ≡ telling.old.told.items) }
+        ensures room { telling.new.room ≡ telling.old.room };
 
     /// Whether this answer tells of a step that lasts.
     fn lasts(&self, answer: &Self::Answer) -> bool

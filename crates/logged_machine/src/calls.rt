@@ -13,6 +13,7 @@ use log_records::Untold;
 use model_machine::{
     AckRefused, Acked, Answer, Command, CommandRefused, ControlFault, InputRefused, Taken, Turned,
 };
+use program_rows::Telling;
 use std::alloc::Global;
 use tm_machine::Parts;
 use tm_types::{Name, Segments};
@@ -44,10 +45,9 @@ impl Call for Input<'_> {
         _alloc: Global,
         parts: &mut Parts,
         _units: &[u64],
-        room: usize,
-        told: &mut Vec<u8>,
+        telling: &mut Telling,
     ) -> Result<Self::Answer, Untold> {
-        parts.accept(&self.terminal, self.number, self.segments, room, told)
+        parts.accept(&self.terminal, self.number, self.segments, telling)
     }
 
     fn lasts(&self, answer: &Self::Answer) -> bool {
@@ -92,10 +92,9 @@ impl Call for Acknowledgement {
         _alloc: Global,
         parts: &mut Parts,
         _units: &[u64],
-        room: usize,
-        told: &mut Vec<u8>,
+        telling: &mut Telling,
     ) -> Result<Self::Answer, Untold> {
-        parts.acknowledge(&self.terminal, self.number, room, told)
+        parts.acknowledge(&self.terminal, self.number, telling)
     }
 
     fn lasts(&self, answer: &Self::Answer) -> bool {
@@ -134,11 +133,10 @@ impl Call for Command {
         alloc: Global,
         parts: &mut Parts,
         _units: &[u64],
-        room: usize,
-        told: &mut Vec<u8>,
+        telling: &mut Telling,
     ) -> Result<Self::Answer, Untold> {
         see_names(self);
-        tm_machine::command(alloc, parts, self, room, told)
+        tm_machine::command(alloc, parts, self, telling)
     }
 
     fn lasts(&self, answer: &Self::Answer) -> bool {
@@ -197,11 +195,10 @@ impl Call for Turn {
         _alloc: Global,
         parts: &mut Parts,
         units: &[u64],
-        room: usize,
-        told: &mut Vec<u8>,
+        telling: &mut Telling,
     ) -> Result<Self::Answer, Untold> {
-        let unit = unit_of(units, self.region);
-        let turned = parts.turn(self.region, unit, room, told)?;
+        telling.unit = unit_of(units, self.region);
+        let turned = parts.turn(self.region, telling)?;
         Ok(Ok(turned))
     }
 

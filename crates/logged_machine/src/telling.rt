@@ -10,6 +10,7 @@ use crate::bytes::see_bytes;
 use crate::call::Call;
 use journal::Journal;
 use log_records::Untold;
+use program_rows::Telling;
 use std::alloc::Global;
 use tm_machine::Parts;
 
@@ -37,9 +38,14 @@ pub fn tell<C: Call>(
     let _before = parts.stores();
     let mut told = Vec::new(alloc);
     journal.exchange(&mut told);
-    let answer = call.tell(alloc, parts, units, room, &mut told);
-    see_bytes(told.as_slice());
-    journal.exchange(&mut told);
+    let mut telling = Telling {
+        unit: 0,
+        room,
+        told,
+    };
+    let answer = call.tell(alloc, parts, units, &mut telling);
+    see_bytes(telling.told.as_slice());
+    journal.exchange(&mut telling.told);
     let _behind = parts.stores();
     answer
 }

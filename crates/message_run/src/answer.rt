@@ -28,7 +28,7 @@ use log_records::Untold;
 use model_data::DbCall;
 use model_messages::abends::{ROLLED_BACK, WRONG_PAD};
 use model_system::{CallText, Pcb, Pcbs};
-use program_rows::{Answered, DataAnswer, Databases, Position};
+use program_rows::{Answered, DataAnswer, Databases, Position, Telling};
 use script_run::Machine;
 use system_types::System;
 use tm_types::{AbendCode, Dbd, Function, Memory, Resource, Segment, Status};
@@ -54,9 +54,7 @@ impl Progress {
         region: u32,
         databases: &mut Databases,
         call: CallText,
-        unit: u64,
-        room: usize,
-        told: &mut Vec<u8>,
+        telling: &mut Telling,
     ) -> Result<CallEnd, Untold>
         requires waits { IsSome self.old.machine.waiting }
         requires text { IsSegmentText call.area }
@@ -70,23 +68,24 @@ impl Progress {
         ensures others { StayOthers region databases.old databases.new }
         ensures err { OnErr result (self.new ≡ self.old) }
         ensures kept { OnErr result (databases.new ≡ databases.old) }
-        ensures tells { OnOk result (TellsNext unit room region databases.old databases.new told.old.items told.new.items (reach_told unit region databases.old (pcb_reached system.now.databases pcbs.now call.pcb) (data_of region databases.old self.old.positions) call)) }
-        ensures quiet { IfOk result (IsQuietUnlessAnswered told.old.items told.new.items) }
-        ensures untold { OnErr result (told.new.items ≡ told.old.items) }
-        ensures full { IfErr result (AreRecordsUntold (reach_told unit region databases.old (pcb_reached system.now.databases pcbs.now call.pcb) (data_of region databases.old self.old.positions) call) room) }
+        ensures tells { OnOk result (TellsNext telling.old.unit telling.old.room region databases.old databases.new telling.old.told.items telling.new.told.items (reach_told telling.old.unit region databases.old (pcb_reached system.now.databases pcbs.now call.pcb) (data_of region databases.old self.old.positions) call)) }
+        ensures quiet { IfOk result (IsQuietUnlessAnswered telling.old.told.items telling.new.told.items) }
+        ensures untold { OnErr result (telling.new.told.items ≡ telling.old.told.items) }
+        ensures place { telling.new ≡ record telling.old { told = telling.new.told } }
+        ensures full { IfErr result (AreRecordsUntold (reach_told telling.old.unit region databases.old (pcb_reached system.now.databases pcbs.now call.pcb) (data_of region databases.old self.old.positions) call) telling.old.room) }
     {
         if call.pcb == 0 {
-            return self.answer_message(system, pcbs, region, databases, &call, unit, room, told);
+            return self.answer_message(system, pcbs, region, databases, &call, telling);
         }
         match pcbs.numbered(call.pcb) {
             Some(Pcb::Database(number, options)) => self.answer_database(
-                system, pcbs, region, databases, *number, *options, call, unit, room, told,
+                system, pcbs, region, databases, *number, *options, call, telling,
             ),
             Some(Pcb::Destination(_)) => self.answer_message(
-                system, pcbs, region, databases, &call, unit, room, told,
+                system, pcbs, region, databases, &call, telling,
             ),
             Some(Pcb::Modifiable) => self.answer_message(
-                system, pcbs, region, databases, &call, unit, room, told,
+                system, pcbs, region, databases, &call, telling,
             ),
             None => unreachable!(),
         }
@@ -101,9 +100,7 @@ impl Progress {
         region: u32,
         databases: &mut Databases,
         call: &CallText,
-        unit: u64,
-        room: usize,
-        told: &mut Vec<u8>,
+        telling: &mut Telling,
     ) -> Result<CallEnd, Untold>
         requires waits { IsSome self.old.machine.waiting }
         requires text { IsSegmentText call.now.area }
@@ -116,10 +113,11 @@ impl Progress {
         ensures others { StayOthers region databases.old databases.new }
         ensures err { OnErr result (self.new ≡ self.old) }
         ensures kept { OnErr result (databases.new ≡ databases.old) }
-        ensures tells { OnOk result (TellsNext unit room region databases.old databases.new told.old.items told.new.items (reach_told unit region databases.old (Messages) (data_of region databases.old self.old.positions) call.now)) }
-        ensures quiet { IfOk result (IsQuietUnlessAnswered told.old.items told.new.items) }
-        ensures untold { OnErr result (told.new.items ≡ told.old.items) }
-        ensures full { IfErr result (AreRecordsUntold (reach_told unit region databases.old (Messages) (data_of region databases.old self.old.positions) call.now) room) }
+        ensures tells { OnOk result (TellsNext telling.old.unit telling.old.room region databases.old databases.new telling.old.told.items telling.new.told.items (reach_told telling.old.unit region databases.old (Messages) (data_of region databases.old self.old.positions) call.now)) }
+        ensures quiet { IfOk result (IsQuietUnlessAnswered telling.old.told.items telling.new.told.items) }
+        ensures untold { OnErr result (telling.new.told.items ≡ telling.old.told.items) }
+        ensures place { telling.new ≡ record telling.old { told = telling.new.told } }
+        ensures full { IfErr result (AreRecordsUntold (reach_told telling.old.unit region databases.old (Messages) (data_of region databases.old self.old.positions) call.now) telling.old.room) }
     {
         let (pcb, area) = (call.pcb, call.area.as_slice());
         match call.function {
@@ -135,7 +133,7 @@ impl Progress {
             Function::CHNG => Ok(answered(self.change(system, pcb, area)?, region, databases)),
             Function::ROLB => {
                 let _databases = system.databases();
-                self.answer_rolb(region, databases, unit, room, told)
+                self.answer_rolb(region, databases, telling)
             }
             Function::ROLL => Ok(CallEnd::Abended(AbendCode {
                 number: ROLLED_BACK,
@@ -149,29 +147,28 @@ impl Progress {
         &mut self,
         region: u32,
         databases: &mut Databases,
-        unit: u64,
-        room: usize,
-        told: &mut Vec<u8>,
+        telling: &mut Telling,
     ) -> Result<CallEnd, Untold>
         requires waits { IsSome self.old.machine.waiting }
         requires region { IsRegionOf databases.old region }
         requires sectors { AllByRecursion (λ s. s.dbd.sectors ≤ 1) databases.old.stores }
         ensures ok { IfOk result (IsRolled region databases.old databases.new self.old self.new) }
-        ensures tells { OnOk result (TellsNext unit room region databases.old databases.new told.old.items told.new.items (back_told unit region databases.old)) }
+        ensures tells { OnOk result (TellsNext telling.old.unit telling.old.room region databases.old databases.new telling.old.told.items telling.new.told.items (back_told telling.old.unit region databases.old)) }
         ensures dbds { dbds_of databases.new ≡ dbds_of databases.old }
         ensures committed { databases.new.committed ≡ databases.old.committed }
         ensures err { OnErr result (self.new ≡ self.old) }
         ensures kept { OnErr result (databases.new ≡ databases.old) }
-        ensures quiet { IfOk result (IsQuietUnlessAnswered told.old.items told.new.items) }
-        ensures untold { OnErr result (told.new.items ≡ told.old.items) }
-        ensures full { IfErr result (AreRecordsUntold (back_told unit region databases.old) room) }
+        ensures quiet { IfOk result (IsQuietUnlessAnswered telling.old.told.items telling.new.told.items) }
+        ensures untold { OnErr result (telling.new.told.items ≡ telling.old.told.items) }
+        ensures place { telling.new ≡ record telling.old { told = telling.new.told } }
+        ensures full { IfErr result (AreRecordsUntold (back_told telling.old.unit region databases.old) telling.old.room) }
     {
-        let length = told.len();
-        match databases.tell_back(region, unit, room, told) {
+        let length = telling.told.len();
+        match databases.tell_back(region, telling) {
             Ok(()) => match self.roll_back() {
                 Ok(status) => Ok(rolled_back(status, region, databases)),
                 Err(_) => {
-                    told.truncate(length);
+                    telling.told.truncate(length);
                     Err(Untold::Memory)
                 }
             },
@@ -259,9 +256,7 @@ impl Progress {
         number: u8,
         options: u8,
         call: CallText,
-        unit: u64,
-        room: usize,
-        told: &mut Vec<u8>,
+        telling: &mut Telling,
     ) -> Result<CallEnd, Untold>
         requires waits { IsSome self.old.machine.waiting }
         requires text { IsSegmentText call.area }
@@ -277,10 +272,11 @@ impl Progress {
         ensures others { StayOthers region databases.old databases.new }
         ensures err { OnErr result (self.new ≡ self.old) }
         ensures kept { OnErr result (databases.new ≡ databases.old) }
-        ensures tells { OnOk result (TellsNext unit room region databases.old databases.new told.old.items told.new.items (reach_told unit region databases.old (reached_by system.now.databases (Some (Database number options))) (data_of region databases.old self.old.positions) call)) }
-        ensures quiet { IfOk result (IsQuietUnlessAnswered told.old.items told.new.items) }
-        ensures untold { OnErr result (told.new.items ≡ told.old.items) }
-        ensures full { IfErr result (AreRecordsUntold (reach_told unit region databases.old (reached_by system.now.databases (Some (Database number options))) (data_of region databases.old self.old.positions) call) room) }
+        ensures tells { OnOk result (TellsNext telling.old.unit telling.old.room region databases.old databases.new telling.old.told.items telling.new.told.items (reach_told telling.old.unit region databases.old (reached_by system.now.databases (Some (Database number options))) (data_of region databases.old self.old.positions) call)) }
+        ensures quiet { IfOk result (IsQuietUnlessAnswered telling.old.told.items telling.new.told.items) }
+        ensures untold { OnErr result (telling.new.told.items ≡ telling.old.told.items) }
+        ensures place { telling.new ≡ record telling.old { told = telling.new.told } }
+        ensures full { IfErr result (AreRecordsUntold (reach_told telling.old.unit region databases.old (reached_by system.now.databases (Some (Database number options))) (data_of region databases.old self.old.positions) call) telling.old.room) }
     {
         let dbd = database_numbered(system, number);
         let CallText {
@@ -296,7 +292,7 @@ impl Progress {
             ssas,
         };
         let at = position_of(&self.positions, pcb);
-        match databases.call(region, dbd, number, at, &call, unit, room, told) {
+        match databases.call(region, dbd, number, at, &call, telling) {
             Ok(DataAnswer::Abend(abend)) => Ok(CallEnd::Abended(abend)),
             Ok(DataAnswer::Blocked(blocked)) => Ok(CallEnd::Waits(blocked.resource, blocked.by)),
             Ok(DataAnswer::Answered(answered)) => Ok(self.tell_answer(pcb, answered)),

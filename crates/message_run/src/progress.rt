@@ -19,7 +19,7 @@ use io_pcb::{LentPad, Work};
 use log_records::Untold;
 use model_messages::EndedMessage;
 use model_system::{CallText, Need};
-use program_rows::{Databases, Position};
+use program_rows::{Databases, Position, Telling};
 use script_run::Machine;
 use std::alloc::Global;
 use std::collections::VecDeque;
@@ -84,9 +84,7 @@ impl Progress {
         job: &Job<'_>,
         region: u32,
         databases: &mut Databases,
-        unit: u64,
-        room: usize,
-        told: &mut Vec<u8>,
+        telling: &mut Telling,
     ) -> Result<Advanced, Untold>
         requires region { IsRegionOf databases.old region }
         requires servable { IsServable system.now.databases job.now.pcbs.now job.now.program.now }
@@ -99,10 +97,11 @@ impl Progress {
         ensures rests { IsBetweenTurns self.new }
         ensures unchanged { OnErr result (self.new ≡ self.old) }
         ensures kept { OnErr result (databases.new ≡ databases.old) }
-        ensures tells { OnOk result (TellsOn unit room (lent_job system.now job.now) region databases.old databases.new self.old told.old.items told.new.items) }
-        ensures quiet { IfOk result (IsQuietUnlessCalled told.old.items told.new.items) }
-        ensures untold { OnErr result (told.new.items ≡ told.old.items) }
-        ensures full { IfErr result (IsUntoldOn unit room (lent_job system.now job.now) region databases.old self.old) }
+        ensures tells { OnOk result (TellsOn telling.old.unit telling.old.room (lent_job system.now job.now) region databases.old databases.new self.old telling.old.told.items telling.new.told.items) }
+        ensures quiet { IfOk result (IsQuietUnlessCalled telling.old.told.items telling.new.told.items) }
+        ensures untold { OnErr result (telling.new.told.items ≡ telling.old.told.items) }
+        ensures place { telling.new ≡ record telling.old { told = telling.new.told } }
+        ensures full { IfErr result (IsUntoldOn telling.old.unit telling.old.room (lent_job system.now job.now) region databases.old self.old) }
     {
         let _executed = self.machine.executed();
         let need = match self.machine.next(job.program) {
@@ -118,7 +117,7 @@ impl Progress {
                     return Ok(Advanced::Ended(Ending::Sync));
                 }
                 let (function, pcb) = (call.function, call.pcb);
-                match self.answer(system, job.pcbs, region, databases, call, unit, room, told) {
+                match self.answer(system, job.pcbs, region, databases, call, telling) {
                     Ok(CallEnd::Answered(status)) => {
                         self.calls += 1;
                         Ok(Advanced::Called(function, pcb, status))

@@ -15,7 +15,7 @@ use crate::progress::Progress;
 use io_pcb::LentPad;
 use log_records::Untold;
 use model_messages::EndedMessage;
-use program_rows::Databases;
+use program_rows::{Databases, Telling};
 use std::alloc::Global;
 use std::collections::VecDeque;
 use std::marker::Model;
@@ -91,9 +91,7 @@ impl Run {
         job: &Job<'_>,
         region: u32,
         databases: &mut Databases,
-        unit: u64,
-        room: usize,
-        told: &mut Vec<u8>,
+        telling: &mut Telling,
     ) -> Result<Advanced, Untold>
         requires region { IsRegionOf databases.old region }
         requires servable { IsServable system.now.databases job.now.pcbs.now job.now.program.now }
@@ -104,13 +102,14 @@ impl Run {
         ensures others { StayOthers region databases.old databases.new }
         ensures unchanged { OnErr result (self.new ≡ self.old) }
         ensures kept { OnErr result (databases.new ≡ databases.old) }
-        ensures tells { OnOk result (TellsOn unit room (lent_job system.now job.now) region databases.old databases.new self.old told.old.items told.new.items) }
-        ensures quiet { IfOk result (IsQuietUnlessCalled told.old.items told.new.items) }
-        ensures untold { OnErr result (told.new.items ≡ told.old.items) }
-        ensures full { IfErr result (IsUntoldOn unit room (lent_job system.now job.now) region databases.old self.old) }
+        ensures tells { OnOk result (TellsOn telling.old.unit telling.old.room (lent_job system.now job.now) region databases.old databases.new self.old telling.old.told.items telling.new.told.items) }
+        ensures quiet { IfOk result (IsQuietUnlessCalled telling.old.told.items telling.new.told.items) }
+        ensures untold { OnErr result (telling.new.told.items ≡ telling.old.told.items) }
+        ensures place { telling.new ≡ record telling.old { told = telling.new.told } }
+        ensures full { IfErr result (IsUntoldOn telling.old.unit telling.old.room (lent_job system.now job.now) region databases.old self.old) }
     {
         self.progress
-            .advance(system, job, region, databases, unit, room, told)
+            .advance(system, job, region, databases, telling)
     }
 
     /// A copy of the messages that are sent where the work ends with success, in that order.

@@ -14,6 +14,7 @@ use crate::DataAnswer;
 use crate::asked::{asked_for, read, wait};
 use crate::making::make;
 use crate::opened::Opened;
+use crate::telling::Telling;
 use dli_calls::plan_needed;
 use log_records::Untold;
 use model_data::{DbCall, Position};
@@ -33,9 +34,7 @@ pub fn call(
     at: &Position,
     call: &DbCall,
     opened: &mut Opened,
-    unit: u64,
-    room: usize,
-    told: &mut Vec<u8>,
+    telling: &mut Telling,
 ) -> Result<DataAnswer, Untold>
     requires open { IsOpenedWhole opened.old }
     requires touched { HasTouched opened.old }
@@ -49,13 +48,14 @@ pub fn call(
     requires position { IsPosition dbd.now.types at.now }
     requires call { IsDbCall dbd.now.types call.now }
     ensures done { IfOk result (IsCallDone region number dbd.now call.now at.now opened.old opened.new) }
-    ensures tells { OnOk result (TellsInRoom (call_told unit region number dbd.now call.now at.now (databases_opened opened.old)) room told.old.items told.new.items) }
-    ensures slots { OnOk result (CallsSo unit region (slots_state_of (databases_opened opened.old)) (slots_state_of (databases_opened opened.new)) (call_told unit region number dbd.now call.now at.now (databases_opened opened.old))) }
+    ensures tells { OnOk result (TellsInRoom (call_told telling.old.unit region number dbd.now call.now at.now (databases_opened opened.old)) telling.old.room telling.old.told.items telling.new.told.items) }
+    ensures slots { OnOk result (CallsSo telling.old.unit region (slots_state_of (databases_opened opened.old)) (slots_state_of (databases_opened opened.new)) (call_told telling.old.unit region number dbd.now call.now at.now (databases_opened opened.old))) }
     ensures touched { IfOk result (λ a. unit_slots_of opened.new.units.items ≡ touched_after region number (dli dbd.now call.now at.now (rows_numbered region number (databases_opened opened.old))) (databases_opened opened.old) a) }
     ensures touch { OnOk result (HasTouched opened.new) }
     ensures kept { OnErr result (IsSame opened.old opened.new) }
-    ensures untold { OnErr result (told.new.items ≡ told.old.items) }
-    ensures full { IfErr result (AreRecordsUntold (call_told unit region number dbd.now call.now at.now (databases_opened opened.old)) room) }
+    ensures untold { OnErr result (telling.new.told.items ≡ telling.old.told.items) }
+    ensures place { telling.new ≡ record telling.old { told = telling.new.told } }
+    ensures full { IfErr result (AreRecordsUntold (call_told telling.old.unit region number dbd.now call.now at.now (databases_opened opened.old)) telling.old.room) }
 {
     let needed = plan_needed(alloc, dbd, call, at, opened.stores.store(number))?;
     let asked = asked_for(alloc, region, number, needed.needs.as_slice())?;
@@ -70,5 +70,5 @@ pub fn call(
     {
         return wait(&asked, &mut opened.table);
     }
-    make(alloc, dbd, &asked, planned, opened, unit, room, told)
+    make(alloc, dbd, &asked, planned, opened, telling)
 }

@@ -23,7 +23,7 @@ ghost use Rattle.program_rows.specs.Isolation.{requests_of_call};
 ghost use Rattle.program_rows.specs.CallAnswers.{blocked_of, told_blocked, regions_after, regions_backed, GivesAnswer, IsCommitted, IsGivenUp, LeadsToAbend, StandsInDatabase, StaysUnlessMade, table_left};
 
 use crate::opened::{Opened, clear_units, put_unit, take_unit, unit_of, units_of};
-use crate::telling::tell_slots;
+use crate::telling::{Telling, tell_slots};
 use crate::{DataAnswer, calling};
 use log_records::Untold;
 use model_data::{DbCall, Position};
@@ -160,9 +160,7 @@ impl Databases {
         number: u8,
         at: &Position,
         call: &DbCall,
-        unit: u64,
-        room: usize,
-        told: &mut Vec<u8>,
+        telling: &mut Telling,
     ) -> Result<DataAnswer, Untold>
         requires region { IsRegionOf self.old region }
         requires number { 1 ≤ number }
@@ -181,12 +179,13 @@ impl Databases {
         ensures stays { IfOk result (StaysUnlessMade self.old self.new) }
         ensures committed { self.new.committed ≡ self.old.committed }
         ensures databases { dbds_of self.new ≡ dbds_of self.old }
-        ensures tells { OnOk result (TellsInRoom (call_told unit region number dbd.now call.now at.now self.old) room told.old.items told.new.items) }
-        ensures slots { OnOk result (CallsSo unit region (slots_state_of self.old) (slots_state_of self.new) (call_told unit region number dbd.now call.now at.now self.old)) }
+        ensures tells { OnOk result (TellsInRoom (call_told telling.old.unit region number dbd.now call.now at.now self.old) telling.old.room telling.old.told.items telling.new.told.items) }
+        ensures slots { OnOk result (CallsSo telling.old.unit region (slots_state_of self.old) (slots_state_of self.new) (call_told telling.old.unit region number dbd.now call.now at.now self.old)) }
         ensures touched { IfOk result (λ a. self.new.touched ≡ touched_after region number (dli dbd.now call.now at.now (rows_numbered region number self.old)) self.old a) }
         ensures kept { OnErr result (self.new ≡ self.old) }
-        ensures untold { OnErr result (told.new.items ≡ told.old.items) }
-        ensures full { IfErr result (AreRecordsUntold (call_told unit region number dbd.now call.now at.now self.old) room) }
+        ensures untold { OnErr result (telling.new.told.items ≡ telling.old.told.items) }
+        ensures place { telling.new ≡ record telling.old { told = telling.new.told } }
+        ensures full { IfErr result (AreRecordsUntold (call_told telling.old.unit region number dbd.now call.now at.now self.old) telling.old.room) }
     {
         calling::call(
             self.alloc,
@@ -196,9 +195,7 @@ impl Databases {
             at,
             call,
             &mut self.opened,
-            unit,
-            room,
-            told,
+            telling,
         )
     }
 
@@ -214,25 +211,18 @@ impl Databases {
     /// Tells by the unit's number in the log what `back_out` makes of each slot that the region has touched: what stands there,
     /// and what stood there first, also where both are equal. Where that is longer than `room`, the answer is `Full`. An Err
     /// leaves what was told before.
-    pub fn tell_back(
-        &self,
-        region: u32,
-        unit: u64,
-        room: usize,
-        told: &mut Vec<u8>,
-    ) -> Result<(), Untold>
+    pub fn tell_back(&self, region: u32, telling: &mut Telling) -> Result<(), Untold>
         requires region { IsRegionOf self.now region }
         requires sectors { AllByRecursion (λ s. s.dbd.sectors ≤ 1) self.now.stores }
-        ensures tells { OnOk result (TellsInRoom (back_told unit region self.now) room told.old.items told.new.items) }
-        ensures untold { OnErr result (told.new.items ≡ told.old.items) }
-        ensures full { IfErr result (AreRecordsUntold (back_told unit region self.now) room) }
+        ensures tells { OnOk result (TellsInRoom (back_told telling.old.unit region self.now) telling.old.room telling.old.told.items telling.new.told.items) }
+        ensures untold { OnErr result (telling.new.told.items ≡ telling.old.told.items) }
+        ensures place { telling.new ≡ record telling.old { told = telling.new.told } }
+        ensures full { IfErr result (AreRecordsUntold (back_told telling.old.unit region self.now) telling.old.room) }
     {
         tell_slots(
-            unit,
             unit_of(&self.opened.units, region).touched(),
             &self.opened.stores,
-            room,
-            told,
+            telling,
         )
     }
 

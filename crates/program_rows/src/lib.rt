@@ -22,6 +22,7 @@
 pub use answer::{Answered, Blocked, DataAnswer};
 pub use databases::Databases;
 pub use model_data::{DbCall, Position};
+pub use telling::Telling;
 
 mod answer;
 mod asked;

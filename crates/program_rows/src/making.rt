@@ -15,7 +15,7 @@ ghost use Rattle.program_rows.specs.PlannedChanges.{IsPut, IsSame, IsSet, EditMa
 
 use crate::asked::{Asked, ask};
 use crate::opened::{Opened, put_unit, take_unit, unit_of};
-use crate::telling::{image_in, tell};
+use crate::telling::{Telling, image_in, tell};
 use crate::{Answered, DataAnswer};
 use dli_calls::{Edit, Planned};
 use log_records::Untold;
@@ -34,9 +34,7 @@ pub fn make(
     asked: &Asked,
     planned: Planned,
     opened: &mut Opened,
-    unit: u64,
-    room: usize,
-    told: &mut Vec<u8>,
+    telling: &mut Telling,
 ) -> Result<DataAnswer, Untold>
     requires least { 1 ≤ asked.now.region }
     requires most { asked.now.region ≤ length opened.old.units.items }
@@ -49,10 +47,11 @@ pub fn make(
     requires there { IsThere (database_rows_in asked.now.number (rows_of_stores opened.old.stores.stores)) planned.edit }
     requires sectors { dbd.now.sectors ≤ 1 }
     ensures made { IfOk result (Makes asked.now dbd.now planned opened.old opened.new) }
-    ensures tells { IfOk result (λ a. TellsInRoom (made_told unit asked.now.number planned.edit opened.old.stores.stores a) room told.old.items told.new.items) }
+    ensures tells { IfOk result (λ a. TellsInRoom (made_told telling.old.unit asked.now.number planned.edit opened.old.stores.stores a) telling.old.room telling.old.told.items telling.new.told.items) }
     ensures kept { OnErr result (IsSame opened.old opened.new) }
-    ensures untold { OnErr result (told.new.items ≡ told.old.items) }
-    ensures full { IfErr result (IsUntoldEdit asked.now dbd.now planned.edit opened.old unit room) }
+    ensures untold { OnErr result (telling.new.told.items ≡ telling.old.told.items) }
+    ensures place { telling.new ≡ record telling.old { told = telling.new.told } }
+    ensures full { IfErr result (IsUntoldEdit asked.now dbd.now planned.edit opened.old telling.old.unit telling.old.room) }
 {
     let answered = Answered {
         status: planned.status,
@@ -65,7 +64,7 @@ pub fn make(
             Err(_) => Err(Untold::Memory),
         };
     };
-    match change(alloc, dbd, asked, edit, opened, unit, room, told) {
+    match change(alloc, dbd, asked, edit, opened, telling) {
         Ok(None) => Ok(DataAnswer::Answered(answered)),
         Ok(Some(code)) => Ok(DataAnswer::Abend(code)),
         Err(error) => Err(error),
@@ -80,9 +79,7 @@ fn change(
     asked: &Asked,
     edit: Edit,
     opened: &mut Opened,
-    unit: u64,
-    room: usize,
-    told: &mut Vec<u8>,
+    telling: &mut Telling,
 ) -> Result<Option<AbendCode>, Untold>
     requires least { 1 ≤ asked.now.region }
     requires most { asked.now.region ≤ length opened.old.units.items }
@@ -96,10 +93,11 @@ fn change(
     requires sectors { dbd.now.sectors ≤ 1 }
     ensures abend { IfOk result (λ o. o ≡ edit_abend asked.now dbd.now edit opened.old) }
     ensures made { IfOk result (EditMade asked.now edit opened.old opened.new) }
-    ensures tells { IfOk result (λ o. TellsInRoom (told_unless o (edit_told unit asked.now.number (Some edit) opened.old.stores.stores)) room told.old.items told.new.items) }
+    ensures tells { IfOk result (λ o. TellsInRoom (told_unless o (edit_told telling.old.unit asked.now.number (Some edit) opened.old.stores.stores)) telling.old.room telling.old.told.items telling.new.told.items) }
     ensures kept { OnErr result (IsSame opened.old opened.new) }
-    ensures untold { OnErr result (told.new.items ≡ told.old.items) }
-    ensures full { IfErr result (IsUntoldEdit asked.now dbd.now (Some edit) opened.old unit room) }
+    ensures untold { OnErr result (telling.new.told.items ≡ telling.old.told.items) }
+    ensures place { telling.new ≡ record telling.old { told = telling.new.told } }
+    ensures full { IfErr result (IsUntoldEdit asked.now dbd.now (Some edit) opened.old telling.old.unit telling.old.room) }
 {
     if unit_of(&opened.units, asked.region).is_full(asked.number, &edit.root) {
         return Ok(Some(AbendCode {
@@ -107,7 +105,7 @@ fn change(
         }));
     }
     match slot_to_take(dbd, &edit, opened.stores.store(asked.number)) {
-        Ok(slot) => match tell_and_set(alloc, asked, dbd, slot, edit, opened, unit, room, told) {
+        Ok(slot) => match tell_and_set(alloc, asked, dbd, slot, edit, opened, telling) {
             Ok(()) => Ok(None),
             Err(error) => Err(error),
         },
@@ -144,9 +142,7 @@ fn tell_and_set(
     slot: u16,
     edit: Edit,
     opened: &mut Opened,
-    unit: u64,
-    room: usize,
-    told: &mut Vec<u8>,
+    telling: &mut Telling,
 ) -> Result<(), Untold>
     requires least { 1 ≤ asked.now.region }
     requires most { asked.now.region ≤ length opened.old.units.items }
@@ -159,19 +155,20 @@ fn tell_and_set(
     requires room { is_full asked.now.number edit.root (changed_in asked.now.region opened.old) ≡ false }
     requires sectors { dbd.now.sectors ≤ 1 }
     ensures set { OnOk result (IsSet asked.now edit opened.old opened.new) }
-    ensures tells { OnOk result (TellsInRoom (edit_told unit asked.now.number (Some edit) opened.old.stores.stores) room told.old.items told.new.items) }
+    ensures tells { OnOk result (TellsInRoom (edit_told telling.old.unit asked.now.number (Some edit) opened.old.stores.stores) telling.old.room telling.old.told.items telling.new.told.items) }
     ensures kept { OnErr result (IsSame opened.old opened.new) }
-    ensures untold { OnErr result (told.new.items ≡ told.old.items) }
-    ensures full { IfErr result (AreRecordsUntold (edit_told unit asked.now.number (Some edit) opened.old.stores.stores) room) }
+    ensures untold { OnErr result (telling.new.told.items ≡ telling.old.told.items) }
+    ensures place { telling.new ≡ record telling.old { told = telling.new.told } }
+    ensures full { IfErr result (AreRecordsUntold (edit_told telling.old.unit asked.now.number (Some edit) opened.old.stores.stores) telling.old.room) }
 {
-    let length = told.len();
+    let length = telling.told.len();
     let store = opened.stores.store(asked.number);
     let before = image_in(store, slot);
-    match tell(unit, asked.number, slot, before, &edit.image, room, told) {
+    match tell(asked.number, slot, before, &edit.image, telling) {
         Ok(()) => match set(alloc, asked, slot, edit, opened) {
             Ok(()) => Ok(()),
             Err(_) => {
-                told.truncate(length);
+                telling.told.truncate(length);
                 Err(Untold::Memory)
             }
         },

@@ -13,51 +13,54 @@ use seg_store::{Store, Stores};
 use tm_types::Memory;
 use unit_work::Change;
 
+/// Records that are told behind others: the number of the region's unit in them, how many bytes those of a call may come to,
+/// and what was told.
+#[derive(Debug, Drop)]
+pub struct Telling {
+    pub unit: u64,
+    pub room: usize,
+    pub told: Vec<u8>,
+}
+
 /// Tells of a slot's change, where there is room for that. An Err leaves what was told before.
 #[tactic(auto, using(log_records::proofs::Told::one_told))]
 pub fn tell(
-    unit: u64,
     number: u8,
     slot: u16,
     before: &RecordImage,
     after: &RecordImage,
-    room: usize,
-    told: &mut Vec<u8>,
+    telling: &mut Telling,
 ) -> Result<(), Untold>
     requires before { length (rows_spelling before.now) ≤ 4000 }
     requires after { length (rows_spelling after.now) ≤ 4000 }
-    ensures tells { OnOk result (TellsInRoom (ChangeRecord unit number slot (rows_spelling before.now) (rows_spelling after.now) ∷ []) room told.old.items told.new.items) }
-    ensures untold { OnErr result (told.new.items ≡ told.old.items) }
-    ensures full { IfErr result (AreRecordsUntold (ChangeRecord unit number slot (rows_spelling before.now) (rows_spelling after.now) ∷ []) room) }
+    ensures tells { OnOk result (TellsInRoom (ChangeRecord telling.old.unit number slot (rows_spelling before.now) (rows_spelling after.now) ∷ []) telling.old.room telling.old.told.items telling.new.told.items) }
+    ensures untold { OnErr result (telling.new.told.items ≡ telling.old.told.items) }
+    ensures place { telling.new ≡ record telling.old { told = telling.new.told } }
+    ensures full { IfErr result (AreRecordsUntold (ChangeRecord telling.old.unit number slot (rows_spelling before.now) (rows_spelling after.now) ∷ []) telling.old.room) }
 {
-    let start = told.len();
+    let start = telling.told.len();
     let written = append_change(
-        told,
-        unit,
+        &mut telling.told,
+        telling.unit,
         number,
         slot,
         before.as_slice(),
         after.as_slice(),
     );
-    end_telling(told, start, room, written)
+    end_telling(&mut telling.told, start, telling.room, written)
 }
 
 /// Tells of what backing out makes of these touched slots, where there is room for that. An Err leaves what was told before.
-pub fn tell_slots(
-    unit: u64,
-    slots: &[Change],
-    stores: &Stores,
-    room: usize,
-    told: &mut Vec<u8>,
-) -> Result<(), Untold>
+pub fn tell_slots(slots: &[Change], stores: &Stores, telling: &mut Telling) -> Result<(), Untold>
     requires { AllByRecursion (IsToldable stores.now.stores) slots.now }
-    ensures tells { OnOk result (TellsInRoom (map (back_out_told unit stores.now.stores) slots.now) room told.old.items told.new.items) }
-    ensures untold { OnErr result (told.new.items ≡ told.old.items) }
-    ensures full { IfErr result (AreRecordsUntold (map (back_out_told unit stores.now.stores) slots.now) room) }
+    ensures tells { OnOk result (TellsInRoom (map (back_out_told telling.old.unit stores.now.stores) slots.now) telling.old.room telling.old.told.items telling.new.told.items) }
+    ensures untold { OnErr result (telling.new.told.items ≡ telling.old.told.items) }
+    ensures place { telling.new ≡ record telling.old { told = telling.new.told } }
+    ensures full { IfErr result (AreRecordsUntold (map (back_out_told telling.old.unit stores.now.stores) slots.now) telling.old.room) }
 {
-    let start = told.len();
-    let written = append_slots(told, unit, slots, stores);
-    end_telling(told, start, room, written)
+    let start = telling.told.len();
+    let written = append_slots(&mut telling.told, telling.unit, slots, stores);
+    end_telling(&mut telling.told, start, telling.room, written)
 }
 
 // After `Memory` a part of them may be appended.

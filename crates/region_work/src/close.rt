@@ -15,6 +15,7 @@ ghost use Rattle.region_work.specs.WorkEnds.{destinations};
 use crate::region::Busy;
 use lasting_state::{Tables, Untold};
 use model_messages::{EndedMessage, PadChange};
+use program_rows::Telling;
 use std::alloc::Global;
 use std::collections::VecDeque;
 use tm_types::{AbendCode, Memory, Name};
@@ -44,9 +45,7 @@ pub fn complete(
     id: u64,
     outputs: VecDeque<EndedMessage>,
     pad: PadChange,
-    unit: u64,
-    room: usize,
-    told: &mut Vec<u8>,
+    telling: &mut Telling,
 ) -> Result<(), Untold>
     requires positive { 1 ≤ region }
     requires defined { region ≤ length regions.old.items }
@@ -55,9 +54,10 @@ pub fn complete(
     requires counts { HaveCounts outputs.items }
     requires pad { HasShortPad pad }
     ensures regions { OnOk result (regions.new.items ≡ slice_set regions.old.items (region - 1) None) }
-    ensures told { OnOk result (TellsStep unit room (Completes id (region_at region tables.old.databases).rows outputs.items pad) tables.old told.old.items told.new.items) }
-    ensures untold { OnErr result (told.new.items ≡ told.old.items) }
-    ensures full { IfErr result (WhereFull (AreRecordsLonger unit room (Completes id (region_at region tables.old.databases).rows outputs.items pad) tables.old)) }
+    ensures told { OnOk result (TellsStep telling.old.unit telling.old.room (Completes id (region_at region tables.old.databases).rows outputs.items pad) tables.old telling.old.told.items telling.new.told.items) }
+    ensures untold { OnErr result (telling.new.told.items ≡ telling.old.told.items) }
+    ensures place { telling.new ≡ record telling.old { told = telling.new.told } }
+    ensures full { IfErr result (WhereFull (AreRecordsLonger telling.old.unit telling.old.room (Completes id (region_at region tables.old.databases).rows outputs.items pad) tables.old)) }
     ensures step { OnOk result (Applies (Completes id (region_at region tables.old.databases).rows outputs.items pad) tables.old tables.new) }
     ensures closed { OnOk result (IsMessageClosed tables.new.databases (λ _. pad) (λ _. outputs.items) tables.old tables.new id) }
     ensures databases { OnOk result (IsCommitted region tables.old.databases tables.new.databases) }
@@ -67,7 +67,7 @@ pub fn complete(
     ensures err { OnErr result (tables.new ≡ tables.old) }
     ensures above { OnOk result (IsNewId tables.old.next_id tables.old.queues.queued) }
 {
-    tables.complete(region, id, outputs, pad, unit, room, told)?;
+    tables.complete(region, id, outputs, pad, telling)?;
     empty(&mut regions[region as usize - 1]);
     Ok(())
 }
@@ -81,9 +81,7 @@ pub fn discard(
     tables: &mut Tables,
     id: u64,
     abend: AbendCode,
-    unit: u64,
-    room: usize,
-    told: &mut Vec<u8>,
+    telling: &mut Telling,
 ) -> Result<(), Untold>
     requires positive { 1 ≤ region }
     requires defined { region ≤ length regions.old.items }
@@ -91,9 +89,10 @@ pub fn discard(
     requires found { IsSome (queued_at id tables.old.queues.queued) }
     requires abend { IsAbend abend.number }
     ensures regions { OnOk result (regions.new.items ≡ slice_set regions.old.items (region - 1) None) }
-    ensures told { OnOk result (TellsStep unit room (Discards id abend) tables.old told.old.items told.new.items) }
-    ensures untold { OnErr result (told.new.items ≡ told.old.items) }
-    ensures full { IfErr result (WhereFull (AreRecordsLonger unit room (Discards id abend) tables.old)) }
+    ensures told { OnOk result (TellsStep telling.old.unit telling.old.room (Discards id abend) tables.old telling.old.told.items telling.new.told.items) }
+    ensures untold { OnErr result (telling.new.told.items ≡ telling.old.told.items) }
+    ensures place { telling.new ≡ record telling.old { told = telling.new.told } }
+    ensures full { IfErr result (WhereFull (AreRecordsLonger telling.old.unit telling.old.room (Discards id abend) tables.old)) }
     ensures step { OnOk result (Applies (Discards id abend) tables.old tables.new) }
     ensures closed { OnOk result (IsMessageClosed tables.new.databases discarded_pad (λ message. abend_outputs message abend) tables.old tables.new id) }
     ensures databases { OnOk result (IsGivenUp region tables.old.databases tables.new.databases) }
@@ -102,7 +101,7 @@ pub fn discard(
     ensures err { OnErr result (tables.new ≡ tables.old) }
     ensures above { OnOk result (IsNewId tables.old.next_id tables.old.queues.queued) }
 {
-    tables.discard(alloc, region, id, abend, unit, room, told)?;
+    tables.discard(alloc, region, id, abend, telling)?;
     empty(&mut regions[region as usize - 1]);
     Ok(())
 }

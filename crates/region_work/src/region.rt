@@ -19,7 +19,7 @@ use io_pcb::LentPad;
 use lasting_state::{Tables, Untold};
 use message_run::{Advanced, Run};
 use model_messages::{EndedMessage, PadChange};
-use program_rows::Databases;
+use program_rows::{Databases, Telling};
 use std::alloc::Global;
 use std::collections::VecDeque;
 use system_types::{Job, System};
@@ -104,9 +104,7 @@ fn advance_unit(
     code: &Name,
     databases: &mut Databases,
     run: &mut Run,
-    unit: u64,
-    room: usize,
-    told: &mut Vec<u8>,
+    telling: &mut Telling,
 ) -> Result<Advanced, Untold>
     requires region { IsRegionOf databases.old region }
     requires databases { dbds_of databases.old ≡ system.now.databases }
@@ -116,13 +114,14 @@ fn advance_unit(
     ensures unchanged { OnErr result (run.new ≡ run.old) }
     ensures kept { OnErr result (databases.new ≡ databases.old) }
     ensures others { StayOthers region databases.old databases.new }
-    ensures tells { OnOk result (TellsSo system.now region code.now databases.old databases.new run.old unit room told.old.items told.new.items) }
-    ensures quiet { IfOk result (IsQuietUnlessCalled told.old.items told.new.items) }
-    ensures untold { OnErr result (told.new.items ≡ told.old.items) }
-    ensures full { IfErr result (WhereFull (IsLongerSo system.now region code.now databases.old run.old unit room)) }
+    ensures tells { OnOk result (TellsSo system.now region code.now databases.old databases.new run.old telling.old.unit telling.old.room telling.old.told.items telling.new.told.items) }
+    ensures quiet { IfOk result (IsQuietUnlessCalled telling.old.told.items telling.new.told.items) }
+    ensures untold { OnErr result (telling.new.told.items ≡ telling.old.told.items) }
+    ensures place { telling.new ≡ record telling.old { told = telling.new.told } }
+    ensures full { IfErr result (WhereFull (IsLongerSo system.now region code.now databases.old run.old telling.old.unit telling.old.room)) }
 {
     let job = job_of(system, code);
-    match run.advance(system, &job, region, databases, unit, room, told) {
+    match run.advance(system, &job, region, databases, telling) {
         Ok(advanced) => Ok(advanced),
         Err(untold) => Err(untold),
     }
@@ -135,9 +134,7 @@ fn advance_busy(
     region: u32,
     tables: &mut Tables,
     busy: &mut Busy,
-    unit: u64,
-    room: usize,
-    told: &mut Vec<u8>,
+    telling: &mut Telling,
 ) -> Result<Advanced, Untold>
     requires region { IsRegionOf tables.old.databases region }
     requires work { IsQueuedWork system.now tables.old region busy.old }
@@ -149,10 +146,11 @@ fn advance_busy(
     ensures others { StayOthers region tables.old.databases tables.new.databases }
     ensures err { OnErr result (SameWork system.now region tables.old (Some busy.old) (Some busy.new)) }
     ensures kept { OnErr result (tables.new ≡ tables.old) }
-    ensures tells { OnOk result (NextTells system.now region unit tables.old (TellsNext unit room region tables.old.databases tables.new.databases told.old.items told.new.items) (Some busy.old)) }
-    ensures quiet { IfOk result (IsQuietUnlessCalled told.old.items told.new.items) }
-    ensures untold { OnErr result (told.new.items ≡ told.old.items) }
-    ensures full { IfErr result (WhereFull (NextTells system.now region unit tables.old (λ records. room < length (spelled_records records)) (Some busy.old))) }
+    ensures tells { OnOk result (NextTells system.now region telling.old.unit tables.old (TellsNext telling.old.unit telling.old.room region tables.old.databases tables.new.databases telling.old.told.items telling.new.told.items) (Some busy.old)) }
+    ensures quiet { IfOk result (IsQuietUnlessCalled telling.old.told.items telling.new.told.items) }
+    ensures untold { OnErr result (telling.new.told.items ≡ telling.old.told.items) }
+    ensures place { telling.new ≡ record telling.old { told = telling.new.told } }
+    ensures full { IfErr result (WhereFull (NextTells system.now region telling.old.unit tables.old (λ records. telling.old.room < length (spelled_records records)) (Some busy.old))) }
 {
     start(alloc, system, tables, busy)?;
     match &mut busy.unit {
@@ -162,9 +160,7 @@ fn advance_busy(
             &busy.code,
             tables.databases_mut(),
             run,
-            unit,
-            room,
-            told,
+            telling,
         ),
         None => unreachable!(),
     }
@@ -179,9 +175,7 @@ pub fn advance(
     region: u32,
     tables: &mut Tables,
     work: &mut Option<Busy>,
-    unit: u64,
-    room: usize,
-    told: &mut Vec<u8>,
+    telling: &mut Telling,
 ) -> Result<Option<Advanced>, Untold>
     requires region { IsRegionOf tables.old.databases region }
     requires work { IfSome work.old (IsQueuedWork system.now tables.old region) }
@@ -193,15 +187,16 @@ pub fn advance(
     ensures others { StayOthers region tables.old.databases tables.new.databases }
     ensures err { OnErr result (SameWork system.now region tables.old work.old work.new) }
     ensures kept { OnErr result (tables.new ≡ tables.old) }
-    ensures tells { OnOk result (NextTells system.now region unit tables.old (TellsNext unit room region tables.old.databases tables.new.databases told.old.items told.new.items) work.old) }
-    ensures quiet { IfOk result (λ advanced. IfSome advanced (IsQuietUnlessCalled told.old.items told.new.items)) }
-    ensures untold { OnErr result (told.new.items ≡ told.old.items) }
-    ensures full { IfErr result (WhereFull (NextTells system.now region unit tables.old (λ records. room < length (spelled_records records)) work.old)) }
+    ensures tells { OnOk result (NextTells system.now region telling.old.unit tables.old (TellsNext telling.old.unit telling.old.room region tables.old.databases tables.new.databases telling.old.told.items telling.new.told.items) work.old) }
+    ensures quiet { IfOk result (λ advanced. IfSome advanced (IsQuietUnlessCalled telling.old.told.items telling.new.told.items)) }
+    ensures untold { OnErr result (telling.new.told.items ≡ telling.old.told.items) }
+    ensures place { telling.new ≡ record telling.old { told = telling.new.told } }
+    ensures full { IfErr result (WhereFull (NextTells system.now region telling.old.unit tables.old (λ records. telling.old.room < length (spelled_records records)) work.old)) }
 {
     let Some(busy) = work else {
         return Ok(None);
     };
-    match advance_busy(alloc, system, region, tables, busy, unit, room, told) {
+    match advance_busy(alloc, system, region, tables, busy, telling) {
         Ok(advanced) => Ok(Some(advanced)),
         Err(error) => Err(error),
     }

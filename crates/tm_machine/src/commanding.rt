@@ -11,6 +11,7 @@ use crate::Parts;
 use crate::answers::answer_to;
 use lasting_state::Untold;
 use model_machine::{Answer, Command, CommandRefused};
+use program_rows::Telling;
 use std::alloc::Global;
 use tm_types::LastingCommand;
 
@@ -21,19 +22,19 @@ pub fn command(
     alloc: Global,
     parts: &mut Parts,
     command: &Command,
-    room: usize,
-    told: &mut Vec<u8>,
+    telling: &mut Telling,
 ) -> Result<Result<Answer, CommandRefused>, Untold>
     requires { IsCommandServed command.now }
     ensures answer { IfOk result (λ answer. IsAnswered parts.old parts.new (Commanded command.now answer)) }
-    ensures told { OnOk result (TellsLastingStep parts.old.system parts.old.moment 0 room (CommandCall command.now) told.old.items told.new.items) }
+    ensures told { OnOk result (TellsLastingStep parts.old.system parts.old.moment 0 telling.old.room (CommandCall command.now) telling.old.told.items telling.new.told.items) }
     ensures databases { parts.new.databases ≡ parts.old.databases }
     ensures err { OnErr result (parts.new ≡ parts.old) }
-    ensures untold { OnErr result (told.new.items ≡ told.old.items) }
-    ensures full { IfErr result (WhereFull (IsCallLonger parts.old.system parts.old.moment 0 room (CommandCall command.now))) }
+    ensures untold { OnErr result (telling.new.told.items ≡ telling.old.told.items) }
+    ensures place { telling.new ≡ record telling.old { told = telling.new.told } }
+    ensures full { IfErr result (WhereFull (IsCallLonger parts.old.system parts.old.moment 0 telling.old.room (CommandCall command.now))) }
 {
     match answer_to(alloc, parts, command) {
-        Ok(Ok(answer)) => match perform(parts, command, answer, room, told) {
+        Ok(Ok(answer)) => match perform(parts, command, answer, telling) {
             Ok(answer) => Ok(Ok(answer)),
             Err(untold) => Err(untold),
         },
@@ -50,20 +51,20 @@ fn perform(
     parts: &mut Parts,
     command: &Command,
     answer: Answer,
-    room: usize,
-    told: &mut Vec<u8>,
+    telling: &mut Telling,
 ) -> Result<Answer, Untold>
     requires served { IsCommandServed command.now }
     requires answer { Ok answer ≡ command_answer parts.old.system parts.old.moment command.now }
     ensures answer { IfOk result (λ done. IsAnswered parts.old parts.new (Commanded command.now (Ok done))) }
-    ensures told { OnOk result (TellsLastingStep parts.old.system parts.old.moment 0 room (CommandCall command.now) told.old.items told.new.items) }
+    ensures told { OnOk result (TellsLastingStep parts.old.system parts.old.moment 0 telling.old.room (CommandCall command.now) telling.old.told.items telling.new.told.items) }
     ensures databases { parts.new.databases ≡ parts.old.databases }
     ensures err { OnErr result (parts.new ≡ parts.old) }
-    ensures untold { OnErr result (told.new.items ≡ told.old.items) }
-    ensures full { IfErr result (WhereFull (IsCallLonger parts.old.system parts.old.moment 0 room (CommandCall command.now))) }
+    ensures untold { OnErr result (telling.new.told.items ≡ telling.old.told.items) }
+    ensures place { telling.new ≡ record telling.old { told = telling.new.told } }
+    ensures full { IfErr result (WhereFull (IsCallLonger parts.old.system parts.old.moment 0 telling.old.room (CommandCall command.now))) }
 {
     match lasting_command(command) {
-        Some(lasting) => match parts.do_command(&lasting, room, told) {
+        Some(lasting) => match parts.do_command(&lasting, telling) {
             Ok(()) => Ok(answer),
             Err(untold) => Err(untold),
         },

@@ -21,6 +21,7 @@ use crate::parts::Parts;
 use lasting_state::{COUNT_LIMIT, Tables, Untold};
 use message_run::Ending;
 use model_machine::Turned;
+use program_rows::Telling;
 use region_work::{
     Busy, busy_at, complete, count_busy, discard, follow, follow_all, names_moved, next_message,
     outputs_by, pad_by, take,
@@ -36,42 +37,36 @@ impl Parts {
         &mut self,
         region: u32,
         ending: Ending,
-        unit: u64,
-        room: usize,
-        told: &mut Vec<u8>,
+        telling: &mut Telling,
     ) -> Result<Turned, Untold>
         requires region { IsRegion self.old.system region }
         requires ends { EndsSo self.old region (end_of ending) }
         ensures turned { IfOk result (IsRegionTurned self.old self.new region) }
-        ensures slots { IfOk result (TurnsSo self.old self.new unit region) }
-        ensures told { OnOk result (TellsLastingStep self.old.system self.old.moment unit room (Turn region) told.old.items told.new.items) }
+        ensures slots { IfOk result (TurnsSo self.old self.new telling.old.unit region) }
+        ensures told { OnOk result (TellsLastingStep self.old.system self.old.moment telling.old.unit telling.old.room (Turn region) telling.old.told.items telling.new.told.items) }
         ensures err { OnErr result (self.new ≡ self.old) }
-        ensures untold { OnErr result (told.new.items ≡ told.old.items) }
-        ensures full { IfErr result (WhereFull (IsCallLonger self.old.system self.old.moment unit room (Turn region))) }
+        ensures untold { OnErr result (telling.new.told.items ≡ telling.old.told.items) }
+        ensures place { telling.new ≡ record telling.old { told = telling.new.told } }
+        ensures full { IfErr result (WhereFull (IsCallLonger self.old.system self.old.moment telling.old.unit telling.old.room (Turn region))) }
     {
         match ending {
-            Ending::End => self.complete(region, unit, room, told),
-            Ending::Sync => self.go_on(region, unit, room, told),
-            Ending::Abend(abend) => self.abend(region, abend, unit, room, told),
+            Ending::End => self.complete(region, telling),
+            Ending::Sync => self.go_on(region, telling),
+            Ending::Abend(abend) => self.abend(region, abend, telling),
         }
     }
 
     /// Completes a message whose script has ended.
-    fn complete(
-        &mut self,
-        region: u32,
-        unit: u64,
-        room: usize,
-        told: &mut Vec<u8>,
-    ) -> Result<Turned, Untold>
+    fn complete(&mut self, region: u32, telling: &mut Telling) -> Result<Turned, Untold>
         requires region { IsRegion self.old.system region }
         requires ends { EndsSo self.old region Ends }
         ensures turned { IfOk result (IsRegionTurned self.old self.new region) }
-        ensures slots { IfOk result (TurnsSo self.old self.new unit region) }
-        ensures told { OnOk result (TellsLastingStep self.old.system self.old.moment unit room (Turn region) told.old.items told.new.items) }
+        ensures slots { IfOk result (TurnsSo self.old self.new telling.old.unit region) }
+        ensures told { OnOk result (TellsLastingStep self.old.system self.old.moment telling.old.unit telling.old.room (Turn region) telling.old.told.items telling.new.told.items) }
         ensures err { OnErr result (self.new ≡ self.old) }
-        ensures untold { OnErr result (told.new.items ≡ told.old.items) }
-        ensures full { IfErr result (WhereFull (IsCallLonger self.old.system self.old.moment unit room (Turn region))) }
+        ensures untold { OnErr result (telling.new.told.items ≡ telling.old.told.items) }
+        ensures place { telling.new ≡ record telling.old { told = telling.new.told } }
+        ensures full { IfErr result (WhereFull (IsCallLonger self.old.system self.old.moment telling.old.unit telling.old.room (Turn region))) }
     {
         let busy = busy_at(&self.regions, region);
         let code = busy.code;
@@ -81,9 +76,7 @@ impl Parts {
             &mut self.regions,
             region,
             &mut self.tables,
-            unit,
-            room,
-            told,
+            telling,
         )?;
         follow_all(&mut self.codes, &self.system, self.tables.queues(), &names);
         Ok(Turned::Done(code, id))
@@ -91,21 +84,16 @@ impl Parts {
 
     /// Completes a message whose script asks for a further one, and goes on with that, on the rows
     /// that the work on the first one leaves.
-    fn go_on(
-        &mut self,
-        region: u32,
-        unit: u64,
-        room: usize,
-        told: &mut Vec<u8>,
-    ) -> Result<Turned, Untold>
+    fn go_on(&mut self, region: u32, telling: &mut Telling) -> Result<Turned, Untold>
         requires region { IsRegion self.old.system region }
         requires ends { EndsSo self.old region Syncs }
         ensures turned { IfOk result (IsRegionTurned self.old self.new region) }
-        ensures slots { IfOk result (TurnsSo self.old self.new unit region) }
-        ensures told { OnOk result (TellsLastingStep self.old.system self.old.moment unit room (Turn region) told.old.items told.new.items) }
+        ensures slots { IfOk result (TurnsSo self.old self.new telling.old.unit region) }
+        ensures told { OnOk result (TellsLastingStep self.old.system self.old.moment telling.old.unit telling.old.room (Turn region) telling.old.told.items telling.new.told.items) }
         ensures err { OnErr result (self.new ≡ self.old) }
-        ensures untold { OnErr result (told.new.items ≡ told.old.items) }
-        ensures full { IfErr result (WhereFull (IsCallLonger self.old.system self.old.moment unit room (Turn region))) }
+        ensures untold { OnErr result (telling.new.told.items ≡ telling.old.told.items) }
+        ensures place { telling.new ≡ record telling.old { told = telling.new.told } }
+        ensures full { IfErr result (WhereFull (IsCallLonger self.old.system self.old.moment telling.old.unit telling.old.room (Turn region))) }
     {
         let busy = busy_at(&self.regions, region);
         let code = busy.code;
@@ -120,9 +108,7 @@ impl Parts {
             &mut self.regions,
             region,
             &mut self.tables,
-            unit,
-            room,
-            told,
+            telling,
         )?;
         let Some(next) = next_message(&self.system, &self.codes, &self.tables, &code, taken, count)
         else {
@@ -145,18 +131,17 @@ impl Parts {
         &mut self,
         region: u32,
         abend: AbendCode,
-        unit: u64,
-        room: usize,
-        told: &mut Vec<u8>,
+        telling: &mut Telling,
     ) -> Result<Turned, Untold>
         requires region { IsRegion self.old.system region }
         requires ends { EndsSo self.old region (Abends abend) }
         ensures turned { IfOk result (IsRegionTurned self.old self.new region) }
-        ensures slots { IfOk result (TurnsSo self.old self.new unit region) }
-        ensures told { OnOk result (TellsLastingStep self.old.system self.old.moment unit room (Turn region) told.old.items told.new.items) }
+        ensures slots { IfOk result (TurnsSo self.old self.new telling.old.unit region) }
+        ensures told { OnOk result (TellsLastingStep self.old.system self.old.moment telling.old.unit telling.old.room (Turn region) telling.old.told.items telling.new.told.items) }
         ensures err { OnErr result (self.new ≡ self.old) }
-        ensures untold { OnErr result (told.new.items ≡ told.old.items) }
-        ensures full { IfErr result (WhereFull (IsCallLonger self.old.system self.old.moment unit room (Turn region))) }
+        ensures untold { OnErr result (telling.new.told.items ≡ telling.old.told.items) }
+        ensures place { telling.new ≡ record telling.old { told = telling.new.told } }
+        ensures full { IfErr result (WhereFull (IsCallLonger self.old.system self.old.moment telling.old.unit telling.old.room (Turn region))) }
     {
         let busy = busy_at(&self.regions, region);
         let code = busy.code;
@@ -170,9 +155,7 @@ impl Parts {
             &mut self.tables,
             id,
             abend,
-            unit,
-            room,
-            told,
+            telling,
         )?;
         // Where no terminal has the name of the origin, it is told as a code would be.
         let waiting = self.tables.queues().waiting(&origin);
@@ -188,27 +171,26 @@ fn end_work(
     regions: &mut Vec<Option<Busy>>,
     region: u32,
     tables: &mut Tables,
-    unit: u64,
-    room: usize,
-    told: &mut Vec<u8>,
+    telling: &mut Telling,
 ) -> Result<Vec<Name>, Untold>
     requires positive { 1 ≤ region }
     requires may { MayCompleteWork tables.old regions.old.items region }
     ensures names { IfOk result (λ names. OfWork regions.old.items region (λ busy. names.items ≡ busy.code ∷ destinations (outputs_by busy.unit))) }
     ensures completed { OnOk result (OfWork regions.old.items region (λ busy. IsCompleted region busy tables.old tables.new)) }
-    ensures told { OnOk result (OfWork regions.old.items region (λ busy. TablesTell unit room (completion_of region tables.old busy) tables.old told.old.items told.new.items)) }
-    ensures full { IfErr result (WhereFull (OfWork regions.old.items region (λ busy. IsLongerStep unit room (completion_of region tables.old busy) tables.old))) }
+    ensures told { OnOk result (OfWork regions.old.items region (λ busy. TablesTell telling.old.unit telling.old.room (completion_of region tables.old busy) tables.old telling.old.told.items telling.new.told.items)) }
+    ensures full { IfErr result (WhereFull (OfWork regions.old.items region (λ busy. IsLongerStep telling.old.unit telling.old.room (completion_of region tables.old busy) tables.old))) }
     ensures regions { OnOk result (regions.new.items ≡ slice_set regions.old.items (region - 1) None) }
     ensures same { OnErr result (regions.new ≡ regions.old) }
     ensures err { OnErr result (tables.new ≡ tables.old) }
-    ensures untold { OnErr result (told.new.items ≡ told.old.items) }
+    ensures untold { OnErr result (telling.new.told.items ≡ telling.old.told.items) }
+    ensures place { telling.new ≡ record telling.old { told = telling.new.told } }
 {
     let busy = busy_at(regions.as_slice(), region);
     let id = busy.id;
     let outputs = outputs_by(alloc, busy)?;
     let pad = pad_by(alloc, busy)?;
     let names = names_moved(alloc, &busy.code, &outputs)?;
-    complete(regions, region, tables, id, outputs, pad, unit, room, told)?;
+    complete(regions, region, tables, id, outputs, pad, telling)?;
     Ok(names)
 }
 

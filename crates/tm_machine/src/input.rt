@@ -16,6 +16,7 @@ use conversation::Busy;
 use lasting_state::{Enqueued, KeptInput, Untold, kept_first};
 use model_machine::{InputRefused, Taken, code_word};
 use model_system::{Code, SegmentKind};
+use program_rows::Telling;
 use region_work::{count_busy, follow_at};
 use std::alloc::Global;
 use system_types::{Codes, System};
@@ -147,24 +148,24 @@ impl Parts {
         terminal: &Name,
         number: u64,
         segments: &Segments,
-        room: usize,
-        told: &mut Vec<u8>,
+        telling: &mut Telling,
     ) -> Result<Result<Taken, InputRefused>, Untold>
         requires { 0 < length segments.now }
         ensures answer { IfOk result (λ answer. IsAnswered self.old self.new (Accept terminal.now number segments.now answer)) }
         ensures no_fault { IfOk result (λ answer. is_input_fault answer ≡ false) }
-        ensures told { OnOk result (TellsLastingStep self.old.system self.old.moment 0 room (Input terminal.now number segments.now) told.old.items told.new.items) }
+        ensures told { OnOk result (TellsLastingStep self.old.system self.old.moment 0 telling.old.room (Input terminal.now number segments.now) telling.old.told.items telling.new.told.items) }
         ensures databases { self.new.databases ≡ self.old.databases }
         ensures err { OnErr result (self.new ≡ self.old) }
-        ensures untold { OnErr result (told.new.items ≡ told.old.items) }
-        ensures full { IfErr result (WhereFull (IsCallLonger self.old.system self.old.moment 0 room (Input terminal.now number segments.now))) }
+        ensures untold { OnErr result (telling.new.told.items ≡ telling.old.told.items) }
+        ensures place { telling.new ≡ record telling.old { told = telling.new.told } }
+        ensures full { IfErr result (WhereFull (IsCallLonger self.old.system self.old.moment 0 telling.old.room (Input terminal.now number segments.now))) }
     {
         let _ = &self.alloc;
         let Ok(count) = u32::try_from(segments.len()) else {
             return Err(Untold::Memory);
         };
         match self.new_input(terminal, number, segments, count) {
-            Ok(input) => self.enqueue(terminal, number, input, segments, room, told),
+            Ok(input) => self.enqueue(terminal, number, input, segments, telling),
             Err(answer) => Ok(answer),
         }
     }
@@ -227,18 +228,18 @@ impl Parts {
         number: u64,
         input: NewInput,
         segments: &Segments,
-        room: usize,
-        told: &mut Vec<u8>,
+        telling: &mut Telling,
     ) -> Result<Result<Taken, InputRefused>, Untold>
         requires new { IsNewInput self.old terminal.now number segments.now input }
         requires segment { 0 < length segments.now }
         ensures answer { IfOk result (λ answer. IsAnswered self.old self.new (Accept terminal.now number segments.now answer)) }
         ensures no_fault { IfOk result (λ answer. is_input_fault answer ≡ false) }
-        ensures told { OnOk result (TellsLastingStep self.old.system self.old.moment 0 room (Input terminal.now number segments.now) told.old.items told.new.items) }
+        ensures told { OnOk result (TellsLastingStep self.old.system self.old.moment 0 telling.old.room (Input terminal.now number segments.now) telling.old.told.items telling.new.told.items) }
         ensures databases { self.new.databases ≡ self.old.databases }
         ensures err { OnErr result (self.new ≡ self.old) }
-        ensures untold { OnErr result (told.new.items ≡ told.old.items) }
-        ensures full { IfErr result (WhereFull (IsCallLonger self.old.system self.old.moment 0 room (Input terminal.now number segments.now))) }
+        ensures untold { OnErr result (telling.new.told.items ≡ telling.old.told.items) }
+        ensures place { telling.new ≡ record telling.old { told = telling.new.told } }
+        ensures full { IfErr result (WhereFull (IsCallLonger self.old.system self.old.moment 0 telling.old.room (Input terminal.now number segments.now))) }
     {
         let Ok(kept) = kept_so(self.alloc, &input, segments) else {
             return Err(Untold::Memory);
@@ -247,7 +248,7 @@ impl Parts {
         let code = input.code;
         match self
             .tables
-            .enqueue(input.place, terminal, number, kept, busy, room, told)
+            .enqueue(input.place, terminal, number, kept, busy, telling)
         {
             Ok(Enqueued::New(id)) => {
                 let waiting = self.tables.queues().waiting(&code);

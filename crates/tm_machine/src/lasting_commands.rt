@@ -5,6 +5,7 @@ ghost use Rattle.tm_machine.specs.LastingCommands.{EndsNoneBusy, IsCommanded, Is
 
 use crate::parts::Parts;
 use lasting_state::Untold;
+use program_rows::Telling;
 use system_types::Codes;
 use tm_types::LastingCommand;
 
@@ -14,18 +15,18 @@ impl Parts {
     pub fn do_command(
         &mut self,
         command: &LastingCommand,
-        room: usize,
-        told: &mut Vec<u8>,
+        telling: &mut Telling,
     ) -> Result<(), Untold>
         requires { EndsNoneBusy command.now self.old.moment.lasting }
         ensures done { OnOk result (IsCommanded self.old self.new command.now) }
-        ensures told { OnOk result (TellsCommand self.old.moment room command.now told.old.items told.new.items) }
+        ensures told { OnOk result (TellsCommand self.old.moment telling.old.room command.now telling.old.told.items telling.new.told.items) }
         ensures databases { self.new.databases ≡ self.old.databases }
         ensures err { OnErr result (self.new ≡ self.old) }
-        ensures untold { OnErr result (told.new.items ≡ told.old.items) }
-        ensures full { IfErr result (WhereFull (IsLongerCommand self.old.moment room command.now)) }
+        ensures untold { OnErr result (telling.new.told.items ≡ telling.old.told.items) }
+        ensures place { telling.new ≡ record telling.old { told = telling.new.told } }
+        ensures full { IfErr result (WhereFull (IsLongerCommand self.old.moment telling.old.room command.now)) }
     {
-        self.tables.command(self.alloc, command, room, told)?;
+        self.tables.command(self.alloc, command, telling)?;
         set_states(&mut self.codes, command);
         Ok(())
     }

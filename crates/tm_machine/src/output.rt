@@ -12,6 +12,7 @@ ghost use Rattle.tm_machine.specs.ToldByCall.{IsCallLonger, TellsLastingStep};
 use crate::parts::Parts;
 use lasting_state::{Shown, Untold};
 use model_machine::{AckRefused, Acked, ShowAnswer};
+use program_rows::Telling;
 use tm_types::Name;
 
 impl Parts {
@@ -62,16 +63,16 @@ impl Parts {
         &mut self,
         terminal: &Name,
         number: u64,
-        room: usize,
-        told: &mut Vec<u8>,
+        telling: &mut Telling,
     ) -> Result<Result<Acked, AckRefused>, Untold>
         ensures answer { IfOk result (λ answer. IsAnswered self.old self.new (AckedEntry terminal.now number answer)) }
-        ensures told { OnOk result (TellsLastingStep self.old.system self.old.moment 0 room (Acknowledge terminal.now number) told.old.items told.new.items) }
+        ensures told { OnOk result (TellsLastingStep self.old.system self.old.moment 0 telling.old.room (Acknowledge terminal.now number) telling.old.told.items telling.new.told.items) }
         ensures databases { self.new.databases ≡ self.old.databases }
         ensures err { OnErr result (self.new ≡ self.old) }
-        ensures untold { OnErr result (told.new.items ≡ told.old.items) }
-        ensures full { IfErr result (WhereFull (IsCallLonger self.old.system self.old.moment 0 room (Acknowledge terminal.now number))) }
+        ensures untold { OnErr result (telling.new.told.items ≡ telling.old.told.items) }
+        ensures place { telling.new ≡ record telling.old { told = telling.new.told } }
+        ensures full { IfErr result (WhereFull (IsCallLonger self.old.system self.old.moment 0 telling.old.room (Acknowledge terminal.now number))) }
     {
-        self.tables.acknowledge(terminal, number, room, told)
+        self.tables.acknowledge(terminal, number, telling)
     }
 }

@@ -17,6 +17,7 @@ use message_run::Advanced;
 use model_data::Victims;
 use model_machine::Turned;
 use msg_queues::SLOT_ROOM;
+use program_rows::Telling;
 use region_work::{Busy, advance, count_busy, follow, take};
 use tm_types::Resource;
 use tran_pick::pick;
@@ -25,51 +26,41 @@ impl Parts {
     /// Lets a region do its next step. The records of what it changes in the databases or of what lasts of it, in this unit
     /// and of at most `room` bytes, are appended. A refusal changes nothing; `Memory` is answered too where a count would
     /// pass its limit.
-    pub fn turn(
-        &mut self,
-        region: u32,
-        unit: u64,
-        room: usize,
-        told: &mut Vec<u8>,
-    ) -> Result<Turned, Untold>
+    pub fn turn(&mut self, region: u32, telling: &mut Telling) -> Result<Turned, Untold>
         requires { IsRegion self.old.system region }
         ensures answer { IfOk result (λ turned. Answers self.old self.new (TurnEntry region (Ok turned))) }
-        ensures told { OnOk result (TurnTells self.old unit room region told.old.items told.new.items) }
-        ensures slots { IfOk result (TurnsSo self.old self.new unit region) }
-        ensures calls { IfOk result (TellByCall (changes_told self.old unit region)) }
+        ensures told { OnOk result (TurnTells self.old telling.old.unit telling.old.room region telling.old.told.items telling.new.told.items) }
+        ensures slots { IfOk result (TurnsSo self.old self.new telling.old.unit region) }
+        ensures calls { IfOk result (TellByCall (changes_told self.old telling.old.unit region)) }
         ensures err { OnErr result (self.new ≡ self.old) }
-        ensures untold { OnErr result (told.new.items ≡ told.old.items) }
-        ensures full { IfErr result (WhereFull (IsTurnLonger self.old unit room region)) }
+        ensures untold { OnErr result (telling.new.told.items ≡ telling.old.told.items) }
+        ensures place { telling.new ≡ record telling.old { told = telling.new.told } }
+        ensures full { IfErr result (WhereFull (IsTurnLonger self.old telling.old.unit telling.old.room region)) }
     {
-        match self.step(region, unit, room, told) {
+        match self.step(region, telling) {
             Ok(turned) => Ok(turned),
             Err(untold) => Err(untold),
         }
     }
 
     /// The same by the region's own steps.
-    fn step(
-        &mut self,
-        region: u32,
-        unit: u64,
-        room: usize,
-        told: &mut Vec<u8>,
-    ) -> Result<Turned, Untold>
+    fn step(&mut self, region: u32, telling: &mut Telling) -> Result<Turned, Untold>
         requires { IsRegion self.old.system region }
         ensures turned { IfOk result (IsRegionTurned self.old self.new region) }
-        ensures told { OnOk result (TurnTells self.old unit room region told.old.items told.new.items) }
-        ensures slots { IfOk result (TurnsSo self.old self.new unit region) }
-        ensures calls { IfOk result (TellByCall (changes_told self.old unit region)) }
+        ensures told { OnOk result (TurnTells self.old telling.old.unit telling.old.room region telling.old.told.items telling.new.told.items) }
+        ensures slots { IfOk result (TurnsSo self.old self.new telling.old.unit region) }
+        ensures calls { IfOk result (TellByCall (changes_told self.old telling.old.unit region)) }
         ensures err { OnErr result (self.new ≡ self.old) }
-        ensures untold { OnErr result (told.new.items ≡ told.old.items) }
-        ensures full { IfErr result (WhereFull (IsTurnLonger self.old unit room region)) }
+        ensures untold { OnErr result (telling.new.told.items ≡ telling.old.told.items) }
+        ensures place { telling.new ≡ record telling.old { told = telling.new.told } }
+        ensures full { IfErr result (WhereFull (IsTurnLonger self.old telling.old.unit telling.old.room region)) }
     {
-        match self.advance(region, unit, room, told) {
+        match self.advance(region, telling) {
             Ok(None) => Ok(self.schedule(region)),
             Ok(Some(Advanced::Called(function, pcb, status))) => {
                 Ok(Turned::Called(function, pcb, status))
             }
-            Ok(Some(Advanced::Ended(ending))) => self.finish(region, ending, unit, room, told),
+            Ok(Some(Advanced::Ended(ending))) => self.finish(region, ending, telling),
             Ok(Some(Advanced::Waits(resource, by))) => {
                 let victims = self.break_rings(region);
                 Ok(waited(resource, by, victims))
@@ -80,20 +71,15 @@ impl Parts {
 
     /// Lets the script of a region go on to its next call, and answers that; nothing where the region
     /// is empty. What the call changes in the databases is told.
-    fn advance(
-        &mut self,
-        region: u32,
-        unit: u64,
-        room: usize,
-        told: &mut Vec<u8>,
-    ) -> Result<Option<Advanced>, Untold>
+    fn advance(&mut self, region: u32, telling: &mut Telling) -> Result<Option<Advanced>, Untold>
         requires { IsRegion self.old.system region }
         ensures ok { IfOk result (RegionGoes self.old self.new region) }
-        ensures tells { OnOk result (TellsNext unit room region self.old.databases self.new.databases told.old.items told.new.items (changes_told self.old unit region)) }
-        ensures quiet { IfOk result (λ advanced. IfSome advanced (IsQuietUnlessCalled told.old.items told.new.items)) }
+        ensures tells { OnOk result (TellsNext telling.old.unit telling.old.room region self.old.databases self.new.databases telling.old.told.items telling.new.told.items (changes_told self.old telling.old.unit region)) }
+        ensures quiet { IfOk result (λ advanced. IfSome advanced (IsQuietUnlessCalled telling.old.told.items telling.new.told.items)) }
         ensures err { OnErr result (self.new ≡ self.old) }
-        ensures untold { OnErr result (told.new.items ≡ told.old.items) }
-        ensures full { IfErr result (WhereFull (room < length (spelled_records (changes_told self.old unit region)))) }
+        ensures untold { OnErr result (telling.new.told.items ≡ telling.old.told.items) }
+        ensures place { telling.new ≡ record telling.old { told = telling.new.told } }
+        ensures full { IfErr result (WhereFull (telling.old.room < length (spelled_records (changes_told self.old telling.old.unit region)))) }
     {
         advance(
             self.alloc,
@@ -101,9 +87,7 @@ impl Parts {
             region,
             &mut self.tables,
             &mut self.regions[region as usize - 1],
-            unit,
-            room,
-            told,
+            telling,
         )
     }
 

@@ -89,10 +89,10 @@ returns-then-is_none-clause-tells c =
     let last : c.args.region ≤ length (unit_records_of c.args.opened.now.units.items) = omega (arith, c.requires.last, length-map c.args.opened.now.units.items (λ (u : Changes). u.records)) in
     let requests : c.in_ok-asked.asked.requests.items ≡ map (request_of c.args.region c.args.number) (footprint c.args.dbd.now c.args.call.now c.args.at.now (rows_of_slots c.store.result.now.slots)) =
     c.in_ok-asked.ensures.requests ∙ ap (map (request_of c.args.region c.args.number)) (c.as_slice.ensures ∙ c.in_ok-needed.ensures.needs) in
-    tells_none c.args.unit c.args.region c.args.number c.args.dbd.now c.args.call.now c.args.at.now c.args.opened.now (record { units = c.args.opened.now.units; stores = c.args.opened.now.stores; table = c.read.new.table }) c.read.result c.args.room c.args.told.now.items
+    tells_none c.args.telling.now.unit c.args.region c.args.number c.args.dbd.now c.args.call.now c.args.at.now c.args.opened.now (record { units = c.args.opened.now.units; stores = c.args.opened.now.stores; table = c.read.new.table }) c.read.result c.args.telling.now.room c.args.telling.now.told.items
     (read_told c.args.opened.now c.requires.open c.args.region c.args.number c.requires.first last c.requires.number c.args.dbd.now c.args.call.now c.args.at.now c.requires.position c.requires.call
     (stored c.store.result.now) c.store.ensures.stored_is (dbd_there c.args.opened.now.stores.stores (c.args.number - 1) (stored c.store.result.now) c.args.dbd.now c.store.ensures.stored_is c.requires.database)
-    (record { units = c.args.opened.now.units; stores = c.args.opened.now.stores; table = c.read.new.table }) c.args.unit c.requires.touched c.read.result c.in_ok-asked.asked c.in_ok-needed.needed.planned
+    (record { units = c.args.opened.now.units; stores = c.args.opened.now.stores; table = c.read.new.table }) c.args.telling.now.unit c.requires.touched c.read.result c.in_ok-asked.asked c.in_ok-needed.needed.planned
     c.in_ok-asked.ensures.region c.in_ok-asked.ensures.number requests c.in_ok-needed.ensures.planned c.in_ok-needed.ensures.there
     (is_none_is c.in_ok-needed.needed.planned.edit c.is_none.result c.is_none.ensures c.if-is_none.true) refl refl refl refl c.read.ensures.reads c.read.ensures.table c.read.ensures.held)
 
@@ -101,10 +101,10 @@ returns-then-is_none-clause-slots c =
     let last : c.args.region ≤ length (unit_records_of c.args.opened.now.units.items) = omega (arith, c.requires.last, length-map c.args.opened.now.units.items (λ (u : Changes). u.records)) in
     let requests : c.in_ok-asked.asked.requests.items ≡ map (request_of c.args.region c.args.number) (footprint c.args.dbd.now c.args.call.now c.args.at.now (rows_of_slots c.store.result.now.slots)) =
     c.in_ok-asked.ensures.requests ∙ ap (map (request_of c.args.region c.args.number)) (c.as_slice.ensures ∙ c.in_ok-needed.ensures.needs) in
-    slots_so c.args.unit c.args.region c.args.number c.args.dbd.now c.args.call.now c.args.at.now c.args.opened.now (record { units = c.args.opened.now.units; stores = c.args.opened.now.stores; table = c.read.new.table }) c.read.result (λ (a : DataAnswer). let none : List Record = [] in none)
+    slots_so c.args.telling.now.unit c.args.region c.args.number c.args.dbd.now c.args.call.now c.args.at.now c.args.opened.now (record { units = c.args.opened.now.units; stores = c.args.opened.now.stores; table = c.read.new.table }) c.read.result (λ (a : DataAnswer). let none : List Record = [] in none)
     (read_told c.args.opened.now c.requires.open c.args.region c.args.number c.requires.first last c.requires.number c.args.dbd.now c.args.call.now c.args.at.now c.requires.position c.requires.call
     (stored c.store.result.now) c.store.ensures.stored_is (dbd_there c.args.opened.now.stores.stores (c.args.number - 1) (stored c.store.result.now) c.args.dbd.now c.store.ensures.stored_is c.requires.database)
-    (record { units = c.args.opened.now.units; stores = c.args.opened.now.stores; table = c.read.new.table }) c.args.unit c.requires.touched c.read.result c.in_ok-asked.asked c.in_ok-needed.needed.planned
+    (record { units = c.args.opened.now.units; stores = c.args.opened.now.stores; table = c.read.new.table }) c.args.telling.now.unit c.requires.touched c.read.result c.in_ok-asked.asked c.in_ok-needed.needed.planned
     c.in_ok-asked.ensures.region c.in_ok-asked.ensures.number requests c.in_ok-needed.ensures.planned c.in_ok-needed.ensures.there
     (is_none_is c.in_ok-needed.needed.planned.edit c.is_none.result c.is_none.ensures c.if-is_none.true) refl refl refl refl c.read.ensures.reads c.read.ensures.table c.read.ensures.held)
 
@@ -113,10 +113,10 @@ returns-then-is_none-clause-touched c =
     let last : c.args.region ≤ length (unit_records_of c.args.opened.now.units.items) = omega (arith, c.requires.last, length-map c.args.opened.now.units.items (λ (u : Changes). u.records)) in
     let requests : c.in_ok-asked.asked.requests.items ≡ map (request_of c.args.region c.args.number) (footprint c.args.dbd.now c.args.call.now c.args.at.now (rows_of_slots c.store.result.now.slots)) =
     c.in_ok-asked.ensures.requests ∙ ap (map (request_of c.args.region c.args.number)) (c.as_slice.ensures ∙ c.in_ok-needed.ensures.needs) in
-    touched_so c.args.unit c.args.region c.args.number c.args.dbd.now c.args.call.now c.args.at.now c.args.opened.now (record { units = c.args.opened.now.units; stores = c.args.opened.now.stores; table = c.read.new.table }) c.read.result (λ (a : DataAnswer). let none : List Record = [] in none)
+    touched_so c.args.telling.now.unit c.args.region c.args.number c.args.dbd.now c.args.call.now c.args.at.now c.args.opened.now (record { units = c.args.opened.now.units; stores = c.args.opened.now.stores; table = c.read.new.table }) c.read.result (λ (a : DataAnswer). let none : List Record = [] in none)
     (read_told c.args.opened.now c.requires.open c.args.region c.args.number c.requires.first last c.requires.number c.args.dbd.now c.args.call.now c.args.at.now c.requires.position c.requires.call
     (stored c.store.result.now) c.store.ensures.stored_is (dbd_there c.args.opened.now.stores.stores (c.args.number - 1) (stored c.store.result.now) c.args.dbd.now c.store.ensures.stored_is c.requires.database)
-    (record { units = c.args.opened.now.units; stores = c.args.opened.now.stores; table = c.read.new.table }) c.args.unit c.requires.touched c.read.result c.in_ok-asked.asked c.in_ok-needed.needed.planned
+    (record { units = c.args.opened.now.units; stores = c.args.opened.now.stores; table = c.read.new.table }) c.args.telling.now.unit c.requires.touched c.read.result c.in_ok-asked.asked c.in_ok-needed.needed.planned
     c.in_ok-asked.ensures.region c.in_ok-asked.ensures.number requests c.in_ok-needed.ensures.planned c.in_ok-needed.ensures.there
     (is_none_is c.in_ok-needed.needed.planned.edit c.is_none.result c.is_none.ensures c.if-is_none.true) refl refl refl refl c.read.ensures.reads c.read.ensures.table c.read.ensures.held)
 
@@ -125,26 +125,26 @@ returns-then-is_none-clause-touch c =
     let last : c.args.region ≤ length (unit_records_of c.args.opened.now.units.items) = omega (arith, c.requires.last, length-map c.args.opened.now.units.items (λ (u : Changes). u.records)) in
     let requests : c.in_ok-asked.asked.requests.items ≡ map (request_of c.args.region c.args.number) (footprint c.args.dbd.now c.args.call.now c.args.at.now (rows_of_slots c.store.result.now.slots)) =
     c.in_ok-asked.ensures.requests ∙ ap (map (request_of c.args.region c.args.number)) (c.as_slice.ensures ∙ c.in_ok-needed.ensures.needs) in
-    touch_so c.args.unit c.args.region c.args.number c.args.dbd.now c.args.call.now c.args.at.now c.args.opened.now (record { units = c.args.opened.now.units; stores = c.args.opened.now.stores; table = c.read.new.table }) c.read.result (λ (a : DataAnswer). let none : List Record = [] in none)
+    touch_so c.args.telling.now.unit c.args.region c.args.number c.args.dbd.now c.args.call.now c.args.at.now c.args.opened.now (record { units = c.args.opened.now.units; stores = c.args.opened.now.stores; table = c.read.new.table }) c.read.result (λ (a : DataAnswer). let none : List Record = [] in none)
     (read_told c.args.opened.now c.requires.open c.args.region c.args.number c.requires.first last c.requires.number c.args.dbd.now c.args.call.now c.args.at.now c.requires.position c.requires.call
     (stored c.store.result.now) c.store.ensures.stored_is (dbd_there c.args.opened.now.stores.stores (c.args.number - 1) (stored c.store.result.now) c.args.dbd.now c.store.ensures.stored_is c.requires.database)
-    (record { units = c.args.opened.now.units; stores = c.args.opened.now.stores; table = c.read.new.table }) c.args.unit c.requires.touched c.read.result c.in_ok-asked.asked c.in_ok-needed.needed.planned
+    (record { units = c.args.opened.now.units; stores = c.args.opened.now.stores; table = c.read.new.table }) c.args.telling.now.unit c.requires.touched c.read.result c.in_ok-asked.asked c.in_ok-needed.needed.planned
     c.in_ok-asked.ensures.region c.in_ok-asked.ensures.number requests c.in_ok-needed.ensures.planned c.in_ok-needed.ensures.there
     (is_none_is c.in_ok-needed.needed.planned.edit c.is_none.result c.is_none.ensures c.if-is_none.true) refl refl refl refl c.read.ensures.reads c.read.ensures.table c.read.ensures.held)
 
 pub returns-then-is_none-clause-full : goal.returns-then-is_none-clause-full
 returns-then-is_none-clause-full c =
-    memory_untold c.read.result (call_told c.args.unit c.args.region c.args.number c.args.dbd.now c.args.call.now c.args.at.now (databases_opened c.args.opened.now)) c.args.room c.read.ensures.memory
+    memory_untold c.read.result (call_told c.args.telling.now.unit c.args.region c.args.number c.args.dbd.now c.args.call.now c.args.at.now (databases_opened c.args.opened.now)) c.args.telling.now.room c.read.ensures.memory
 
 pub returns-then-is_some-clause-tells : goal.returns-then-is_some-clause-tells
 returns-then-is_some-clause-tells c =
     let last : c.args.region ≤ length (unit_records_of c.args.opened.now.units.items) = omega (arith, c.requires.last, length-map c.args.opened.now.units.items (λ (u : Changes). u.records)) in
     let requests : c.in_ok-asked.asked.requests.items ≡ map (request_of c.args.region c.args.number) (footprint c.args.dbd.now c.args.call.now c.args.at.now (rows_of_slots c.store.result.now.slots)) =
     c.in_ok-asked.ensures.requests ∙ ap (map (request_of c.args.region c.args.number)) (c.as_slice.ensures ∙ c.in_ok-needed.ensures.needs) in
-    tells_none c.args.unit c.args.region c.args.number c.args.dbd.now c.args.call.now c.args.at.now c.args.opened.now (record { units = c.args.opened.now.units; stores = c.args.opened.now.stores; table = c.wait.new.table }) c.wait.result c.args.room c.args.told.now.items
+    tells_none c.args.telling.now.unit c.args.region c.args.number c.args.dbd.now c.args.call.now c.args.at.now c.args.opened.now (record { units = c.args.opened.now.units; stores = c.args.opened.now.stores; table = c.wait.new.table }) c.wait.result c.args.telling.now.room c.args.telling.now.told.items
     (waits_told c.args.opened.now c.requires.open c.args.region c.args.number c.requires.first last c.requires.number c.args.dbd.now c.args.call.now c.args.at.now c.requires.position c.requires.call
     (stored c.store.result.now) c.store.ensures.stored_is (dbd_there c.args.opened.now.stores.stores (c.args.number - 1) (stored c.store.result.now) c.args.dbd.now c.store.ensures.stored_is c.requires.database)
-    (record { units = c.args.opened.now.units; stores = c.args.opened.now.stores; table = c.wait.new.table }) c.args.unit c.requires.touched c.wait.result c.in_ok-asked.asked.requests.items requests refl refl refl refl
+    (record { units = c.args.opened.now.units; stores = c.args.opened.now.stores; table = c.wait.new.table }) c.args.telling.now.unit c.requires.touched c.wait.result c.in_ok-asked.asked.requests.items requests refl refl refl refl
     c.wait.ensures.waits (subst (λ n. Rattle.std.specs.Prelude.OnOk c.wait.result (c.wait.new.table ≡ Rattle.model_data.specs.EnqueueRequests.after_asks n c.in_ok-asked.asked.requests.items c.args.opened.now.table)) c.in_ok-asked.ensures.region c.wait.ensures.table)
     c.wait.ensures.held)
 
@@ -153,10 +153,10 @@ returns-then-is_some-clause-slots c =
     let last : c.args.region ≤ length (unit_records_of c.args.opened.now.units.items) = omega (arith, c.requires.last, length-map c.args.opened.now.units.items (λ (u : Changes). u.records)) in
     let requests : c.in_ok-asked.asked.requests.items ≡ map (request_of c.args.region c.args.number) (footprint c.args.dbd.now c.args.call.now c.args.at.now (rows_of_slots c.store.result.now.slots)) =
     c.in_ok-asked.ensures.requests ∙ ap (map (request_of c.args.region c.args.number)) (c.as_slice.ensures ∙ c.in_ok-needed.ensures.needs) in
-    slots_so c.args.unit c.args.region c.args.number c.args.dbd.now c.args.call.now c.args.at.now c.args.opened.now (record { units = c.args.opened.now.units; stores = c.args.opened.now.stores; table = c.wait.new.table }) c.wait.result (λ (a : DataAnswer). let none : List Record = [] in none)
+    slots_so c.args.telling.now.unit c.args.region c.args.number c.args.dbd.now c.args.call.now c.args.at.now c.args.opened.now (record { units = c.args.opened.now.units; stores = c.args.opened.now.stores; table = c.wait.new.table }) c.wait.result (λ (a : DataAnswer). let none : List Record = [] in none)
     (waits_told c.args.opened.now c.requires.open c.args.region c.args.number c.requires.first last c.requires.number c.args.dbd.now c.args.call.now c.args.at.now c.requires.position c.requires.call
     (stored c.store.result.now) c.store.ensures.stored_is (dbd_there c.args.opened.now.stores.stores (c.args.number - 1) (stored c.store.result.now) c.args.dbd.now c.store.ensures.stored_is c.requires.database)
-    (record { units = c.args.opened.now.units; stores = c.args.opened.now.stores; table = c.wait.new.table }) c.args.unit c.requires.touched c.wait.result c.in_ok-asked.asked.requests.items requests refl refl refl refl
+    (record { units = c.args.opened.now.units; stores = c.args.opened.now.stores; table = c.wait.new.table }) c.args.telling.now.unit c.requires.touched c.wait.result c.in_ok-asked.asked.requests.items requests refl refl refl refl
     c.wait.ensures.waits (subst (λ n. Rattle.std.specs.Prelude.OnOk c.wait.result (c.wait.new.table ≡ Rattle.model_data.specs.EnqueueRequests.after_asks n c.in_ok-asked.asked.requests.items c.args.opened.now.table)) c.in_ok-asked.ensures.region c.wait.ensures.table)
     c.wait.ensures.held)
 
@@ -165,10 +165,10 @@ returns-then-is_some-clause-touched c =
     let last : c.args.region ≤ length (unit_records_of c.args.opened.now.units.items) = omega (arith, c.requires.last, length-map c.args.opened.now.units.items (λ (u : Changes). u.records)) in
     let requests : c.in_ok-asked.asked.requests.items ≡ map (request_of c.args.region c.args.number) (footprint c.args.dbd.now c.args.call.now c.args.at.now (rows_of_slots c.store.result.now.slots)) =
     c.in_ok-asked.ensures.requests ∙ ap (map (request_of c.args.region c.args.number)) (c.as_slice.ensures ∙ c.in_ok-needed.ensures.needs) in
-    touched_so c.args.unit c.args.region c.args.number c.args.dbd.now c.args.call.now c.args.at.now c.args.opened.now (record { units = c.args.opened.now.units; stores = c.args.opened.now.stores; table = c.wait.new.table }) c.wait.result (λ (a : DataAnswer). let none : List Record = [] in none)
+    touched_so c.args.telling.now.unit c.args.region c.args.number c.args.dbd.now c.args.call.now c.args.at.now c.args.opened.now (record { units = c.args.opened.now.units; stores = c.args.opened.now.stores; table = c.wait.new.table }) c.wait.result (λ (a : DataAnswer). let none : List Record = [] in none)
     (waits_told c.args.opened.now c.requires.open c.args.region c.args.number c.requires.first last c.requires.number c.args.dbd.now c.args.call.now c.args.at.now c.requires.position c.requires.call
     (stored c.store.result.now) c.store.ensures.stored_is (dbd_there c.args.opened.now.stores.stores (c.args.number - 1) (stored c.store.result.now) c.args.dbd.now c.store.ensures.stored_is c.requires.database)
-    (record { units = c.args.opened.now.units; stores = c.args.opened.now.stores; table = c.wait.new.table }) c.args.unit c.requires.touched c.wait.result c.in_ok-asked.asked.requests.items requests refl refl refl refl
+    (record { units = c.args.opened.now.units; stores = c.args.opened.now.stores; table = c.wait.new.table }) c.args.telling.now.unit c.requires.touched c.wait.result c.in_ok-asked.asked.requests.items requests refl refl refl refl
     c.wait.ensures.waits (subst (λ n. Rattle.std.specs.Prelude.OnOk c.wait.result (c.wait.new.table ≡ Rattle.model_data.specs.EnqueueRequests.after_asks n c.in_ok-asked.asked.requests.items c.args.opened.now.table)) c.in_ok-asked.ensures.region c.wait.ensures.table)
     c.wait.ensures.held)
 
@@ -177,16 +177,16 @@ returns-then-is_some-clause-touch c =
     let last : c.args.region ≤ length (unit_records_of c.args.opened.now.units.items) = omega (arith, c.requires.last, length-map c.args.opened.now.units.items (λ (u : Changes). u.records)) in
     let requests : c.in_ok-asked.asked.requests.items ≡ map (request_of c.args.region c.args.number) (footprint c.args.dbd.now c.args.call.now c.args.at.now (rows_of_slots c.store.result.now.slots)) =
     c.in_ok-asked.ensures.requests ∙ ap (map (request_of c.args.region c.args.number)) (c.as_slice.ensures ∙ c.in_ok-needed.ensures.needs) in
-    touch_so c.args.unit c.args.region c.args.number c.args.dbd.now c.args.call.now c.args.at.now c.args.opened.now (record { units = c.args.opened.now.units; stores = c.args.opened.now.stores; table = c.wait.new.table }) c.wait.result (λ (a : DataAnswer). let none : List Record = [] in none)
+    touch_so c.args.telling.now.unit c.args.region c.args.number c.args.dbd.now c.args.call.now c.args.at.now c.args.opened.now (record { units = c.args.opened.now.units; stores = c.args.opened.now.stores; table = c.wait.new.table }) c.wait.result (λ (a : DataAnswer). let none : List Record = [] in none)
     (waits_told c.args.opened.now c.requires.open c.args.region c.args.number c.requires.first last c.requires.number c.args.dbd.now c.args.call.now c.args.at.now c.requires.position c.requires.call
     (stored c.store.result.now) c.store.ensures.stored_is (dbd_there c.args.opened.now.stores.stores (c.args.number - 1) (stored c.store.result.now) c.args.dbd.now c.store.ensures.stored_is c.requires.database)
-    (record { units = c.args.opened.now.units; stores = c.args.opened.now.stores; table = c.wait.new.table }) c.args.unit c.requires.touched c.wait.result c.in_ok-asked.asked.requests.items requests refl refl refl refl
+    (record { units = c.args.opened.now.units; stores = c.args.opened.now.stores; table = c.wait.new.table }) c.args.telling.now.unit c.requires.touched c.wait.result c.in_ok-asked.asked.requests.items requests refl refl refl refl
     c.wait.ensures.waits (subst (λ n. Rattle.std.specs.Prelude.OnOk c.wait.result (c.wait.new.table ≡ Rattle.model_data.specs.EnqueueRequests.after_asks n c.in_ok-asked.asked.requests.items c.args.opened.now.table)) c.in_ok-asked.ensures.region c.wait.ensures.table)
     c.wait.ensures.held)
 
 pub returns-then-is_some-clause-full : goal.returns-then-is_some-clause-full
 returns-then-is_some-clause-full c =
-    memory_untold c.wait.result (call_told c.args.unit c.args.region c.args.number c.args.dbd.now c.args.call.now c.args.at.now (databases_opened c.args.opened.now)) c.args.room c.wait.ensures.memory
+    memory_untold c.wait.result (call_told c.args.telling.now.unit c.args.region c.args.number c.args.dbd.now c.args.call.now c.args.at.now (databases_opened c.args.opened.now)) c.args.telling.now.room c.wait.ensures.memory
 
 pub returns-clause-tells : goal.returns-clause-tells
 returns-clause-tells c =
@@ -195,10 +195,10 @@ returns-clause-tells c =
     c.in_ok-asked.ensures.requests ∙ ap (map (request_of c.args.region c.args.number)) (c.as_slice.ensures ∙ c.in_ok-needed.ensures.needs) in
     let free : first_blocked c.in_ok-asked.asked.requests.items c.args.opened.now.table ≡ None =
     ap (λ qs. first_blocked qs c.args.opened.now.table) (sym c.deref.ensures.value) ∙ none_told c.first_blocked.result c.is_some.result (first_blocked c.deref.result.now c.args.opened.now.table) c.first_blocked.ensures c.is_some.ensures c.if-is_some.false in
-    tells_made c.args.unit c.args.region c.args.number c.args.dbd.now c.args.call.now c.args.at.now c.args.opened.now c.make.new.opened c.make.result c.in_ok-asked.asked.number c.args.room c.in_ok-needed.needed.planned.edit c.args.told.now.items c.make.new.told.items c.in_ok-asked.ensures.number
+    tells_made c.args.telling.now.unit c.args.region c.args.number c.args.dbd.now c.args.call.now c.args.at.now c.args.opened.now c.make.new.opened c.make.result c.in_ok-asked.asked.number c.args.telling.now.room c.in_ok-needed.needed.planned.edit c.args.telling.now.told.items c.make.new.telling.told.items c.in_ok-asked.ensures.number
     (made_told_so c.args.opened.now c.requires.open c.args.region c.args.number c.requires.first last c.requires.number c.args.dbd.now c.args.call.now c.args.at.now c.requires.position c.requires.call
     (stored c.store.result.now) c.store.ensures.stored_is (dbd_there c.args.opened.now.stores.stores (c.args.number - 1) (stored c.store.result.now) c.args.dbd.now c.store.ensures.stored_is c.requires.database)
-    c.make.new.opened c.args.unit c.requires.touched c.make.result c.in_ok-asked.asked c.in_ok-needed.needed.planned c.in_ok-asked.ensures.region c.in_ok-asked.ensures.number requests free
+    c.make.new.opened c.args.telling.now.unit c.requires.touched c.make.result c.in_ok-asked.asked c.in_ok-needed.needed.planned c.in_ok-asked.ensures.region c.in_ok-asked.ensures.number requests free
     c.in_ok-needed.ensures.planned c.in_ok-needed.ensures.there c.make.ensures.made) c.make.ensures.tells
 
 pub returns-clause-slots : goal.returns-clause-slots
@@ -208,10 +208,10 @@ returns-clause-slots c =
     c.in_ok-asked.ensures.requests ∙ ap (map (request_of c.args.region c.args.number)) (c.as_slice.ensures ∙ c.in_ok-needed.ensures.needs) in
     let free : first_blocked c.in_ok-asked.asked.requests.items c.args.opened.now.table ≡ None =
     ap (λ qs. first_blocked qs c.args.opened.now.table) (sym c.deref.ensures.value) ∙ none_told c.first_blocked.result c.is_some.result (first_blocked c.deref.result.now c.args.opened.now.table) c.first_blocked.ensures c.is_some.ensures c.if-is_some.false in
-    slots_so c.args.unit c.args.region c.args.number c.args.dbd.now c.args.call.now c.args.at.now c.args.opened.now c.make.new.opened c.make.result (λ a. made_told c.args.unit c.args.number c.in_ok-needed.needed.planned.edit c.args.opened.now.stores.stores a)
+    slots_so c.args.telling.now.unit c.args.region c.args.number c.args.dbd.now c.args.call.now c.args.at.now c.args.opened.now c.make.new.opened c.make.result (λ a. made_told c.args.telling.now.unit c.args.number c.in_ok-needed.needed.planned.edit c.args.opened.now.stores.stores a)
     (made_told_so c.args.opened.now c.requires.open c.args.region c.args.number c.requires.first last c.requires.number c.args.dbd.now c.args.call.now c.args.at.now c.requires.position c.requires.call
     (stored c.store.result.now) c.store.ensures.stored_is (dbd_there c.args.opened.now.stores.stores (c.args.number - 1) (stored c.store.result.now) c.args.dbd.now c.store.ensures.stored_is c.requires.database)
-    c.make.new.opened c.args.unit c.requires.touched c.make.result c.in_ok-asked.asked c.in_ok-needed.needed.planned c.in_ok-asked.ensures.region c.in_ok-asked.ensures.number requests free
+    c.make.new.opened c.args.telling.now.unit c.requires.touched c.make.result c.in_ok-asked.asked c.in_ok-needed.needed.planned c.in_ok-asked.ensures.region c.in_ok-asked.ensures.number requests free
     c.in_ok-needed.ensures.planned c.in_ok-needed.ensures.there c.make.ensures.made)
 
 pub returns-clause-touched : goal.returns-clause-touched
@@ -221,10 +221,10 @@ returns-clause-touched c =
     c.in_ok-asked.ensures.requests ∙ ap (map (request_of c.args.region c.args.number)) (c.as_slice.ensures ∙ c.in_ok-needed.ensures.needs) in
     let free : first_blocked c.in_ok-asked.asked.requests.items c.args.opened.now.table ≡ None =
     ap (λ qs. first_blocked qs c.args.opened.now.table) (sym c.deref.ensures.value) ∙ none_told c.first_blocked.result c.is_some.result (first_blocked c.deref.result.now c.args.opened.now.table) c.first_blocked.ensures c.is_some.ensures c.if-is_some.false in
-    touched_so c.args.unit c.args.region c.args.number c.args.dbd.now c.args.call.now c.args.at.now c.args.opened.now c.make.new.opened c.make.result (λ a. made_told c.args.unit c.args.number c.in_ok-needed.needed.planned.edit c.args.opened.now.stores.stores a)
+    touched_so c.args.telling.now.unit c.args.region c.args.number c.args.dbd.now c.args.call.now c.args.at.now c.args.opened.now c.make.new.opened c.make.result (λ a. made_told c.args.telling.now.unit c.args.number c.in_ok-needed.needed.planned.edit c.args.opened.now.stores.stores a)
     (made_told_so c.args.opened.now c.requires.open c.args.region c.args.number c.requires.first last c.requires.number c.args.dbd.now c.args.call.now c.args.at.now c.requires.position c.requires.call
     (stored c.store.result.now) c.store.ensures.stored_is (dbd_there c.args.opened.now.stores.stores (c.args.number - 1) (stored c.store.result.now) c.args.dbd.now c.store.ensures.stored_is c.requires.database)
-    c.make.new.opened c.args.unit c.requires.touched c.make.result c.in_ok-asked.asked c.in_ok-needed.needed.planned c.in_ok-asked.ensures.region c.in_ok-asked.ensures.number requests free
+    c.make.new.opened c.args.telling.now.unit c.requires.touched c.make.result c.in_ok-asked.asked c.in_ok-needed.needed.planned c.in_ok-asked.ensures.region c.in_ok-asked.ensures.number requests free
     c.in_ok-needed.ensures.planned c.in_ok-needed.ensures.there c.make.ensures.made)
 
 pub returns-clause-touch : goal.returns-clause-touch
@@ -234,10 +234,10 @@ returns-clause-touch c =
     c.in_ok-asked.ensures.requests ∙ ap (map (request_of c.args.region c.args.number)) (c.as_slice.ensures ∙ c.in_ok-needed.ensures.needs) in
     let free : first_blocked c.in_ok-asked.asked.requests.items c.args.opened.now.table ≡ None =
     ap (λ qs. first_blocked qs c.args.opened.now.table) (sym c.deref.ensures.value) ∙ none_told c.first_blocked.result c.is_some.result (first_blocked c.deref.result.now c.args.opened.now.table) c.first_blocked.ensures c.is_some.ensures c.if-is_some.false in
-    touch_so c.args.unit c.args.region c.args.number c.args.dbd.now c.args.call.now c.args.at.now c.args.opened.now c.make.new.opened c.make.result (λ a. made_told c.args.unit c.args.number c.in_ok-needed.needed.planned.edit c.args.opened.now.stores.stores a)
+    touch_so c.args.telling.now.unit c.args.region c.args.number c.args.dbd.now c.args.call.now c.args.at.now c.args.opened.now c.make.new.opened c.make.result (λ a. made_told c.args.telling.now.unit c.args.number c.in_ok-needed.needed.planned.edit c.args.opened.now.stores.stores a)
     (made_told_so c.args.opened.now c.requires.open c.args.region c.args.number c.requires.first last c.requires.number c.args.dbd.now c.args.call.now c.args.at.now c.requires.position c.requires.call
     (stored c.store.result.now) c.store.ensures.stored_is (dbd_there c.args.opened.now.stores.stores (c.args.number - 1) (stored c.store.result.now) c.args.dbd.now c.store.ensures.stored_is c.requires.database)
-    c.make.new.opened c.args.unit c.requires.touched c.make.result c.in_ok-asked.asked c.in_ok-needed.needed.planned c.in_ok-asked.ensures.region c.in_ok-asked.ensures.number requests free
+    c.make.new.opened c.args.telling.now.unit c.requires.touched c.make.result c.in_ok-asked.asked c.in_ok-needed.needed.planned c.in_ok-asked.ensures.region c.in_ok-asked.ensures.number requests free
     c.in_ok-needed.ensures.planned c.in_ok-needed.ensures.there c.make.ensures.made)
 
 pub returns-clause-full : goal.returns-clause-full
@@ -249,5 +249,5 @@ returns-clause-full c =
     ap (λ qs. first_blocked qs c.args.opened.now.table) (sym c.deref.ensures.value) ∙ none_told c.first_blocked.result c.is_some.result (first_blocked c.deref.result.now c.args.opened.now.table) c.first_blocked.ensures c.is_some.ensures c.if-is_some.false in
     untold_so c.args.opened.now c.requires.open c.args.region c.args.number c.requires.first last c.requires.number c.args.dbd.now c.args.call.now c.args.at.now c.requires.position c.requires.call
     (stored c.store.result.now) c.store.ensures.stored_is (dbd_there c.args.opened.now.stores.stores (c.args.number - 1) (stored c.store.result.now) c.args.dbd.now c.store.ensures.stored_is c.requires.database)
-    c.make.new.opened c.args.unit c.requires.touched c.in_ok-asked.asked c.in_ok-needed.needed.planned c.in_ok-asked.ensures.region c.in_ok-asked.ensures.number requests free
-    c.in_ok-needed.ensures.planned c.args.room c.make.result c.make.ensures.full
+    c.make.new.opened c.args.telling.now.unit c.requires.touched c.in_ok-asked.asked c.in_ok-needed.needed.planned c.in_ok-asked.ensures.region c.in_ok-asked.ensures.number requests free
+    c.in_ok-needed.ensures.planned c.args.telling.now.room c.make.result c.make.ensures.full

@@ -61,7 +61,7 @@ slot_to_take-requires-clause-there c =
 
 pub returns-in-Err-tell_and_set-clause-full : goal.returns-in-Err-tell_and_set-clause-full
 returns-in-Err-tell_and_set-clause-full c =
-    untold_edit c.args.asked.now c.args.dbd.now c.args.edit c.args.opened.now c.args.unit c.args.room c.in-Err-tell_and_set.error
+    untold_edit c.args.asked.now c.args.dbd.now c.args.edit c.args.opened.now c.args.telling.now.unit c.args.telling.now.room c.in-Err-tell_and_set.error
     (limit_is c.args.asked.now.number c.args.dbd.now c.args.edit (changed_in c.args.asked.now.region c.args.opened.now) c.args.opened.now.stores.stores (stored c.store.result.now) None
     (unit_full c.args.asked.now.number c.args.edit.root c.args.asked.now.region c.args.opened.now c.deref.result.now c.unit_of.result.now c.is_full.result
     c.deref.ensures.value c.unit_of.ensures c.is_full.ensures ∙ c.if-is_full.false) c.store.ensures.stored_is

@@ -17,16 +17,16 @@ returns-clause-steps c =
 pub returns-clause-tells : goal.returns-clause-tells
 returns-clause-tells c =
     on_map c.advance_unit.result
-    (λ h. next_from c.args.system.now c.args.region c.args.unit c.args.tables.now c.args.busy.now c.start.new.busy c.in-Some.run' _
+    (λ h. next_from c.args.system.now c.args.region c.args.telling.now.unit c.args.tables.now c.args.busy.now c.start.new.busy c.in-Some.run' _
     (started_one c.start.new.busy.unit c.in-Some.run' (IsStarted c.args.system.now c.args.tables.now c.args.busy.now) c.in-Some.is c.in_ok-start.ensures.started c.args.region c.requires.work) (ap (λ (b : Busy). b.code) c.start.ensures.same)
-    (subst (λ d. TellsSo c.args.system.now c.args.region c.start.new.busy.code d c.advance_unit.new.databases c.in-Some.run' c.args.unit c.args.room c.args.told.now.items c.advance_unit.new.told.items)
+    (subst (λ d. TellsSo c.args.system.now c.args.region c.start.new.busy.code d c.advance_unit.new.databases c.in-Some.run' c.args.telling.now.unit c.args.telling.now.room c.args.telling.now.told.items c.advance_unit.new.telling.told.items)
     c.databases_mut.ensures.value h))
     c.advance_unit.ensures.tells
 
 pub returns-clause-full : goal.returns-clause-full
 returns-clause-full c =
     if_err_map c.advance_unit.result
-    (λ error. where_full error (λ h. next_from c.args.system.now c.args.region c.args.unit c.args.tables.now c.args.busy.now c.start.new.busy c.in-Some.run' (λ records. c.args.room < length (spelled_records records))
+    (λ error. where_full error (λ h. next_from c.args.system.now c.args.region c.args.telling.now.unit c.args.tables.now c.args.busy.now c.start.new.busy c.in-Some.run' (λ records. c.args.telling.now.room < length (spelled_records records))
     (started_one c.start.new.busy.unit c.in-Some.run' (IsStarted c.args.system.now c.args.tables.now c.args.busy.now) c.in-Some.is c.in_ok-start.ensures.started c.args.region c.requires.work) (ap (λ (b : Busy). b.code) c.start.ensures.same)
-    (subst (λ d. IsLongerSo c.args.system.now c.args.region c.start.new.busy.code d c.in-Some.run' c.args.unit c.args.room) c.databases_mut.ensures.value h)))
+    (subst (λ d. IsLongerSo c.args.system.now c.args.region c.start.new.busy.code d c.in-Some.run' c.args.telling.now.unit c.args.telling.now.room) c.databases_mut.ensures.value h)))
     c.advance_unit.ensures.full

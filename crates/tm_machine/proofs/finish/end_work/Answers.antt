@@ -37,13 +37,13 @@ returns-clause-completed c = λ busy is.
 
 pub returns-clause-told : goal.returns-clause-told
 returns-clause-told c = λ busy is.
-    subst (λ (b : Busy). TellsStep c.args.unit c.args.room (completion_of c.args.region c.args.tables.now b) c.args.tables.now c.args.told.now.items c.complete.new.told.items) (same_busy c.args.regions.now.items c.as_slice.result.now (c.args.region - 1) c.busy_at-busy.result.now busy c.as_slice.ensures.value c.busy_at-busy.ensures is)
-    (subst (λ (s : LastingStep). TellsStep c.args.unit c.args.room s c.args.tables.now c.args.told.now.items c.complete.new.told.items) (completes c.args.region c.args.tables.now c.busy_at-busy.result.now c.in_ok-outputs.outputs.items c.in_ok-outputs.ensures c.in_ok-pad.pad c.in_ok-pad.ensures.value) c.in_ok-complete.ensures.told)
+    subst (λ (b : Busy). TellsStep c.args.telling.now.unit c.args.telling.now.room (completion_of c.args.region c.args.tables.now b) c.args.tables.now c.args.telling.now.told.items c.complete.new.telling.told.items) (same_busy c.args.regions.now.items c.as_slice.result.now (c.args.region - 1) c.busy_at-busy.result.now busy c.as_slice.ensures.value c.busy_at-busy.ensures is)
+    (subst (λ (s : LastingStep). TellsStep c.args.telling.now.unit c.args.telling.now.room s c.args.tables.now c.args.telling.now.told.items c.complete.new.telling.told.items) (completes c.args.region c.args.tables.now c.busy_at-busy.result.now c.in_ok-outputs.outputs.items c.in_ok-outputs.ensures c.in_ok-pad.pad c.in_ok-pad.ensures.value) c.in_ok-complete.ensures.told)
 
 pub returns-in_err-complete-clause-full : goal.returns-in_err-complete-clause-full
 returns-in_err-complete-clause-full c =
     err_where c.from_residual-in_err-complete.result
-    (λ (longer : AreRecordsLonger c.args.unit c.args.room (Completes c.busy_at-busy.result.now.id (region_at c.args.region c.args.tables.now.databases).rows c.in_ok-outputs.outputs.items c.in_ok-pad.pad) c.args.tables.now) busy is.
-    subst (λ (b : Busy). AreRecordsLonger c.args.unit c.args.room (completion_of c.args.region c.args.tables.now b) c.args.tables.now) (same_busy c.args.regions.now.items c.as_slice.result.now (c.args.region - 1) c.busy_at-busy.result.now busy c.as_slice.ensures.value c.busy_at-busy.ensures is)
-    (subst (λ (s : LastingStep). AreRecordsLonger c.args.unit c.args.room s c.args.tables.now) (completes c.args.region c.args.tables.now c.busy_at-busy.result.now c.in_ok-outputs.outputs.items c.in_ok-outputs.ensures c.in_ok-pad.pad c.in_ok-pad.ensures.value) longer))
+    (λ (longer : AreRecordsLonger c.args.telling.now.unit c.args.telling.now.room (Completes c.busy_at-busy.result.now.id (region_at c.args.region c.args.tables.now.databases).rows c.in_ok-outputs.outputs.items c.in_ok-pad.pad) c.args.tables.now) busy is.
+    subst (λ (b : Busy). AreRecordsLonger c.args.telling.now.unit c.args.telling.now.room (completion_of c.args.region c.args.tables.now b) c.args.tables.now) (same_busy c.args.regions.now.items c.as_slice.result.now (c.args.region - 1) c.busy_at-busy.result.now busy c.as_slice.ensures.value c.busy_at-busy.ensures is)
+    (subst (λ (s : LastingStep). AreRecordsLonger c.args.telling.now.unit c.args.telling.now.room s c.args.tables.now) (completes c.args.region c.args.tables.now c.busy_at-busy.result.now c.in_ok-outputs.outputs.items c.in_ok-outputs.ensures c.in_ok-pad.pad c.in_ok-pad.ensures.value) longer))
     (search rules)

@@ -14,10 +14,10 @@ pub returns-clause-applies : goal.returns-clause-applies
 returns-clause-applies c = applies_command c.args.command.now c.args.self.now c.do_command.new.self c.do_command.ensures
 
 pub returns-clause-told : goal.returns-clause-told
-returns-clause-told c = tells 0 c.args.room (Commands c.args.command.now) c.args.self.now c.args.told.now.items c.tell_command.new.told.items (λ settings. c.in_ok-tell_command.ensures.told)
+returns-clause-told c = tells 0 c.args.telling.now.room (Commands c.args.command.now) c.args.self.now c.args.telling.now.told.items c.tell_command.new.telling.told.items (λ settings. c.in_ok-tell_command.ensures.told)
 
 pub returns-in_err-tell_command-clause-full : goal.returns-in_err-tell_command-clause-full
 returns-in_err-tell_command-clause-full c =
-    IfErr-weaker c.from_residual.result (AreRecordsUntold (Command (command_text.command_spelling c.args.command.now) ∷ []) c.args.room) (WhereFull (AreRecordsLonger 0 c.args.room (Commands c.args.command.now) c.args.self.now))
-    (λ error h. longer 0 c.args.room (Commands c.args.command.now) c.args.self.now error (λ settings. h))
+    IfErr-weaker c.from_residual.result (AreRecordsUntold (Command (command_text.command_spelling c.args.command.now) ∷ []) c.args.telling.now.room) (WhereFull (AreRecordsLonger 0 c.args.telling.now.room (Commands c.args.command.now) c.args.self.now))
+    (λ error h. longer 0 c.args.telling.now.room (Commands c.args.command.now) c.args.self.now error (λ settings. h))
     (search rules)

@@ -16,25 +16,25 @@ pub returns-in_err-tell_completion-clause-full : goal.returns-in_err-tell_comple
 returns-in_err-tell_completion-clause-full c =
     let old : TablesState = record { databases = c.self.inside.databases; queues = c.self.inside.queues; next_id = c.self.inside.next_id; terminals = c.self.inside.terminals.items; outputs = c.self.inside.outputs; conversations = c.self.inside.conversations; steps = c.self.inside.steps } in
     rw (sym c.self.view_is)
-    (err_is (WhereFull (AreRecordsLonger c.args.unit c.args.room (Completes c.args.id (region_at c.args.region old.databases).rows c.args.outputs.items c.args.pad) old))
+    (err_is (WhereFull (AreRecordsLonger c.args.telling.now.unit c.args.telling.now.room (Completes c.args.id (region_at c.args.region old.databases).rows c.args.outputs.items c.args.pad) old))
     c.from_residual.result c.in_err-tell_completion.field-0.0 (search rules)
-    (longer c.args.unit c.args.room (Completes c.args.id (region_at c.args.region old.databases).rows c.args.outputs.items c.args.pad) old c.in_err-tell_completion.field-0.0
-    (λ settings. subst (λ (rs : List Record). AreRecordsUntold rs c.args.room c.in_err-tell_completion.field-0.0)
-    (completion_are c.args.unit old c.args.id c.args.outputs.items c.args.pad c.in-Some.message.now c.in-Some.ensures (region_at c.args.region old.databases).rows settings)
+    (longer c.args.telling.now.unit c.args.telling.now.room (Completes c.args.id (region_at c.args.region old.databases).rows c.args.outputs.items c.args.pad) old c.in_err-tell_completion.field-0.0
+    (λ settings. subst (λ (rs : List Record). AreRecordsUntold rs c.args.telling.now.room c.in_err-tell_completion.field-0.0)
+    (completion_are c.args.telling.now.unit old c.args.id c.args.outputs.items c.args.pad c.in-Some.message.now c.in-Some.ensures (region_at c.args.region old.databases).rows settings)
     (c.in_err-tell_completion.ensures.full (lasting_of settings old) refl refl))))
 
 pub returns-in-Ok-clause-told : goal.returns-in-Ok-clause-told
 returns-in-Ok-clause-told c =
     let old : TablesState = record { databases = c.self.inside.databases; queues = c.self.inside.queues; next_id = c.self.inside.next_id; terminals = c.self.inside.terminals.items; outputs = c.self.inside.outputs; conversations = c.self.inside.conversations; steps = c.self.inside.steps } in
     rw (sym c.self.view_is)
-    (tells c.args.unit c.args.room (Completes c.args.id (region_at c.args.region old.databases).rows c.args.outputs.items c.args.pad) old c.args.told.now.items c.tell_completion.new.told.items
-    (λ settings. subst (λ (rs : List Record). RecordsTell rs c.args.room c.args.told.now.items c.tell_completion.new.told.items)
-    (completion_are c.args.unit old c.args.id c.args.outputs.items c.args.pad c.in-Some.message.now c.in-Some.ensures (region_at c.args.region old.databases).rows settings)
+    (tells c.args.telling.now.unit c.args.telling.now.room (Completes c.args.id (region_at c.args.region old.databases).rows c.args.outputs.items c.args.pad) old c.args.telling.now.told.items c.tell_completion.new.telling.told.items
+    (λ settings. subst (λ (rs : List Record). RecordsTell rs c.args.telling.now.room c.args.telling.now.told.items c.tell_completion.new.telling.told.items)
+    (completion_are c.args.telling.now.unit old c.args.id c.args.outputs.items c.args.pad c.in-Some.message.now c.in-Some.ensures (region_at c.args.region old.databases).rows settings)
     (c.in_ok-tell_completion.ensures.told (lasting_of settings old) refl refl)))
 
 pub returns-in-Err-clause-untold : goal.returns-in-Err-clause-untold
 returns-in-Err-clause-untold c =
     let old : TablesState = record { databases = c.self.inside.databases; queues = c.self.inside.queues; next_id = c.self.inside.next_id; terminals = c.self.inside.terminals.items; outputs = c.self.inside.outputs; conversations = c.self.inside.conversations; steps = c.self.inside.steps } in
     let lasting : LastingState = lasting_of [] old in
-    cut_back (completion_records c.args.unit c.in-Some.message.now.origin c.args.id c.args.outputs.items lasting ++ SyncPoint c.args.unit c.args.pad ∷ []) c.args.room c.len-start.result
-    c.args.told.now.items c.tell_completion.new.told.items c.truncate.new.self.items (c.in_ok-tell_completion.ensures.told lasting refl refl) (search rules) c.truncate.ensures.items
+    cut_back (completion_records c.args.telling.now.unit c.in-Some.message.now.origin c.args.id c.args.outputs.items lasting ++ SyncPoint c.args.telling.now.unit c.args.pad ∷ []) c.args.telling.now.room c.len-start.result
+    c.args.telling.now.told.items c.tell_completion.new.telling.told.items c.truncate.new.self.items (c.in_ok-tell_completion.ensures.told lasting refl refl) (search rules) c.truncate.ensures.items

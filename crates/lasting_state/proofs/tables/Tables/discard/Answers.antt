@@ -14,18 +14,18 @@ pub returns-in_err-tell_discarded-clause-full : goal.returns-in_err-tell_discard
 returns-in_err-tell_discarded-clause-full c =
     let old : TablesState = record { databases = c.self.inside.databases; queues = c.self.inside.queues; next_id = c.self.inside.next_id; terminals = c.self.inside.terminals.items; outputs = c.self.inside.outputs; conversations = c.self.inside.conversations; steps = c.self.inside.steps } in
     rw (sym c.self.view_is)
-    (IfErr-weaker c.from_residual.result (AreRecordsUntold (Discarded c.args.unit c.args.id c.args.abend c.next_number-number.result ∷ []) c.args.room)
-    (WhereFull (AreRecordsLonger c.args.unit c.args.room (Discards c.args.id c.args.abend) old))
-    (λ error h. longer c.args.unit c.args.room (Discards c.args.id c.args.abend) old error
-    (λ settings. subst (λ (rs : List Record). AreRecordsUntold rs c.args.room error)
-    (discarding_are c.args.unit old c.args.id c.args.abend c.in-Some.message.now c.next_number-number.result c.in-Some.ensures c.next_number-number.ensures settings) h))
+    (IfErr-weaker c.from_residual.result (AreRecordsUntold (Discarded c.args.telling.now.unit c.args.id c.args.abend c.next_number-number.result ∷ []) c.args.telling.now.room)
+    (WhereFull (AreRecordsLonger c.args.telling.now.unit c.args.telling.now.room (Discards c.args.id c.args.abend) old))
+    (λ error h. longer c.args.telling.now.unit c.args.telling.now.room (Discards c.args.id c.args.abend) old error
+    (λ settings. subst (λ (rs : List Record). AreRecordsUntold rs c.args.telling.now.room error)
+    (discarding_are c.args.telling.now.unit old c.args.id c.args.abend c.in-Some.message.now c.next_number-number.result c.in-Some.ensures c.next_number-number.ensures settings) h))
     (search rules))
 
 pub returns-in-Ok-clause-told : goal.returns-in-Ok-clause-told
 returns-in-Ok-clause-told c =
     let old : TablesState = record { databases = c.self.inside.databases; queues = c.self.inside.queues; next_id = c.self.inside.next_id; terminals = c.self.inside.terminals.items; outputs = c.self.inside.outputs; conversations = c.self.inside.conversations; steps = c.self.inside.steps } in
     rw (sym c.self.view_is)
-    (tells c.args.unit c.args.room (Discards c.args.id c.args.abend) old c.args.told.now.items c.tell_discarded.new.told.items
-    (λ settings. subst (λ (rs : List Record). RecordsTell rs c.args.room c.args.told.now.items c.tell_discarded.new.told.items)
-    (discarding_are c.args.unit old c.args.id c.args.abend c.in-Some.message.now c.next_number-number.result c.in-Some.ensures c.next_number-number.ensures settings)
+    (tells c.args.telling.now.unit c.args.telling.now.room (Discards c.args.id c.args.abend) old c.args.telling.now.told.items c.tell_discarded.new.telling.told.items
+    (λ settings. subst (λ (rs : List Record). RecordsTell rs c.args.telling.now.room c.args.telling.now.told.items c.tell_discarded.new.telling.told.items)
+    (discarding_are c.args.telling.now.unit old c.args.id c.args.abend c.in-Some.message.now c.next_number-number.result c.in-Some.ensures c.next_number-number.ensures settings)
     c.in_ok-tell_discarded.ensures.told))

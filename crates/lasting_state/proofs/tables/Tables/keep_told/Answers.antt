@@ -9,14 +9,14 @@ use Rattle.lasting_state.proofs.tables.Tables.keep_told.Goals as goal
 pub returns-in_err-tell_kept-clause-full : goal.returns-in_err-tell_kept-clause-full
 returns-in_err-tell_kept-clause-full c =
     rw (sym c.self.view_is)
-    (IfErr-weaker c.from_residual.result (AreRecordsUntold (Input 0 c.self.inside.next_id c.args.terminal.now c.args.kept.code c.args.number c.args.kept.conversation c.args.kept.segments ∷ []) c.args.room) _
+    (IfErr-weaker c.from_residual.result (AreRecordsUntold (Input 0 c.self.inside.next_id c.args.terminal.now c.args.kept.code c.args.number c.args.kept.conversation c.args.kept.segments ∷ []) c.args.telling.now.room) _
     (λ error h. where_full error (λ is_longer. record { fits = rw (← c.self.view_is) at c.requires.fits; longer = is_longer })
-    (longer 0 c.args.room (Accepts c.args.terminal.now c.args.number c.args.kept) (record { databases = c.self.inside.databases; queues = c.self.inside.queues; next_id = c.self.inside.next_id; terminals = c.self.inside.terminals.items; outputs = c.self.inside.outputs; conversations = c.self.inside.conversations; steps = c.self.inside.steps }) error (λ settings. h)))
+    (longer 0 c.args.telling.now.room (Accepts c.args.terminal.now c.args.number c.args.kept) (record { databases = c.self.inside.databases; queues = c.self.inside.queues; next_id = c.self.inside.next_id; terminals = c.self.inside.terminals.items; outputs = c.self.inside.outputs; conversations = c.self.inside.conversations; steps = c.self.inside.steps }) error (λ settings. h)))
     (search rules))
 
 pub returns-in-Ok-New-clause-told : goal.returns-in-Ok-New-clause-told
 returns-in-Ok-New-clause-told c =
     rw (sym c.self.view_is)
-    (tells 0 c.args.room (Accepts c.args.terminal.now c.args.number c.args.kept)
+    (tells 0 c.args.telling.now.room (Accepts c.args.terminal.now c.args.number c.args.kept)
     (record { databases = c.self.inside.databases; queues = c.self.inside.queues; next_id = c.self.inside.next_id; terminals = c.self.inside.terminals.items; outputs = c.self.inside.outputs; conversations = c.self.inside.conversations; steps = c.self.inside.steps })
-    c.args.told.now.items c.tell_kept.new.told.items (λ settings. c.in_ok-tell_kept.ensures.told))
+    c.args.telling.now.told.items c.tell_kept.new.telling.told.items (λ settings. c.in_ok-tell_kept.ensures.told))

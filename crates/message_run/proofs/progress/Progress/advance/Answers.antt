@@ -135,55 +135,55 @@ returns-in-Err-answer-clause-rests c =
 pub returns-in-Ended-clause-tells : goal.returns-in-Ended-clause-tells
 returns-in-Ended-clause-tells c =
     rw (sym c.self.view_is)
-    (silent_on c.args.unit c.args.room (lent_job c.args.system.now c.args.job.now) c.args.region c.args.databases.now
+    (silent_on c.args.telling.now.unit c.args.telling.now.room (lent_job c.args.system.now c.args.job.now) c.args.region c.args.databases.now
     (record { calls = c.self.inside.calls; machine = c.self.inside.machine; work = c.self.inside.work; positions = c.self.inside.positions.items })
     c.in-Ok.need c.in-Ok.ensures.need
-    c.args.told.now.items (λ trial. rw c.in-Ended.is refl))
+    c.args.telling.now.told.items (λ trial. rw c.in-Ended.is refl))
 
 pub returns-in-Abend-clause-tells : goal.returns-in-Abend-clause-tells
 returns-in-Abend-clause-tells c =
     rw (sym c.self.view_is)
-    (silent_on c.args.unit c.args.room (lent_job c.args.system.now c.args.job.now) c.args.region c.args.databases.now
+    (silent_on c.args.telling.now.unit c.args.telling.now.room (lent_job c.args.system.now c.args.job.now) c.args.region c.args.databases.now
     (record { calls = c.self.inside.calls; machine = c.self.inside.machine; work = c.self.inside.work; positions = c.self.inside.positions.items })
     c.in-Ok.need c.in-Ok.ensures.need
-    c.args.told.now.items (λ trial. rw c.in-Abend.is refl))
+    c.args.telling.now.told.items (λ trial. rw c.in-Abend.is refl))
 
 pub returns-then-is_sync-clause-tells : goal.returns-then-is_sync-clause-tells
 returns-then-is_sync-clause-tells c =
     rw (sym c.self.view_is)
-    (sync_on c.args.unit c.args.room (lent_job c.args.system.now c.args.job.now) c.args.region c.args.databases.now
+    (sync_on c.args.telling.now.unit c.args.telling.now.room (lent_job c.args.system.now c.args.job.now) c.args.region c.args.databases.now
     (record { calls = c.self.inside.calls; machine = c.self.inside.machine; work = c.self.inside.work; positions = c.self.inside.positions.items })
     c.in-Ok.need c.in-Ok.ensures.need
-    c.in-Call.call c.in-Call.is c.args.told.now.items (sym c.is_sync.ensures ∙ c.if-is_sync.true))
+    c.in-Call.call c.in-Call.is c.args.telling.now.told.items (sym c.is_sync.ensures ∙ c.if-is_sync.true))
 
 pub returns-in-Ok-Answered-clause-tells : goal.returns-in-Ok-Answered-clause-tells
 returns-in-Ok-Answered-clause-tells c =
     rw (sym c.self.view_is)
-    (told_on c.args.unit c.args.room (lent_job c.args.system.now c.args.job.now) c.args.region c.args.databases.now
+    (told_on c.args.telling.now.unit c.args.telling.now.room (lent_job c.args.system.now c.args.job.now) c.args.region c.args.databases.now
     (record { calls = c.self.inside.calls; machine = c.self.inside.machine; work = c.self.inside.work; positions = c.self.inside.positions.items })
     c.in-Ok.need c.in-Ok.ensures.need
-    c.in-Call.call c.in-Call.is c.answer.new.databases c.args.told.now.items c.answer.new.told.items c.in-Ok-Answered.ensures.tells)
+    c.in-Call.call c.in-Call.is c.answer.new.databases c.args.telling.now.told.items c.answer.new.telling.told.items c.in-Ok-Answered.ensures.tells)
 
 pub returns-in-Ok-Waits-clause-tells : goal.returns-in-Ok-Waits-clause-tells
 returns-in-Ok-Waits-clause-tells c =
     rw (sym c.self.view_is)
-    (told_on c.args.unit c.args.room (lent_job c.args.system.now c.args.job.now) c.args.region c.args.databases.now
+    (told_on c.args.telling.now.unit c.args.telling.now.room (lent_job c.args.system.now c.args.job.now) c.args.region c.args.databases.now
     (record { calls = c.self.inside.calls; machine = c.self.inside.machine; work = c.self.inside.work; positions = c.self.inside.positions.items })
     c.in-Ok.need c.in-Ok.ensures.need
-    c.in-Call.call c.in-Call.is c.answer.new.databases c.args.told.now.items c.answer.new.told.items c.in-Ok-Waits.ensures.tells)
+    c.in-Call.call c.in-Call.is c.answer.new.databases c.args.telling.now.told.items c.answer.new.telling.told.items c.in-Ok-Waits.ensures.tells)
 
 pub returns-in-Ok-Abended-clause-tells : goal.returns-in-Ok-Abended-clause-tells
 returns-in-Ok-Abended-clause-tells c =
     rw (sym c.self.view_is)
-    (told_on c.args.unit c.args.room (lent_job c.args.system.now c.args.job.now) c.args.region c.args.databases.now
+    (told_on c.args.telling.now.unit c.args.telling.now.room (lent_job c.args.system.now c.args.job.now) c.args.region c.args.databases.now
     (record { calls = c.self.inside.calls; machine = c.self.inside.machine; work = c.self.inside.work; positions = c.self.inside.positions.items })
     c.in-Ok.need c.in-Ok.ensures.need
-    c.in-Call.call c.in-Call.is c.answer.new.databases c.args.told.now.items c.answer.new.told.items c.in-Ok-Abended.ensures.tells)
+    c.in-Call.call c.in-Call.is c.answer.new.databases c.args.telling.now.told.items c.answer.new.telling.told.items c.in-Ok-Abended.ensures.tells)
 
 pub returns-in-Err-answer-clause-full : goal.returns-in-Err-answer-clause-full
 returns-in-Err-answer-clause-full c =
     rw (sym c.self.view_is)
-    (untold_on c.args.unit c.args.room (lent_job c.args.system.now c.args.job.now) c.args.region c.args.databases.now
+    (untold_on c.args.telling.now.unit c.args.telling.now.room (lent_job c.args.system.now c.args.job.now) c.args.region c.args.databases.now
     (record { calls = c.self.inside.calls; machine = c.self.inside.machine; work = c.self.inside.work; positions = c.self.inside.positions.items })
     c.in-Ok.need c.in-Ok.ensures.need
     c.in-Call.call c.in-Call.is c.in-Err-answer.error c.in-Err-answer.ensures.full)

@@ -77,27 +77,27 @@ returns-in-Ok-Abend-clause-tells c =
     let stands : slice_get c.args.self.now.positions (c.args.call.pcb - 1) ≡ Some c.position_of-at.result.now =
     ap (λ (ps : List Position). slice_get ps (c.args.call.pcb - 1)) (sym (ap (λ (r : RunState). r.positions) c.self.view_is) ∙ sym c.deref.ensures.value) ∙ c.position_of-at.ensures in
     tells_so c.args.system.now c.args.region c.args.databases.now c.args.self.now c.args.call c.args.number c.args.options c.database_numbered-dbd.result.now c.position_of-at.result.now c.database_numbered-dbd.ensures.value stands
-    c.args.unit c.args.room c.call.new.self c.args.told.now.items c.call.new.told.items c.in-Ok-Abend.ensures.tells c.in-Ok-Abend.ensures.slots
+    c.args.telling.now.unit c.args.telling.now.room c.call.new.self c.args.telling.now.told.items c.call.new.telling.told.items c.in-Ok-Abend.ensures.tells c.in-Ok-Abend.ensures.slots
 
 pub returns-in-Ok-Blocked-clause-tells : goal.returns-in-Ok-Blocked-clause-tells
 returns-in-Ok-Blocked-clause-tells c =
     let stands : slice_get c.args.self.now.positions (c.args.call.pcb - 1) ≡ Some c.position_of-at.result.now =
     ap (λ (ps : List Position). slice_get ps (c.args.call.pcb - 1)) (sym (ap (λ (r : RunState). r.positions) c.self.view_is) ∙ sym c.deref.ensures.value) ∙ c.position_of-at.ensures in
     tells_so c.args.system.now c.args.region c.args.databases.now c.args.self.now c.args.call c.args.number c.args.options c.database_numbered-dbd.result.now c.position_of-at.result.now c.database_numbered-dbd.ensures.value stands
-    c.args.unit c.args.room c.call.new.self c.args.told.now.items c.call.new.told.items c.in-Ok-Blocked.ensures.tells c.in-Ok-Blocked.ensures.slots
+    c.args.telling.now.unit c.args.telling.now.room c.call.new.self c.args.telling.now.told.items c.call.new.telling.told.items c.in-Ok-Blocked.ensures.tells c.in-Ok-Blocked.ensures.slots
 
 pub returns-in-Ok-Answered-clause-tells : goal.returns-in-Ok-Answered-clause-tells
 returns-in-Ok-Answered-clause-tells c =
     let stands : slice_get c.args.self.now.positions (c.args.call.pcb - 1) ≡ Some c.position_of-at.result.now =
     ap (λ (ps : List Position). slice_get ps (c.args.call.pcb - 1)) (sym (ap (λ (r : RunState). r.positions) c.self.view_is) ∙ sym c.deref.ensures.value) ∙ c.position_of-at.ensures in
     tells_so c.args.system.now c.args.region c.args.databases.now c.args.self.now c.args.call c.args.number c.args.options c.database_numbered-dbd.result.now c.position_of-at.result.now c.database_numbered-dbd.ensures.value stands
-    c.args.unit c.args.room c.call.new.self c.args.told.now.items c.call.new.told.items c.in-Ok-Answered.ensures.tells c.in-Ok-Answered.ensures.slots
+    c.args.telling.now.unit c.args.telling.now.room c.call.new.self c.args.telling.now.told.items c.call.new.telling.told.items c.in-Ok-Answered.ensures.tells c.in-Ok-Answered.ensures.slots
 
 pub returns-in-Ok-Abend-clause-quiet : goal.returns-in-Ok-Abend-clause-quiet
 returns-in-Ok-Abend-clause-quiet c =
-    quiet_abend _ _ c.in-Ok-Abend.abend _ c.args.room c.args.told.now.items c.call.new.told.items (rw c.in-Ok-Abend.field-0-is at c.in-Ok-Abend.ensures.abend) c.in-Ok-Abend.ensures.tells
+    quiet_abend _ _ c.in-Ok-Abend.abend _ c.args.telling.now.room c.args.telling.now.told.items c.call.new.telling.told.items (rw c.in-Ok-Abend.field-0-is at c.in-Ok-Abend.ensures.abend) c.in-Ok-Abend.ensures.tells
 
 pub returns-in-Ok-Blocked-clause-quiet : goal.returns-in-Ok-Blocked-clause-quiet
 returns-in-Ok-Blocked-clause-quiet c =
-    quiet_blocked _ (c.in-Ok-Blocked.blocked.resource, c.in-Ok-Blocked.blocked.by) _ _ c.args.room c.args.told.now.items c.call.new.told.items
+    quiet_blocked _ (c.in-Ok-Blocked.blocked.resource, c.in-Ok-Blocked.blocked.by) _ _ c.args.telling.now.room c.args.telling.now.told.items c.call.new.telling.told.items
     (rw c.in-Ok-Blocked.field-0-is at c.in-Ok-Blocked.ensures.blocked) c.in-Ok-Blocked.ensures.tells

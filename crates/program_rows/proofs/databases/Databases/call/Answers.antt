@@ -7,5 +7,5 @@ call-requires-clause-last c = (has_unit c.self.inside.opened c.args.self.now c.a
 
 pub invariant_of-self : goal.invariant_of-self
 invariant_of-self c =
-    whole_after c.args.unit c.args.region c.args.number c.args.dbd.now c.args.call.now c.args.at.now c.self.inside.opened c.call.new.opened c.call.result c.self.invariant c.call.ensures.done c.call.ensures.touch c.call.ensures.slots
+    whole_after c.args.telling.now.unit c.args.region c.args.number c.args.dbd.now c.args.call.now c.args.at.now c.self.inside.opened c.call.new.opened c.call.result c.self.invariant c.call.ensures.done c.call.ensures.touch c.call.ensures.slots
     c.call.ensures.kept

@@ -18,12 +18,12 @@ tell_slots-requires c =
 
 pub returns-clause-tells : goal.returns-clause-tells
 returns-clause-tells c =
-    subst (λ (rs : List Record). OnOk c.tell_slots.result (TellsInRoom rs c.args.room c.args.told.now.items c.tell_slots.new.told.items))
-    (back_told_is c.args.unit c.self.inside.opened c.args.self.now c.args.region c.deref.result.now c.unit_of.result.now c.touched.result.now c.self.inside.opened.stores.stores
+    subst (λ (rs : List Record). OnOk c.tell_slots.result (TellsInRoom rs c.args.telling.now.room c.args.telling.now.told.items c.tell_slots.new.telling.told.items))
+    (back_told_is c.args.telling.now.unit c.self.inside.opened c.args.self.now c.args.region c.deref.result.now c.unit_of.result.now c.touched.result.now c.self.inside.opened.stores.stores
     c.self.view_is c.deref.ensures.value c.unit_of.ensures c.touched.ensures.value refl) c.tell_slots.ensures.tells
 
 pub returns-clause-full : goal.returns-clause-full
 returns-clause-full c =
-    subst (λ (rs : List Record). IfErr c.tell_slots.result (AreRecordsUntold rs c.args.room))
-    (back_told_is c.args.unit c.self.inside.opened c.args.self.now c.args.region c.deref.result.now c.unit_of.result.now c.touched.result.now c.self.inside.opened.stores.stores
+    subst (λ (rs : List Record). IfErr c.tell_slots.result (AreRecordsUntold rs c.args.telling.now.room))
+    (back_told_is c.args.telling.now.unit c.self.inside.opened c.args.self.now c.args.region c.deref.result.now c.unit_of.result.now c.touched.result.now c.self.inside.opened.stores.stores
     c.self.view_is c.deref.ensures.value c.unit_of.ensures c.touched.ensures.value refl) c.tell_slots.ensures.full

@@ -57,7 +57,7 @@ returns-clause-told c =
     ap (λ rs. slice_get rs (c.args.region - 1)) (sym c.deref.ensures.value) ∙ c.busy_at-busy.ensures in
     let region = (rw (← c.self.view_is) at c.requires.region) in
     let ends = (rw (← c.self.view_is) at c.requires.ends) in
-    rw (sym c.self.view_is) (abended_tells c.self.inside.system c.self.inside.tables c.self.inside.codes c.self.inside.regions.items c.args.region c.self.invariant c.busy_at-busy.result.now e region c.args.unit c.args.room c.args.abend ends c.args.told.now.items c.discard.new.told.items c.in_ok-discard.ensures.told)
+    rw (sym c.self.view_is) (abended_tells c.self.inside.system c.self.inside.tables c.self.inside.codes c.self.inside.regions.items c.args.region c.self.invariant c.busy_at-busy.result.now e region c.args.telling.now.unit c.args.telling.now.room c.args.abend ends c.args.telling.now.told.items c.discard.new.telling.told.items c.in_ok-discard.ensures.told)
 
 pub returns-in_err-discard-clause-full : goal.returns-in_err-discard-clause-full
 returns-in_err-discard-clause-full c =
@@ -65,7 +65,7 @@ returns-in_err-discard-clause-full c =
     ap (λ rs. slice_get rs (c.args.region - 1)) (sym c.deref.ensures.value) ∙ c.busy_at-busy.ensures in
     let region = (rw (← c.self.view_is) at c.requires.region) in
     let ends = (rw (← c.self.view_is) at c.requires.ends) in
-    rw (sym c.self.view_is) (err_where c.from_residual.result (abended_longer c.self.inside.system c.self.inside.tables c.self.inside.codes c.self.inside.regions.items c.args.region c.self.invariant c.busy_at-busy.result.now e region c.args.unit c.args.room c.args.abend ends) (search rules))
+    rw (sym c.self.view_is) (err_where c.from_residual.result (abended_longer c.self.inside.system c.self.inside.tables c.self.inside.codes c.self.inside.regions.items c.args.region c.self.invariant c.busy_at-busy.result.now e region c.args.telling.now.unit c.args.telling.now.room c.args.abend ends) (search rules))
 
 pub returns-clause-slots : goal.returns-clause-slots
 returns-clause-slots c = rw (sym c.self.view_is) c.in_ok-discard.ensures.databases.slots

@@ -9,7 +9,7 @@ returns-in-Err-clause-answer c =
 
 pub returns-in-Err-clause-told : goal.returns-in-Err-clause-told
 returns-in-Err-clause-told c =
-    rw (sym c.self.view_is) (refused_tells c.self.inside.system _ c.args.room c.args.terminal.now c.args.number c.args.segments.now c.args.told.now.items c.in-Err.answer (rw (← c.self.view_is) at c.in-Err.ensures.refused))
+    rw (sym c.self.view_is) (refused_tells c.self.inside.system _ c.args.telling.now.room c.args.terminal.now c.args.number c.args.segments.now c.args.telling.now.told.items c.in-Err.answer (rw (← c.self.view_is) at c.in-Err.ensures.refused))
 
 pub returns-in-Err-clause-no_fault : goal.returns-in-Err-clause-no_fault
 returns-in-Err-clause-no_fault c = refused_unfaulted _ c.in-Err.answer c.in-Err.ensures.refused

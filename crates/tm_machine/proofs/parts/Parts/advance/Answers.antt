@@ -76,8 +76,8 @@ returns-clause-tells c =
     rw (sym c.self.view_is)
     (on_map c.advance.result
     (next_of c.self.inside.system c.self.inside.tables c.self.inside.codes c.self.inside.regions.items c.args.region c.self.invariant
-    (TellsNext c.args.unit c.args.room c.args.region c.self.inside.tables.databases c.advance.new.tables.databases c.args.told.now.items c.advance.new.told.items)
-    c.args.unit c.index_mut.result.now get) c.advance.ensures.tells)
+    (TellsNext c.args.telling.now.unit c.args.telling.now.room c.args.region c.self.inside.tables.databases c.advance.new.tables.databases c.args.telling.now.told.items c.advance.new.telling.told.items)
+    c.args.telling.now.unit c.index_mut.result.now get) c.advance.ensures.tells)
 
 pub returns-clause-full : goal.returns-clause-full
 returns-clause-full c =
@@ -88,4 +88,4 @@ returns-clause-full c =
     rw (sym c.self.view_is)
     (if_err_map c.advance.result
     (λ error. where_full error (next_of c.self.inside.system c.self.inside.tables c.self.inside.codes c.self.inside.regions.items c.args.region c.self.invariant
-    (λ records. c.args.room < length (spelled_records records)) c.args.unit c.index_mut.result.now get)) c.advance.ensures.full)
+    (λ records. c.args.telling.now.room < length (spelled_records records)) c.args.telling.now.unit c.index_mut.result.now get)) c.advance.ensures.full)

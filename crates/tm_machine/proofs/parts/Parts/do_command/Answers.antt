@@ -34,4 +34,4 @@ returns-clause-databases c =
 
 pub returns-in_err-command-clause-full : goal.returns-in_err-command-clause-full
 returns-in_err-command-clause-full c =
-    err_where c.from_residual.result (λ (h : AreRecordsLonger 0 c.args.room (Commands c.args.command.now) c.self.inside.tables). h (settings_of c.self.inside.codes)) (search rules)
+    err_where c.from_residual.result (λ (h : AreRecordsLonger 0 c.args.telling.now.room (Commands c.args.command.now) c.self.inside.tables). h (settings_of c.self.inside.codes)) (search rules)

@@ -52,7 +52,7 @@ returns-in-Ok-New-clause-told c =
     let told = (rw c.in-Ok-New.field-0-is at c.in-Ok-New.ensures.told) in
     let new = (rw (← c.self.view_is) at c.requires.new) in
     let kept = kept_here c.self.inside.system c.self.inside.tables c.self.inside.codes c.self.inside.regions.items c.self.invariant c.args.terminal.now c.args.number c.args.segments.now c.args.input c.in-Ok.kept new c.in-Ok.ensures in
-    rw (sym c.self.view_is) (new_tells c.self.inside.system c.self.inside.tables c.self.inside.codes c.self.inside.regions.items c.self.invariant c.args.terminal.now c.args.number c.args.segments.now c.in-Ok.kept kept c.args.input c.requires.segment c.count_busy-busy.result (c.count_busy-busy.ensures ∙ ap (count_by is_some) c.deref.ensures.value) new c.args.room c.in-Ok-New.id ok.0 ok.1 c.args.told.now.items c.enqueue.new.told.items told)
+    rw (sym c.self.view_is) (new_tells c.self.inside.system c.self.inside.tables c.self.inside.codes c.self.inside.regions.items c.self.invariant c.args.terminal.now c.args.number c.args.segments.now c.in-Ok.kept kept c.args.input c.requires.segment c.count_busy-busy.result (c.count_busy-busy.ensures ∙ ap (count_by is_some) c.deref.ensures.value) new c.args.telling.now.room c.in-Ok-New.id ok.0 ok.1 c.args.telling.now.told.items c.enqueue.new.telling.told.items told)
 
 pub returns-in-Ok-Full-clause-told : goal.returns-in-Ok-Full-clause-told
 returns-in-Ok-Full-clause-told c =
@@ -60,13 +60,13 @@ returns-in-Ok-Full-clause-told c =
     let told = (rw c.in-Ok-Full.field-0-is at c.in-Ok-Full.ensures.told) in
     let new = (rw (← c.self.view_is) at c.requires.new) in
     let kept = kept_here c.self.inside.system c.self.inside.tables c.self.inside.codes c.self.inside.regions.items c.self.invariant c.args.terminal.now c.args.number c.args.segments.now c.args.input c.in-Ok.kept new c.in-Ok.ensures in
-    rw (sym c.self.view_is) (full_tells c.self.inside.system c.self.inside.tables c.self.inside.codes c.self.inside.regions.items c.self.invariant c.args.terminal.now c.args.number c.args.segments.now c.in-Ok.kept kept c.args.input c.requires.segment c.count_busy-busy.result (c.count_busy-busy.ensures ∙ ap (count_by is_some) c.deref.ensures.value) new c.args.room c.in-Ok-Full.need c.in-Ok-Full.limit ok.0 ok.1 ok.2 c.args.told.now.items c.enqueue.new.told.items told)
+    rw (sym c.self.view_is) (full_tells c.self.inside.system c.self.inside.tables c.self.inside.codes c.self.inside.regions.items c.self.invariant c.args.terminal.now c.args.number c.args.segments.now c.in-Ok.kept kept c.args.input c.requires.segment c.count_busy-busy.result (c.count_busy-busy.ensures ∙ ap (count_by is_some) c.deref.ensures.value) new c.args.telling.now.room c.in-Ok-Full.need c.in-Ok-Full.limit ok.0 ok.1 ok.2 c.args.telling.now.told.items c.enqueue.new.telling.told.items told)
 
 pub returns-in-Err-clause-full : goal.returns-in-Err-clause-full
 returns-in-Err-clause-full c =
     let new = (rw (← c.self.view_is) at c.requires.new) in
     let kept = kept_here c.self.inside.system c.self.inside.tables c.self.inside.codes c.self.inside.regions.items c.self.invariant c.args.terminal.now c.args.number c.args.segments.now c.args.input c.in-Ok.kept new c.in-Ok.ensures in
-    rw (sym c.self.view_is) (where_full c.in-Err.untold (new_longer c.self.inside.system c.self.inside.tables c.self.inside.codes c.self.inside.regions.items c.self.invariant c.args.terminal.now c.args.number c.args.segments.now c.in-Ok.kept kept c.args.input c.requires.segment c.count_busy-busy.result (c.count_busy-busy.ensures ∙ ap (count_by is_some) c.deref.ensures.value) new c.args.room) c.in-Err.ensures.full)
+    rw (sym c.self.view_is) (where_full c.in-Err.untold (new_longer c.self.inside.system c.self.inside.tables c.self.inside.codes c.self.inside.regions.items c.self.invariant c.args.terminal.now c.args.number c.args.segments.now c.in-Ok.kept kept c.args.input c.requires.segment c.count_busy-busy.result (c.count_busy-busy.ensures ∙ ap (count_by is_some) c.deref.ensures.value) new c.args.telling.now.room) c.in-Err.ensures.full)
 
 pub returns-in-Ok-New-clause-databases : goal.returns-in-Ok-New-clause-databases
 returns-in-Ok-New-clause-databases c =
