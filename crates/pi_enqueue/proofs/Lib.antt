@@ -7,3 +7,4 @@ pub mod Keeping
 pub mod Asking
 pub mod Laws
 pub mod Alone
+pub mod Served

@@ -1,16 +1,20 @@
 -- Several requests of one region.
-use Rattle.std.specs.Prelude.{◌≡◌, ℕ, List, [], ◌∷◌, None}
+use Rattle.std.specs.Prelude.{◌≡◌, ℕ, true, List, [], ◌∷◌, None}
 use Rattle.std.specs.List.{AllByRecursion}
 use Rattle.tm_types.specs.declared.resource.Mode.{Mode}
 use Rattle.model_data.specs.declared.request.Holder.{Holder}
 use Rattle.model_data.specs.declared.request.Request.{Request}
-use Rattle.model_data.specs.Table.{EnqueueTable, blocked_by}
+use Rattle.model_data.specs.Table.{EnqueueTable, blocked_by, is_request_served}
 use Rattle.model_data.specs.EnqueueRequests.{with_hold, without_wait, granted}
 use Rattle.pi_enqueue.specs.declared.table.Blocked.{Blocked}
 
 -- none of these requests is blocked
 abbrev pub AreRequestsFree : List Request → EnqueueTable → Type 0
 AreRequestsFree requests table = AllByRecursion (λ request. blocked_by request table ≡ None) requests
+
+-- all that is asked for is held already, in the same or a stronger mode
+abbrev pub AreRequestsServed : List Request → List (Holder × Mode) → Type 0
+AreRequestsServed requests holds = AllByRecursion (λ request. is_request_served request holds ≡ true) requests
 
 -- the region gets all that it asks for
 abbrev pub granted_all : List Request → EnqueueTable → EnqueueTable

@@ -214,6 +214,32 @@ pub fn hold_all(
     ensures listed { AreListed lists.new.items holds.new.entries }
     ensures all { length lists.new.items ≡ length lists.old.items }
 {
+    if requests.len() == 1 {
+        return match hold_one(holds, lists, &requests[0]) {
+            Ok(_) => Ok(()),
+            Err(error) => Err(error),
+        };
+    }
+    hold_several(alloc, holds, lists, region, requests)
+}
+
+// The same for requests of which some may have to be taken back.
+fn hold_several(
+    alloc: Global,
+    holds: &mut BTreeMap<Holder, Mode>,
+    lists: &mut Vec<Held>,
+    region: u32,
+    requests: &[Request],
+) -> Result<(), Memory>
+    requires first { 1 ≤ region }
+    requires last { region ≤ length lists.old.items }
+    requires own { AllByRecursion (λ request. request.region ≡ region) requests.now }
+    requires listed { AreListed lists.old.items holds.old.entries }
+    ensures ok { OnOk result (holds.new.entries ≡ with_holds requests.now holds.old.entries) }
+    ensures err { OnErr result (holds.new.entries ≡ holds.old.entries) }
+    ensures listed { AreListed lists.new.items holds.new.entries }
+    ensures all { length lists.new.items ≡ length lists.old.items }
+{
     let mut changes = Vec::new(alloc);
     match hold_each(holds, lists, &mut changes, region, requests) {
         Ok(()) => Ok(()),
@@ -266,13 +292,33 @@ fn hold(
     ensures all { length lists.new.items ≡ length lists.old.items }
 {
     changes.reserve(1)?;
+    let before = hold_one(holds, lists, request)?;
+    note(changes, &asker(request), before);
+    Ok(())
+}
+
+// The region holds what it asks for too, and the mode in which it held that is told. Where no memory is left
+// it holds what it held.
+fn hold_one(
+    holds: &mut BTreeMap<Holder, Mode>,
+    lists: &mut Vec<Held>,
+    request: &Request,
+) -> Result<Option<Mode>, Memory>
+    requires first { 1 ≤ request.now.region }
+    requires last { request.now.region ≤ length lists.old.items }
+    requires listed { AreListed lists.old.items holds.old.entries }
+    ensures ok { OnOk result (holds.new.entries ≡ with_hold request.now holds.old.entries) }
+    ensures told { IfOk result (λ before. before ≡ mode_held request.now holds.old.entries) }
+    ensures err { OnErr result (holds.new.entries ≡ holds.old.entries) }
+    ensures was_ordered { OnOk result (IsStrictlySortedBy holder_cmp (keys_of holds.old.entries)) }
+    ensures listed { OnOk result (AreListed lists.new.items holds.new.entries) }
+    ensures stay { StayListed lists.old.items lists.new.items }
+    ensures all { length lists.new.items ≡ length lists.old.items }
+{
     let before = strengthen(holds, request)?;
     let holder = asker(request);
     match list_new(lists, &holder, before) {
-        Ok(()) => {
-            note(changes, &holder, before);
-            Ok(())
-        }
+        Ok(()) => Ok(before),
         Err(error) => {
             give_mode(holds, &holder, before);
             Err(error)

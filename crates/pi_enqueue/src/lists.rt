@@ -3,12 +3,12 @@ ghost use Rattle.std.specs.Prelude.{◌≡◌, ◌==◌, ◌≤◌, ◌++◌, []
 ghost use Rattle.std.specs.List.{AllByRecursion, list_any};
 ghost use Rattle.std.specs.Option.{option_and_then, option_copied, option_map};
 ghost use Rattle.std.specs.Map.{keys_of};
-ghost use Rattle.model_data.specs.Table.{empty_table, ahead, blockers, blocked_by, wait_of};
+ghost use Rattle.model_data.specs.Table.{empty_table, ahead, blockers, blocked_by, wait_of, is_request_served};
 ghost use Rattle.model_data.specs.EnqueueRequests.{with_waiter, waits_only_for, waits_for_nothing, released, after_asks, first_blocked};
 ghost use Rattle.model_data.specs.declared.request.Request.{Request};
 ghost use Rattle.model_data.specs.Cycle.{IsTableRegion};
 ghost use Rattle.pi_enqueue.specs.Lists.{table_of_lists, IsUpTo, AreListsKept, AreListed, HasRoomInQueues};
-ghost use Rattle.pi_enqueue.specs.Grants.{AreRequestsFree, granted_all, blocked_told};
+ghost use Rattle.pi_enqueue.specs.Grants.{AreRequestsFree, AreRequestsServed, granted_all, blocked_told};
 
 use crate::held::{Held, are_others_empty, empty_lists};
 use crate::holds::{first_against, hold_all, is_against, is_served, mode_held, release};
@@ -37,6 +37,21 @@ pub struct Lists {
 pub struct Stop {
     pub place: usize,
     pub by: u32,
+}
+
+/// How a row of requests of one region goes on: where it stops, if anywhere, and whether the region is seen to
+/// hold all of it already.
+#[derive(Clone, Copy, Debug)]
+pub struct Course {
+    pub stop: Option<Stop>,
+    pub held: bool,
+}
+
+/// Which region blocks a request, if any, and whether its own region holds what it asks for already.
+#[derive(Clone, Copy, Debug)]
+pub struct Standing {
+    pub by: Option<u32>,
+    pub held: bool,
 }
 
 /// A blocked request as it is told.
@@ -70,13 +85,31 @@ impl Lists {
         requires { AllByRecursion (IsUpTo self.now.regions) (keys_of self.now.holds.entries) }
         ensures { result ≡ blocked_by request.now (table_of_lists self.now) }
     {
+        self.standing(request).by
+    }
+
+    // How a request stands, by one look at what its region holds.
+    fn standing(&self, request: &Request) -> Standing
+        requires { AllByRecursion (IsUpTo self.now.regions) (keys_of self.now.holds.entries) }
+        ensures by { result.by ≡ blocked_by request.now (table_of_lists self.now) }
+        ensures held { result.held ≡ is_request_served request.now self.now.holds.entries }
+    {
         let held = mode_held(&self.holds, request);
         if is_served(held, request.mode) {
-            return None;
+            return Standing {
+                by: None,
+                held: true,
+            };
         }
         match first_against(&self.holds, self.regions, request) {
-            Some(region) => Some(region),
-            None => self.first_waiter(request, held.is_some()),
+            Some(region) => Standing {
+                by: Some(region),
+                held: false,
+            },
+            None => Standing {
+                by: self.first_waiter(request, held.is_some()),
+                held: false,
+            },
         }
     }
 
@@ -153,16 +186,42 @@ impl Lists {
         ensures here { IfSome result (λ stop. option_and_then (λ request. blocked_by request (table_of_lists self.now)) (slice_get requests.now stop.place) ≡ Some stop.by) }
         ensures none { IfNone result (AreRequestsFree requests.now (table_of_lists self.now)) }
     {
+        self.course_of(region, requests).stop
+    }
+
+    // How these requests of the region go on, by one look at what it holds for each.
+    fn course_of(&self, region: u32, requests: &[Request]) -> Course
+        requires first { 1 ≤ region }
+        requires last { region ≤ length self.now.held.items }
+        requires own { AllByRecursion (λ request. request.region ≡ region) requests.now }
+        requires small { AllByRecursion (IsUpTo self.now.regions) (keys_of self.now.holds.entries) }
+        requires listed { AreListed self.now.held.items self.now.holds.entries }
+        ensures before { IfSome result.stop (λ stop. AreRequestsFree (take stop.place requests.now) (table_of_lists self.now)) }
+        ensures here { IfSome result.stop (λ stop. option_and_then (λ request. blocked_by request (table_of_lists self.now)) (slice_get requests.now stop.place) ≡ Some stop.by) }
+        ensures none { IfNone result.stop (AreRequestsFree requests.now (table_of_lists self.now)) }
+        ensures held { result.held ≡ true → AreRequestsServed requests.now self.now.holds.entries }
+    {
         if self.is_alone(region) {
-            return None;
+            return Course {
+                stop: None,
+                held: false,
+            };
         }
+        let mut held = true;
         for (place, request) in requests.iter().enumerate() {
-            match self.blocked_by(request) {
-                Some(by) => return Some(Stop { place, by }),
+            let standing = self.standing(request);
+            match standing.by {
+                Some(by) => {
+                    return Course {
+                        stop: Some(Stop { place, by }),
+                        held: false,
+                    };
+                }
                 None => {}
             }
+            held &= standing.held;
         }
-        None
+        Course { stop: None, held }
     }
 
     /// The region gets all that it asks for. Where no memory is left nothing changes that is seen.
@@ -255,7 +314,12 @@ impl Lists {
         ensures listed { AreListed self.new.held.items self.new.holds.entries }
         ensures all { length self.new.held.items ≡ length self.old.held.items }
     {
-        match self.stop_of(region, requests) {
+        let course = self.course_of(region, requests);
+        if course.held {
+            self.stop_waiting(region);
+            return Ok(None);
+        }
+        match course.stop {
             Some(stop) => self.ask_up_to(region, requests, stop),
             None => {
                 self.grant_all(region, requests)?;
