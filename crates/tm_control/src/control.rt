@@ -255,7 +255,7 @@ impl<D: Disk> Control<D> {
         requires up { self.old.up ≡ true }
         requires room { 0 < self.old.control.room }
         ensures shown { IsShownTo (terminal_at (control_moment self.old.control).lasting.terminals terminal.now) (output_at (control_moment self.old.control).lasting.outputs terminal.now) result }
-        ensures* shows { sem 𝓛 (Rests (the_row D.row D.Disk) self.entry (λ new. Shows D.state self.old new (Show terminal.now (show_answer (now_of self.old.control) terminal.now)))) }
+        ensures* shows { sem 𝓛 (Rests (the_row D.row D.Disk) self.entry (λ new. Shows D.state self.old new (Show terminal.now (show_answer (control_moment self.old.control) terminal.now)))) }
     {
         let answer = self.machine.show_answer(terminal);
         self.history.push_reserved(Entry::Show(*terminal, answer));
