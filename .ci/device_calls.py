@@ -5,7 +5,8 @@ import os
 import subprocess
 
 HERE = os.path.dirname(os.path.abspath(__file__))
-KIT = os.environ.get("RATTLE_KIT", "/opt/rattle")
+# The kit's folder has the page that its command names.
+KIT = os.environ.get("RATTLE_KIT") or os.path.dirname(subprocess.run(["rt", "doc"], stdout=subprocess.PIPE, text=True, check=True).stdout.strip())
 CLANG = [
     f"{KIT}/toolchain/bin/clang", "--target=x86_64-unknown-linux-gnu", f"--sysroot={KIT}/toolchain", "--no-default-config", "-nostdinc",
     "-nostdlib", "-fuse-ld=lld", "-shared", "-fPIC", "-O1",
