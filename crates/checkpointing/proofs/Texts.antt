@@ -49,9 +49,12 @@ module _ (parts : CheckpointParts) (log : Writer) (stores : AllStores) (a : Imag
       prepares
 
   pub prepares_text : (e : Image) → Prepares parts log stores a e → KeepsText parts.system a e
-  prepares_text e prepares text has r found =
-      text_alike a e r.text (λ k some low. prepares_low e prepares k low)
-      ∙ has r (sym (ap (restart_of (snapshot_area parts.system)) (prepares_low e prepares 0 (omega arith))) ∙ found)
+  prepares_text e prepares =
+      let same : restart_in (snapshot_area parts.system) e ≡ restart_in (snapshot_area parts.system) a = ap (restart_of (snapshot_area parts.system)) (prepares_low e prepares 0 (omega arith)) in
+      record {
+        text = λ text has r found. text_alike a e r.text (λ k some low. prepares_low e prepares k low) ∙ has r (sym same ∙ found);
+        number = λ low is. record { restart = is.restart; found = same ∙ is.found; least = is.least };
+      }
 
   -- and the new one is of the same text
   written_low : (e : Image) → IsCheckpointed parts log stores a e → (k : ℕ) → 1 ≤ k → k < 65 → sector_at e k ≡ sector_at a k
@@ -69,8 +72,13 @@ module _ (parts : CheckpointParts) (log : Writer) (stores : AllStores) (a : Imag
       (done.elsewhere k)
 
   pub written_text : (e : Image) → (next_restart parts log).sectors ≤ snapshot_area parts.system → IsCheckpointed parts log stores a e → KeepsText parts.system a e
-  written_text e few done text has r found =
-      let same : r ≡ next_restart parts log = one_restart (restart_in (snapshot_area parts.system) e) r (next_restart parts log) found (done.restart (snapshot_area parts.system) few) in
-      ap (λ (x : RestartSector). text_in e x.text) same
-      ∙ text_alike a e parts.now.text (written_low e done)
-      ∙ has parts.now s.now
+  written_text e few done = record {
+    text = λ text has r found.
+        let same : r ≡ next_restart parts log = one_restart (restart_in (snapshot_area parts.system) e) r (next_restart parts log) found (done.restart (snapshot_area parts.system) few) in
+        ap (λ (x : RestartSector). text_in e x.text) same
+        ∙ text_alike a e parts.now.text (written_low e done)
+        ∙ has parts.now s.now;
+    number = λ low is.
+        let same : is.restart ≡ parts.now = one_restart (restart_in (snapshot_area parts.system) a) is.restart parts.now is.found s.now in
+        record { restart = next_restart parts log; found = done.restart (snapshot_area parts.system) few; least = omega (arith, is.least, ap (λ (x : RestartSector). x.checkpoint) same) };
+  }

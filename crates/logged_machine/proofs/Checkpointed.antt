@@ -29,7 +29,7 @@ use Rattle.logged_machine.specs.CallOutcome.{ActsOn}
 use Rattle.logged_machine.specs.LeftImages.{Brings, CrashesLeave}
 use Rattle.logged_machine.specs.Attempts.{Did, FailsIn, LeavesCounts, Refreshed, Unrefreshed, is_memory, lasting_with}
 use Rattle.logged_machine.proofs.Leaving.{leaves_same, leaves_within}
-use Rattle.logged_machine.proofs.Logging.{recover, have_text}
+use Rattle.logged_machine.proofs.Logging.{recover, have_text, numbered}
 
 module _ {D : Type 0} (state : D → DiskState) (parts parts' : PartsState) (text : List ℕ) (journal journal' : JournalState) (units : List ℕ) (next : ℕ) (disk disk' : D) (up : Bool)
     (h : IsLogged parts units next journal text (state disk)) (system : parts'.system ≡ parts.system) (moment : parts'.moment ≡ parts.moment) (stays : Stays (state disk) (state disk'))
@@ -42,7 +42,7 @@ module _ {D : Type 0} (state : D → DiskState) (parts parts' : PartsState) (tex
   abbrev pub is : Bool → LoggedState D
   is served = record { machine = parts'; text = text; served = served; journal = journal'; units = units; next_unit = next; disk = disk' }
 
-  leaves : CrashesLeave (Brings parts.system text parts.moment.lasting parts.moment.lasting) (state disk) (state disk')
+  leaves : CrashesLeave (Brings parts.system text journal.restart.checkpoint parts.moment.lasting parts.moment.lasting) (state disk) (state disk')
   leaves = record {
     later = any.later;
     from = λ time image early left.
@@ -52,7 +52,8 @@ module _ {D : Type 0} (state : D → DiskState) (parts parts' : PartsState) (tex
         (λ (d : ComesFrom (KeepsText parts.system) (state disk) image).
         inr (record {
           recovers = inl (c.by parts.moment.lasting (recover parts units next journal text (state disk) h c.before c.left));
-          has_text = d.by text (have_text parts units next journal text (state disk) h d.before d.left);
+          has_text = d.by.text text (have_text parts units next journal text (state disk) h d.before d.left);
+          numbered = d.by.number journal.restart.checkpoint (numbered parts units next journal text (state disk) h d.before d.left);
         }))
         (texts.from time image early left))
         (any.from time image early left);
@@ -146,7 +147,7 @@ pub answered_still : {D : Type 0} (state : D → DiskState) (l : LoggedState D) 
 answered_still state l entry numbers acts answered served = record {
   did = (
     record { answered = answered; numbers = numbers; acts = acts; served = served; no_fault = refl },
-    leaves_same (Brings l.machine.system l.text l.machine.moment.lasting (lasting_with l entry)) (state l.disk),
+    leaves_same (Brings l.machine.system l.text l.journal.restart.checkpoint l.machine.moment.lasting (lasting_with l entry)) (state l.disk),
   );
   keeps = (nothing state l entry served).keeps;
 }
@@ -166,8 +167,8 @@ pub counted_same : {D : Type 0} (more : ℕ) (old mid : LoggedState D) → mid �
 counted_same more old mid same counted = subst (λ (l : LoggedState _). AreCountsInRange more l.machine.moment.lasting l.next_unit l.journal) (sym same) counted
 
 -- one state or the other, where they are the same
-pub one_state : (system : System) (text : List ℕ) (before after : LastingState) (image : Image) → Brings system text before before image → Brings system text before after image
-one_state system text before after image h = record { recovers = inl (⊎_elim (λ r. r) (λ r. r) h.recovers); has_text = h.has_text }
+pub one_state : (system : System) (text : List ℕ) (low : ℕ) (before after : LastingState) (image : Image) → Brings system text low before before image → Brings system text low before after image
+one_state system text low before after image h = record { recovers = inl (⊎_elim (λ r. r) (λ r. r) h.recovers); has_text = h.has_text; numbered = h.numbered }
 
 -- no checkpoint was taken
 pub unrefreshed : {D : Type 0} (state : D → DiskState) (old new : LoggedState D) (entry : Entry) (fault : ControlFault) → old.served ≡ true → Unrefreshed state old new fault → Did state (Some fault) old new entry
@@ -178,7 +179,7 @@ unrefreshed state old new entry Disk served h = record {
     record {
       later = h.leaves.later;
       from = λ time image early left.
-          ⊎_elim (λ was_left. inl was_left) (λ (b : Brings old.machine.system old.text old.machine.moment.lasting old.machine.moment.lasting image). inr (one_state old.machine.system old.text old.machine.moment.lasting (lasting_with old entry) image b))
+          ⊎_elim (λ was_left. inl was_left) (λ (b : Brings old.machine.system old.text old.journal.restart.checkpoint old.machine.moment.lasting old.machine.moment.lasting image). inr (one_state old.machine.system old.text old.journal.restart.checkpoint old.machine.moment.lasting (lasting_with old entry) image b))
           (h.leaves.from time image early left);
     },
   );

@@ -10,7 +10,7 @@ use Rattle.model_machine.specs.declared.entry.Entry.{Entry}
 use Rattle.model_machine.specs.declared.entry.ControlFault.{ControlFault}
 use Rattle.model_machine.specs.declared.entry.ControlFault.TheVariants.{Memory, Disk, Spent}
 use Rattle.model_image.specs.RecoveredState.{Recovers}
-use Rattle.checkpointing.specs.DefinitionText.{HasText}
+use Rattle.checkpointing.specs.DefinitionText.{HasText, IsNumberedFrom}
 use Rattle.disk_law.specs.KeptImages.{RecoversEither}
 use Rattle.logged_machine.specs.LoggedState.{LoggedState, AreLasting}
 use Rattle.logged_machine.specs.CallOutcome.{KeepsMachine, WentOn, MachineGoesBy, CrashesBy, ActsOn}
@@ -60,15 +60,18 @@ module _ {D : Type 0} (state : D → DiskState) where
   -- ---- behind a checkpoint
 
   module _ (old mid new : LoggedState D) (entry : Entry) (fresh : Refreshed state old mid) where
+    lower_number : (image : Image) → IsNumberedFrom mid.machine.system mid.journal.restart.checkpoint image → IsNumberedFrom mid.machine.system old.journal.restart.checkpoint image
+    lower_number image n = record { restart = n.restart; found = n.found; least = omega (arith, n.least, fresh.number) }
+
     both : (P : LastingState) → AttemptLeaves state mid new P → AttemptLeaves state old new P
     both P leaves =
-        leaves_then (Brings old.machine.system old.text old.machine.moment.lasting old.machine.moment.lasting) (Brings mid.machine.system mid.text mid.machine.moment.lasting P)
-        (Brings old.machine.system old.text old.machine.moment.lasting P) (state old.disk) (state mid.disk) (state new.disk)
-        (λ image h. record { recovers = ⊎_elim (λ r. inl r) (λ r. inl r) h.recovers; has_text = h.has_text })
+        leaves_then (Brings old.machine.system old.text old.journal.restart.checkpoint old.machine.moment.lasting old.machine.moment.lasting) (Brings mid.machine.system mid.text mid.journal.restart.checkpoint mid.machine.moment.lasting P)
+        (Brings old.machine.system old.text old.journal.restart.checkpoint old.machine.moment.lasting P) (state old.disk) (state mid.disk) (state new.disk)
+        (λ image h. record { recovers = ⊎_elim (λ r. inl r) (λ r. inl r) h.recovers; has_text = h.has_text; numbered = h.numbered })
         (λ image h.
-        subst (λ (m : Moment). Brings old.machine.system old.text m.lasting P image) fresh.stood.moment
-        (subst (λ (t : List ℕ). Brings old.machine.system t mid.machine.moment.lasting P image) fresh.keeps.text
-        (subst (λ (s : System). Brings s mid.text mid.machine.moment.lasting P image) fresh.keeps.system h)))
+        subst (λ (m : Moment). Brings old.machine.system old.text old.journal.restart.checkpoint m.lasting P image) fresh.stood.moment
+        (subst (λ (t : List ℕ). Brings old.machine.system t old.journal.restart.checkpoint mid.machine.moment.lasting P image) fresh.keeps.text
+        (subst (λ (s : System). Brings s mid.text old.journal.restart.checkpoint mid.machine.moment.lasting P image) fresh.keeps.system (record { recovers = h.recovers; has_text = h.has_text; numbered = lower_number image h.numbered }))))
         fresh.leaves leaves
 
     same_after : lasting_with mid entry ≡ lasting_with old entry
@@ -109,23 +112,27 @@ module _ {D : Type 0} (state : D → DiskState) where
   -- ---- as callers see it
 
   module _ (old new : LoggedState D) (entry : Entry) (before : AreLasting state old) (old_disk : IsDisk (state old.disk)) (new_disk : IsDisk (state new.disk)) where
-    stands : (P : LastingState) (image : Image) → (state old.disk).may_leave image → Brings old.machine.system old.text old.machine.moment.lasting P image
-    stands P image left = record { recovers = inl (before.recover image left); has_text = before.have_text image left }
+    stands : (P : LastingState) (image : Image) → (state old.disk).may_leave image → Brings old.machine.system old.text old.journal.restart.checkpoint old.machine.moment.lasting P image
+    stands P image left = record { recovers = inl (before.recover image left); has_text = before.have_text image left; numbered = before.numbered image left }
 
     either : (P : LastingState) → AttemptLeaves state old new P → (image : Image) → (state new.disk).left_since (state old.disk).clock image → RecoversEither old.machine.system old.machine.moment.lasting P image
     either P leaves image left =
-        (leaves_all (Brings old.machine.system old.text old.machine.moment.lasting P) (state old.disk) (state new.disk) old_disk (stands P) leaves image left).recovers
+        (leaves_all (Brings old.machine.system old.text old.journal.restart.checkpoint old.machine.moment.lasting P) (state old.disk) (state new.disk) old_disk (stands P) leaves image left).recovers
 
     alone : AttemptLeaves state old new old.machine.moment.lasting → (image : Image) → (state new.disk).left_since (state old.disk).clock image → Recovers old.machine.system image (Ok old.machine.moment.lasting)
     alone leaves image left = ⊎_elim (λ r. r) (λ r. r) (either old.machine.moment.lasting leaves image left)
 
     texts : (P : LastingState) → AttemptLeaves state old new P → (image : Image) → (state new.disk).may_leave image → HasText old.machine.system old.text image
     texts P leaves image left =
-        (leaves_now (Brings old.machine.system old.text old.machine.moment.lasting P) (state old.disk) (state new.disk) old_disk new_disk (stands P) leaves image left).has_text
+        (leaves_now (Brings old.machine.system old.text old.journal.restart.checkpoint old.machine.moment.lasting P) (state old.disk) (state new.disk) old_disk new_disk (stands P) leaves image left).has_text
+
+    numbers : (P : LastingState) → AttemptLeaves state old new P → (image : Image) → (state new.disk).may_leave image → IsNumberedFrom old.machine.system old.journal.restart.checkpoint image
+    numbers P leaves image left =
+        (leaves_now (Brings old.machine.system old.text old.journal.restart.checkpoint old.machine.moment.lasting P) (state old.disk) (state new.disk) old_disk new_disk (stands P) leaves image left).numbered
 
     pub goes : (fault : Option ControlFault) → DidBy state fault old new entry → MachineGoesBy state fault old new entry
     goes None d = d.0
-    goes (Some Disk) d = record { served = d.0.served; failed = d.0.failed; have_text = texts (lasting_with old entry) d.1 }
+    goes (Some Disk) d = record { served = d.0.served; failed = d.0.failed; have_text = texts (lasting_with old entry) d.1; numbered = numbers (lasting_with old entry) d.1 }
     goes (Some Memory) d = d
     goes (Some (Spent counter)) d = d
 

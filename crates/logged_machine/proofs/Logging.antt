@@ -25,7 +25,7 @@ use Rattle.tm_machine.specs.SlotChanges.{slots_now}
 use Rattle.tm_machine.specs.Parts.{PartsState}
 use Rattle.journal.specs.CarriedLife.{IsCarriedBy}
 use Rattle.journal.specs.LifeByCall.{LifeGoesOn, LifeStepsOn}
-use Rattle.checkpointing.specs.DefinitionText.{HasText}
+use Rattle.checkpointing.specs.DefinitionText.{HasText, IsNumberedFrom}
 use Rattle.disk_law.specs.UnitCounts.{TellUnits}
 use Rattle.logged_machine.specs.LoggedParts.{IsLogged}
 use Rattle.logged_machine.specs.LeftImages.{CrashesLeave, Brings}
@@ -61,6 +61,15 @@ module _ (parts : PartsState) (units : List ℕ) (next_unit : ℕ) (journal : Jo
       (subst (λ (s : System). restart_in (snapshot_area s) image ≡ Ok (Some r)) (sym h.carried.is.of_system) found) k.restart in
       ap (λ (x : RestartSector). text_in image x.text) same ∙ k.has_text ∙ h.text_is
 
+  -- its checkpoint is the one that holds
+  number_of : (image : Image) → restart_in (snapshot_area h.life.system) image ≡ Ok (Some h.life.now) → IsNumberedFrom system journal.restart.checkpoint image
+  number_of image found =
+      subst (λ (s : System). IsNumberedFrom s journal.restart.checkpoint image) h.carried.is.of_system
+      (record { restart = h.life.now; found = found; least = omega (arith, ap (λ (r : RestartSector). r.checkpoint) h.now) })
+
+  pub numbered : (image : Image) → disk.may_leave image → IsNumberedFrom system journal.restart.checkpoint image
+  numbered image left = number_of image (h.kept image left).restart
+
   life_area : h.life.log.first + h.life.log.count ≤ disk.size
   life_area =
       let w = h.carried.is.is_life.writer in
@@ -86,6 +95,19 @@ module _ (parts : PartsState) (units : List ℕ) (next_unit : ℕ) (journal : Jo
         is_step = s.is_step;
       }
 
+      over_now : IsWriterOf h.life.system h.life.now (with_step_records h.life s.step.records)
+      over_now = record {
+        first = h.carried.is.is_life.writer.first;
+        count = h.carried.is.is_life.writer.count;
+        sequence = h.carried.is.is_life.writer.sequence;
+        epoch = h.carried.is.is_life.writer.epoch;
+      }
+
+      forced_number : (before after : Image) → disk.may_leave before → AddsFront (with_step_records h.life s.step.records) before after → IsNumberedFrom system journal.restart.checkpoint after
+      forced_number before after left front =
+          number_of after
+          (restart_stays h.life.system h.life.now (with_step_records h.life s.step.records) over_now h.carried.is.is_life.in_range s.is_step.room.fits before after front.changes front.each (h.kept before left).restart)
+
       forced_text : (before after : Image) → disk.may_leave before → AddsFront (with_step_records h.life s.step.records) before after → HasText system text after
       forced_text before after left front r found =
           let k = h.kept before left in
@@ -105,9 +127,9 @@ module _ (parts : PartsState) (units : List ℕ) (next_unit : ℕ) (journal : Jo
           ∙ text_stays h.life.system h.life.now w over h.carried.is.is_life.in_range s.is_step.room.fits before after front.changes front.each k.restart
           ∙ k.has_text ∙ h.text_is
 
-      pub force_leaves : (new : DiskState) → Within (AddsFront mid) disk new → CrashesLeave (Brings system text moment.lasting parts'.moment.lasting) disk new
+      pub force_leaves : (new : DiskState) → Within (AddsFront mid) disk new → CrashesLeave (Brings system text journal.restart.checkpoint moment.lasting parts'.moment.lasting) disk new
       force_leaves new within =
-          leaves_within (AddsFront mid) (Brings system text moment.lasting parts'.moment.lasting) disk new
+          leaves_within (AddsFront mid) (Brings system text journal.restart.checkpoint moment.lasting parts'.moment.lasting) disk new
           (λ before after left front.
           let by_records : AddsFront (with_step_records h.life s.step.records) before after = subst (λ (w : Writer). AddsFront w before after) (sym step_of.writer) front in
           record {
@@ -117,6 +139,7 @@ module _ (parts : PartsState) (units : List ℕ) (next_unit : ℕ) (journal : Jo
                 (subst (λ (y : System). RecoversEither y h.life.lasting s.step.lasting after) h.carried.is.of_system
                 (step_front h.life h.carried.is.is_life s.step s.is_step before (h.kept before left) after by_records)));
             has_text = forced_text before after left by_records;
+            numbered = forced_number before after left by_records;
           })
           within
 

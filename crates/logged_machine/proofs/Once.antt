@@ -46,7 +46,7 @@ module _ {D : Type 0} (state : D → DiskState) (parts parts' : PartsState) (tex
   -- without a step nothing is written
   pub quiet : NumbersBy entry units units' next next' → DoesTo units entry parts parts' → up ≡ true → is_some step ≡ false → Did state None was is_still entry
   quiet numbers does served none = record {
-    did = (record { answered = answered; numbers = numbers; acts = inl does; served = served; no_fault = refl }, leaves_same (Brings parts.system text parts.moment.lasting (lasting_with was entry)) (state disk));
+    did = (record { answered = answered; numbers = numbers; acts = inl does; served = served; no_fault = refl }, leaves_same (Brings parts.system text journal.restart.checkpoint parts.moment.lasting (lasting_with was entry)) (state disk));
     keeps = record {
       system = answered.system;
       text = refl;
@@ -65,7 +65,7 @@ module _ {D : Type 0} (state : D → DiskState) (parts parts' : PartsState) (tex
     steps : LifeStepsOn (flat_map record_spelling records) parts.system parts'.moment (slots_now parts') units' next' h.life
     steps = goes_step (flat_map record_spelling records) parts.system parts'.moment (slots_now parts') units' next' h.life step some goes
 
-    leaves : Within (AddsFront mid.log) (state disk) (state disk') → CrashesLeave (Brings parts.system text parts.moment.lasting parts'.moment.lasting) (state disk) (state disk')
+    leaves : Within (AddsFront mid.log) (state disk) (state disk') → CrashesLeave (Brings parts.system text journal.restart.checkpoint parts.moment.lasting parts'.moment.lasting) (state disk) (state disk')
     leaves within = force_leaves parts units next journal text (state disk) h parts' units' next' answered.system as_many (flat_map record_spelling records) mid.log told.log steps (state disk') within
 
     abbrev pub is : LoggedState D
@@ -76,7 +76,7 @@ module _ {D : Type 0} (state : D → DiskState) (parts parts' : PartsState) (tex
     wrote numbers does served f restart = record {
       did = (
         record { answered = answered; numbers = numbers; acts = inl does; served = served; no_fault = f.no_fault },
-        subst (λ (l : LastingState). CrashesLeave (Brings parts.system text parts.moment.lasting l) (state disk) (state disk')) (sym same_lasting) (leaves f.within),
+        subst (λ (l : LastingState). CrashesLeave (Brings parts.system text journal.restart.checkpoint parts.moment.lasting l) (state disk) (state disk')) (sym same_lasting) (leaves f.within),
       );
       keeps = record {
         system = answered.system;
@@ -102,7 +102,7 @@ module _ {D : Type 0} (state : D → DiskState) (parts parts' : PartsState) (tex
     failed broken same within stays cause = record {
       did = (
         record { served = refl; failed = cause },
-        subst (λ (l : LastingState). CrashesLeave (Brings parts.system text parts.moment.lasting l) (state disk) (state disk')) (sym (ap (λ (m : Moment). m.lasting) same ∙ same_lasting)) (leaves within),
+        subst (λ (l : LastingState). CrashesLeave (Brings parts.system text journal.restart.checkpoint parts.moment.lasting l) (state disk) (state disk')) (sym (ap (λ (m : Moment). m.lasting) same ∙ same_lasting)) (leaves within),
       );
       keeps = record {
         system = answered.system;

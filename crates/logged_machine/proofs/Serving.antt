@@ -10,13 +10,14 @@ use Rattle.tm_machine.specs.Parts.{PartsState}
 use Rattle.logged_machine.specs.LoggedParts.{IsLogged}
 use Rattle.logged_machine.proofs.Counts.{standing_up_to}
 use Rattle.logged_machine.specs.LoggedState.{LoggedState, AreLasting}
-use Rattle.logged_machine.proofs.Logging.{recover, have_text}
+use Rattle.logged_machine.proofs.Logging.{recover, have_text, numbered}
 
 -- what lasts is on each image
 pub are_lasting : {D : Type 0} (state : D → DiskState) (l : LoggedState D) (units : List ℕ) → IsLogged l.machine units l.next_unit l.journal l.text (state l.disk) → AreLasting state l
 are_lasting state l units h = record {
   recover = recover l.machine units l.next_unit l.journal l.text (state l.disk) h;
   have_text = have_text l.machine units l.next_unit l.journal l.text (state l.disk) h;
+  numbered = numbered l.machine units l.next_unit l.journal l.text (state l.disk) h;
   counts = standing_up_to l.machine units l.next_unit l.journal l.text (state l.disk) h;
 }
 

@@ -20,9 +20,9 @@ use Rattle.logged_machine.specs.CheckpointDue.{TakesCheckpointWhereDue, Raises, 
 abbrev pub lasting_with : {D : Type 0} → LoggedState D → Entry → LastingState
 lasting_with l entry = (after_entry l.machine.system l.machine.moment entry).lasting
 
--- Whatever a crash leaves recovers to what lasted, or to this.
+-- Whatever a crash leaves recovers to what lasted, or to this, and its checkpoint has no lower number.
 abbrev pub AttemptLeaves : {D : Type 0} → (D → DiskState) → LoggedState D → LoggedState D → LastingState → Type 0
-AttemptLeaves state old new after = CrashesLeave (Brings old.machine.system old.text old.machine.moment.lasting after) (state old.disk) (state new.disk)
+AttemptLeaves state old new after = CrashesLeave (Brings old.machine.system old.text old.journal.restart.checkpoint old.machine.moment.lasting after) (state old.disk) (state new.disk)
 
 -- Where what the machine counts on itself stands up to a bound, whatever a crash leaves counts further by so much at most.
 abbrev pub LeavesCounts : {D : Type 0} → (D → DiskState) → ℕ → LoggedState D → LoggedState D → Type 0

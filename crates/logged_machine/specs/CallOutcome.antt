@@ -5,7 +5,7 @@ use Rattle.model_machine.specs.History.{after_entry}
 use Rattle.model_machine.specs.declared.entry.Entry.{Entry}
 use Rattle.model_machine.specs.declared.entry.ControlFault.{ControlFault}
 use Rattle.model_machine.specs.declared.entry.ControlFault.TheVariants.{Memory, Disk, Spent}
-use Rattle.checkpointing.specs.DefinitionText.{HasText}
+use Rattle.checkpointing.specs.DefinitionText.{HasText, IsNumberedFrom}
 use Rattle.tm_machine.specs.Answers.{IsAnswered}
 use Rattle.tm_machine.specs.Parts.{PartsState}
 use Rattle.logged_machine.specs.ToldCalls.{DoesTo}
@@ -37,11 +37,13 @@ pub record WentOn {D : Type 0} (state : D → DiskState) (old new : LoggedState 
   pub served : new.served ≡ true
   pub no_fault : (state new.disk).faults ≡ (state old.disk).faults
 
--- The disk failed in it, and nothing is served any more. What a crash may leave is still of the definition's text.
+-- The disk failed in it, and nothing is served any more. What a crash may leave is still of the definition's text, and its checkpoint has
+-- no lower number.
 pub record Failed {D : Type 0} (state : D → DiskState) (old new : LoggedState D) : Type 0 where
   pub served : new.served ≡ false
   pub failed : FailedSince (state old.disk) (state new.disk)
   pub have_text : (image : Image) → (state new.disk).may_leave image → HasText old.machine.system old.text image
+  pub numbered : (image : Image) → (state new.disk).may_leave image → IsNumberedFrom old.machine.system old.journal.restart.checkpoint image
 
 -- Where there was no memory, nothing at all has changed, and nothing was written.
 abbrev pub MachineGoesBy : {D : Type 0} → (D → DiskState) → Option ControlFault → LoggedState D → LoggedState D → Entry → Type 0

@@ -3,13 +3,14 @@ use Rattle.std.specs.Prelude.{◌⊎◌, ℕ, ◌≤◌, List}
 use Rattle.tm_disk.specs.Disk.{Image, DiskState}
 use Rattle.model_system.specs.System.{System}
 use Rattle.model_machine.specs.Machine.{LastingState}
-use Rattle.checkpointing.specs.DefinitionText.{HasText}
+use Rattle.checkpointing.specs.DefinitionText.{HasText, IsNumberedFrom}
 use Rattle.disk_law.specs.KeptImages.{RecoversEither}
 
--- The image is of this text, and recovers to one state or to another.
-pub record Brings (system : System) (text : List ℕ) (before after : LastingState) (image : Image) : Type 0 where
+-- The image is of this text, its checkpoint has this number or a higher one, and it recovers to one state or to another.
+pub record Brings (system : System) (text : List ℕ) (low : ℕ) (before after : LastingState) (image : Image) : Type 0 where
   pub recovers : RecoversEither system before after image
   pub has_text : HasText system text image
+  pub numbered : IsNumberedFrom system low image
 
 -- Whatever a crash might have left since a time before, it might have left then already, or this holds of it.
 pub record CrashesLeave (P : Image → Type 0) (old new : DiskState) : Type 0 where

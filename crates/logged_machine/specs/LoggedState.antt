@@ -3,7 +3,7 @@ use Rattle.std.specs.Prelude.{◌≡◌, ℕ, ◌+◌, Bool, true, List, Option,
 use Rattle.tm_disk.specs.Disk.{Image, DiskState}
 use Rattle.model_machine.specs.declared.counts.Counter.{Counter}
 use Rattle.model_image.specs.RecoveredState.{Recovers}
-use Rattle.checkpointing.specs.DefinitionText.{HasText}
+use Rattle.checkpointing.specs.DefinitionText.{HasText, IsNumberedFrom}
 use Rattle.checkpointing.specs.Counts.{CountsUpTo}
 use Rattle.disk_law.specs.UnitCounts.{StandsUpTo}
 use Rattle.openings.specs.OpenedImage.{counters, first_spent}
@@ -21,11 +21,13 @@ pub record LoggedState (D : Type 0) : Type 0 where
   pub next_unit : ℕ
   pub disk : D
 
--- Each image that a crash may leave is of this text, and recovers to what lasts. Where the machine's own counters stand up to a
+-- Each image that a crash may leave is of this text, and recovers to what lasts; its checkpoint has the number of the restart sector that
+-- holds, or a higher one. Where the machine's own counters stand up to a
 -- bound, it counts further by the sectors of a log area at most.
 pub record AreLasting {D : Type 0} (state : D → DiskState) (l : LoggedState D) : Type 0 where
   pub recover : (image : Image) → (state l.disk).may_leave image → Recovers l.machine.system image (Ok l.machine.moment.lasting)
   pub have_text : (image : Image) → (state l.disk).may_leave image → HasText l.machine.system l.text image
+  pub numbered : (image : Image) → (state l.disk).may_leave image → IsNumberedFrom l.machine.system l.journal.restart.checkpoint image
   pub counts : (high : ℕ) → StandsUpTo high l.journal l.next_unit → (image : Image) → (state l.disk).may_leave image → CountsUpTo l.machine.system (high + l.machine.system.logs) image
 
 -- So it is while calls are served.

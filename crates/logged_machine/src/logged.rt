@@ -82,6 +82,13 @@ impl<D: Disk> LoggedMachine<D> {
         self.parts.steps()
     }
 
+    /// The number of the checkpoint that holds.
+    pub fn checkpoint_number(&self) -> u64
+        ensures { result ≡ self.now.journal.restart.checkpoint }
+    {
+        self.journal.restart().checkpoint
+    }
+
     /// Whether nothing is left to do.
     pub fn is_quiet(&self) -> bool
         ensures { result ≡ is_machine_quiet self.now.machine.system self.now.machine.moment }

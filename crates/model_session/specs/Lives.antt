@@ -12,15 +12,18 @@ use Rattle.model_system.specs.System.{System}
 use Rattle.model_machine.specs.Machine.{LastingState, Moment, start_of}
 use Rattle.model_machine.specs.History.{moment_after, is_fault, IsLegal, AscendAbove}
 
--- a life as it is kept: what it opened with, its entries, and after how many of its lasting steps the next life opened
+-- a life as it is kept: what it opened with, the number of the checkpoint with which it did, its entries, and after how many of its
+-- lasting steps the next life opened
 pub record LifeState : Type 0 where
   pub opening : LastingState
+  pub checkpoint : ℕ
   pub history : List Entry
   pub kept : ℕ
 
 -- a life behind which none has opened yet
 pub record LastLife : Type 0 where
   pub opening : LastingState
+  pub checkpoint : ℕ
   pub history : List Entry
 
 -- the moment that these entries of a life lead to, and the one that it has come to
@@ -32,6 +35,16 @@ now_in system life = life_moment system life life.history
 
 abbrev pub longer : LastLife → List Entry → LastLife
 longer life entries = record life { history = life.history ++ entries }
+
+-- the number of the last checkpoint that these entries tell of, or this one
+abbrev pub last_told : ℕ → List Entry → ℕ
+last_told number [] = number
+last_told number (Checked freeze (Ok told) ∷ entries) = last_told told entries
+last_told number (entry ∷ entries) = last_told number entries
+
+-- the last one that is known of a life
+abbrev pub last_number : LastLife → ℕ
+last_number life = last_told life.checkpoint life.history
 
 -- an entry that ends its life: a freeze that was answered
 abbrev pub ends_life : Entry → Bool
@@ -48,15 +61,15 @@ is_disk_fault (Checked freeze (Err (CheckpointFault Disk))) = true
 is_disk_fault _ = false
 
 -- A life that opened with this state is legal: each entry is the machine's answer at its place, but that the disk may have
--- failed in the last call, and no other fault stands there; and the numbers of checkpoints ascend.
-pub record IsLegalLife (system : System) (opening : LastingState) (history : List Entry) : Type 0 where
+-- failed in the last call, and no other fault stands there; and the numbers of checkpoints ascend from the one with which it opened.
+pub record IsLegalLife (system : System) (opening : LastingState) (checkpoint : ℕ) (history : List Entry) : Type 0 where
   pub legal : IsLegal system (start_of system opening) history
   pub by_disk : (entry : Entry) → legal.last ≡ Some entry → is_disk_fault entry ≡ true
-  pub numbers : AscendAbove 0 history
+  pub numbers : AscendAbove checkpoint history
 
 -- A life is legal, and so many of its lasting steps were answered.
 pub record HasAnswered (system : System) (life : LastLife) (count : ℕ) : Type 0 where
-  pub life_is : IsLegalLife system life.opening life.history
+  pub life_is : IsLegalLife system life.opening life.checkpoint life.history
   pub counted : life.opening.steps + count ≡ (life_moment system life life_is.legal.steps).lasting.steps
 
 -- What a life leaves: the state after a front of its entries that has every one that was answered. A step in
@@ -71,7 +84,7 @@ pub record LifeLeaves (system : System) (life : LastLife) (kept : ℕ) (state : 
 
 -- the life with what is kept of it, behind those before it
 abbrev pub kept_life : LastLife → ℕ → LifeState
-kept_life life kept = record { opening = life.opening; history = life.history; kept = kept }
+kept_life life kept = record { opening = life.opening; checkpoint = life.checkpoint; history = life.history; kept = kept }
 
 abbrev pub with_life : List LifeState → Option LastLife → ℕ → List LifeState
 with_life lives None kept = lives
@@ -80,4 +93,4 @@ with_life lives (Some life) kept = lives ++ kept_life life kept ∷ []
 -- each of these lives is legal
 abbrev pub AreLegal : System → List LifeState → Type 0
 AreLegal system [] = Unit {0}
-AreLegal system (life ∷ lives) = IsLegalLife system life.opening life.history × AreLegal system lives
+AreLegal system (life ∷ lives) = IsLegalLife system life.opening life.checkpoint life.history × AreLegal system lives

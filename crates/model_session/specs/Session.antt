@@ -1,5 +1,5 @@
 -- A session: for each block of its lines where it leads, and what is printed for it.
-use Rattle.std.specs.Prelude.{◌≡◌, ◌⊎◌, ℕ, Bool, true, false, None, List, [], ◌∷◌, ◌++◌, length}
+use Rattle.std.specs.Prelude.{◌≡◌, ◌⊎◌, ℕ, ◌<◌, Bool, true, false, None, List, [], ◌∷◌, ◌++◌, length}
 use Rattle.std.specs.Option.{is_some}
 use Rattle.model_machine.specs.declared.entry.Entry.{Entry}
 use Rattle.model_machine.specs.declared.entry.ControlCall.{ControlCall}
@@ -16,7 +16,7 @@ use Rattle.model_session.specs.Lines.{asked_of}
 use Rattle.model_session.specs.Text.{entry_text, bad_line_text, bad_command_text, stopped_text, broken_text, power_text, armed_text, up_text, down_text, opened_text, image_text}
 use Rattle.model_session.specs.QuietTurns.{IsQuieted, IsBrokenOff, quieted_text, region_behind_turns}
 use Rattle.model_session.specs.Lives.{LastLife, now_in, ends_life, is_disk_fault}
-use Rattle.model_session.specs.SessionState.{Setting, SessionState, Outage, Standing, Stop, no_life, unbegun, life_gone_on, called_on, life_ended, broken, life_opened, failed, IsStateEmptied, MayBeFound, LastAnswered}
+use Rattle.model_session.specs.SessionState.{Setting, SessionState, Outage, Standing, Stop, no_life, unbegun, life_gone_on, called_on, life_ended, broken, life_opened, failed, IsStateEmptied, IsKnown, MayBeFound, LastAnswered}
 use Rattle.model_session.specs.SessionState.Standing.{Up, Down}
 
 -- ---- while the system is up
@@ -88,14 +88,22 @@ pub record OpensFirst (cold : Bool) (outage : Outage) : Type 0 where
   pub found : cold ≡ false
   pub first : outage.last ≡ None
 
+-- The checkpoint with which a life opens has a higher number than any before it. Behind a cold start, also one that broke off, numbers
+-- begin anew.
+abbrev pub OpensAbove : Bool → Setting → Outage → ℕ → Type 0
+OpensAbove false setting outage checkpoint = (outage.emptied ≡ true) ⊎ ((number : ℕ) → IsKnown setting outage.last number → number < checkpoint)
+OpensAbove true setting outage checkpoint = checkpoint ≡ 1
+
 -- A life opened. Of a disk that doesn't tell its contents nothing is known. Before the first life what was handed in is opened only
 -- where it is of the definition's text; or a cold start broke off since, and the life opens empty.
 pub record OpensSession (cold : Bool) (setting : Setting) (old : SessionState) (outage : Outage) (new : SessionState) : Type 0 where
   pub kept : ℕ
+  pub checkpoint : ℕ
   pub state : LastingState
   pub may : setting.tells ≡ true → MayOpenWith cold setting outage kept state
+  pub above : setting.tells ≡ true → OpensAbove cold setting outage checkpoint
   pub right : setting.tells ≡ true → OpensFirst cold outage → setting.right_text ⊎ IsStateEmptied setting.system outage.last outage.emptied kept state
-  pub goes : new ≡ life_opened old outage kept state
+  pub goes : new ≡ life_opened old outage kept checkpoint state
 
 -- The disk failed in the opening.
 pub record FailsToOpen (cold : Bool) (old : SessionState) (outage : Outage) (new : SessionState) : Type 0 where

@@ -4,11 +4,11 @@ use Rattle.model_machine.specs.declared.entry.Entry.{Entry}
 use Rattle.model_system.specs.System.{System}
 use Rattle.model_machine.specs.Machine.{LastingState, empty_state}
 use Rattle.model_session.specs.declared.asked.ImageRefused.{ImageRefused}
-use Rattle.model_session.specs.Lives.{LifeState, LastLife, now_in, longer, with_life, HasAnswered, LifeLeaves}
+use Rattle.model_session.specs.Lives.{LifeState, LastLife, last_number, now_in, longer, with_life, HasAnswered, LifeLeaves}
 
 -- A session's system; whether its disk can be told to stop at a write to come, and whether it tells its contents; the
 -- states that the disk recovers to as it is handed in, of which there is one at most; whether it is of the definition's text then, and
--- why it is refused; and the bounds that none of the disk's own counters is above then.
+-- why it is refused; the bounds that none of the disk's own counters is above then; and the numbers that its checkpoint isn't below.
 pub record Setting : Type 1 where
   pub system : System
   pub can_arm : Bool
@@ -17,6 +17,7 @@ pub record Setting : Type 1 where
   pub right_text : Type 0
   pub refuses : ImageRefused → Type 0
   pub counts : ℕ → Type 0
+  pub numbered : ℕ → Type 0
 
 -- The system is down: the last life, if one has begun; whether a cold start broke off since; and whether the disk has
 -- failed since that life was opened.
@@ -68,12 +69,12 @@ broken state life entries stop = record {
   standing = Down (record { last = Some (longer life entries); emptied = false; stopped = true });
 }
 
--- a life opened with this state, so many lasting steps of the one before being kept
-abbrev pub life_opened : SessionState → Outage → ℕ → LastingState → SessionState
-life_opened state outage kept opening = record {
+-- a life opened with this state and this checkpoint, so many lasting steps of the one before being kept
+abbrev pub life_opened : SessionState → Outage → ℕ → ℕ → LastingState → SessionState
+life_opened state outage kept checkpoint opening = record {
   lives = with_life state.lives outage.last kept;
   stops = state.stops;
-  standing = Up (record { opening = opening; history = [] });
+  standing = Up (record { opening = opening; checkpoint = checkpoint; history = [] });
 }
 
 abbrev pub or_cold : Bool → Bool → Bool
@@ -116,6 +117,12 @@ abbrev pub MayHold : Setting → Standing → LastingState → Type 0
 MayHold setting (Up life) state = state ≡ (now_in setting.system life).lasting
 MayHold setting (Down outage) state = (kept : ℕ) × MayBeFound setting outage kept state
 
+-- The number that the disk's checkpoint isn't below while the system is down: the last one that is known of the last life; before the first
+-- life that of the disk handed in.
+abbrev pub IsKnown : Setting → Option LastLife → ℕ → Type 0
+IsKnown setting None number = setting.numbered number
+IsKnown setting (Some life) number = number ≡ last_number life
+
 -- ---- at a session's end
 
 -- the last life, if one has begun
@@ -138,9 +145,9 @@ abbrev pub is_session_stopped : Standing → Bool
 is_session_stopped (Up life) = false
 is_session_stopped (Down outage) = outage.stopped
 
--- The counts of the stops lie in their order between these two, and from the beginning of what a stop ended to its end
--- the count rose, or stands at the last value that it can have.
+-- The count rose from the one to the other in these stops alone: the first began with it, and each other where the one before had ended,
+-- as nothing fails between. From the beginning of what a stop ended to its end it rose, or stands at the last value that it can have.
 abbrev pub AreStops : ℕ → List Stop → ℕ → Type 0
-AreStops low [] high = low ≤ high
+AreStops low [] high = low ≡ high
 AreStops low ((began, ended) ∷ stops) high =
-    (low ≤ began) × (began ≤ ended) × ((began + 1 ≤ ended) ⊎ (18446744073709551615 ≤ ended)) × AreStops ended stops high
+    (began ≡ low) × (began ≤ ended) × ((began + 1 ≤ ended) ⊎ (18446744073709551615 ≤ ended)) × AreStops ended stops high

@@ -5,12 +5,14 @@ use Rattle.model_system.specs.System.{System}
 use Rattle.model_machine.specs.Machine.{empty_state}
 use Rattle.model_image.specs.AlikeImages.{RecoversAlike}
 use Rattle.model_image.specs.RecoveredState.{Recovers}
-use Rattle.checkpointing.specs.DefinitionText.{HasText}
+use Rattle.checkpointing.specs.DefinitionText.{HasText, KeepsNumber}
 
--- The image recovers as the one before. It is the same; or both are of the definition with this text.
+-- The image recovers as the one before, and its checkpoint has no lower number. It is the same; or both are of the definition with this
+-- text.
 pub record KeepsImage (system : System) (text : List ℕ) (before after : Image) : Type 0 where
   pub alike : RecoversAlike system before after
   pub texts : (after ≡ before) ⊎ (HasText system text before × HasText system text after)
+  pub number : KeepsNumber system before after
 
 -- The image recovers to the empty state, and is of the definition with this text.
 pub record IsImageEmptied (system : System) (text : List ℕ) (image : Image) : Type 0 where

@@ -1,5 +1,5 @@
 -- Each life of a session opens with what the one before it left, where no block asks for a cold start.
-use Rattle.std.proofs.Common.{◌≡◌, ◌≢◌, ◌⊎◌, ℕ, Bool, true, false, List, [], ◌∷◌, ◌++◌, sym, ◌∙◌, ap, subst, refl, inl, inr}
+use Rattle.std.proofs.Common.{◌≡◌, ◌≢◌, ◌⊎◌, ℕ, ◌<◌, Bool, true, false, List, [], ◌∷◌, ◌++◌, sym, ◌∙◌, ap, subst, refl, inl, inr}
 use Rattle.std.specs.Prelude.{Option, Some, None}
 use Rattle.std.specs.List.{AllByRecursion}
 use Rattle.model_system.specs.System.{System}
@@ -9,21 +9,27 @@ use Rattle.model_session.specs.declared.asked.Asked.{Asked}
 use Rattle.model_session.specs.declared.asked.Asked.TheVariants.{Bad, BadCommand, Stopped, Call, Quiet, Power, PowerIn, Restart, ColdStart}
 use Rattle.model_session.specs.Blocks.{Block}
 use Rattle.model_session.specs.Lines.{asked_of}
-use Rattle.model_session.specs.Lives.{LifeState, LastLife, LifeLeaves, kept_life, with_life, longer, ends_life}
+use Rattle.model_session.specs.Lives.{LifeState, LastLife, last_number, LifeLeaves, kept_life, with_life, longer, ends_life}
 use Rattle.model_session.specs.SessionState.{Setting, SessionState, Outage, Standing, Stop, MayBeFound, AreAllLives, no_life, unbegun, called_on, last_life}
 use Rattle.model_session.specs.SessionState.Standing.{Up, Down}
-use Rattle.model_session.specs.Session.{OpensSession, ServedBy, IsServedUp, IsServedDown, IsRestarted, AreServed, BeginsSession, IsSessionBegun, IsBegunBy}
-use Rattle.session_law.specs.SentAgain.{alone, AreLinked}
+use Rattle.model_session.specs.Session.{OpensSession, OpensAbove, ServedBy, IsServedUp, IsServedDown, IsRestarted, AreServed, BeginsSession, IsSessionBegun, IsBegunBy}
+use Rattle.session_law.specs.SentAgain.{alone, IsOpenedBehind, AreLinked}
 
 -- ---- linked lives
 
 -- what a life opened with is all that those before it look at
-same_opening : (system : System) (lives : List LifeState) (a b : LifeState) → a.opening ≡ b.opening → AreLinked system (lives ++ a ∷ []) → AreLinked system (lives ++ b ∷ [])
-same_opening system [] a b same linked = (tt, tt)
-same_opening system (life ∷ []) a b same linked = (subst (λ (s : LastingState). LifeLeaves system (alone life) life.kept s) same linked.0, (tt, tt))
-same_opening system (life ∷ next ∷ lives) a b same linked = (linked.0, same_opening system (next ∷ lives) a b same linked.1)
+same_opening : (system : System) (lives : List LifeState) (a b : LifeState) → a.opening ≡ b.opening → a.checkpoint ≡ b.checkpoint → AreLinked system (lives ++ a ∷ []) → AreLinked system (lives ++ b ∷ [])
+same_opening system [] a b same number linked = (tt, tt)
+same_opening system (life ∷ []) a b same number linked = (
+  record {
+    left = subst (λ (s : LastingState). LifeLeaves system (alone life) life.kept s) same linked.0.left;
+    above = subst (λ (n : ℕ). last_number (alone life) < n) number linked.0.above;
+  },
+  (tt, tt),
+)
+same_opening system (life ∷ next ∷ lives) a b same number linked = (linked.0, same_opening system (next ∷ lives) a b same number linked.1)
 
-one_linked : (system : System) (lives : List LifeState) (a b : LifeState) → LifeLeaves system (alone a) a.kept b.opening → AreLinked system (lives ++ a ∷ []) → AreLinked system ((lives ++ a ∷ []) ++ b ∷ [])
+one_linked : (system : System) (lives : List LifeState) (a b : LifeState) → IsOpenedBehind system a b → AreLinked system (lives ++ a ∷ []) → AreLinked system ((lives ++ a ∷ []) ++ b ∷ [])
 one_linked system [] a b leaves linked = (leaves, (tt, tt))
 one_linked system (life ∷ []) a b leaves linked = (linked.0, one_linked system [] a b leaves linked.1)
 one_linked system (life ∷ next ∷ lives) a b leaves linked = (linked.0, one_linked system (next ∷ lives) a b leaves linked.1)
@@ -56,7 +62,7 @@ module _ (setting : Setting) (tells : setting.tells ≡ true) where
   goes_chained old life entries stops standing at chained is warm = record {
     linked = λ kept.
         subst (λ (o : Option LastLife). AreLinked setting.system (with_life old.lives o kept)) (sym is)
-        (same_opening setting.system old.lives (kept_life life kept) (kept_life (longer life entries) kept) refl
+        (same_opening setting.system old.lives (kept_life life kept) (kept_life (longer life entries) kept) refl refl
         (subst (λ (s : Standing). AreLinked setting.system (with_life old.lives (last_life s) kept)) at (chained.linked kept)));
     first = λ none. absurd (none_some (last_life standing) (longer life entries) is none);
     warm = warm;
@@ -87,23 +93,26 @@ module _ (setting : Setting) (tells : setting.tells ≡ true) where
 
   -- ---- an opening
 
-  opened_linked : (lives : List LifeState) (last : Option LastLife) (emptied stopped : Bool) (kept next : ℕ) (state : LastingState) → (last ≡ None → lives ≡ []) → emptied ≡ false
+  opened_linked : (lives : List LifeState) (last : Option LastLife) (emptied stopped : Bool) (kept next checkpoint : ℕ) (state : LastingState) → (last ≡ None → lives ≡ []) → emptied ≡ false
       → AreLinked setting.system (with_life lives last kept) → MayBeFound setting (record { last = last; emptied = emptied; stopped = stopped }) kept state
-      → AreLinked setting.system (with_life lives last kept ++ kept_life (record { opening = state; history = [] }) next ∷ [])
-  opened_linked lives None emptied stopped kept next state first warm linked found =
-      subst (λ (ls : List LifeState). AreLinked setting.system (ls ++ kept_life (record { opening = state; history = [] }) next ∷ [])) (sym (first refl)) (tt, tt)
-  opened_linked lives (Some life) emptied stopped kept next state first warm linked (inl leaves) =
-      one_linked setting.system lives (kept_life life kept) (kept_life (record { opening = state; history = [] }) next) leaves linked
-  opened_linked lives (Some life) emptied stopped kept next state first warm linked (inr empty) = let never : true ≡ false = sym empty.broke_off ∙ warm in cc
+      → OpensAbove false setting (record { last = last; emptied = emptied; stopped = stopped }) checkpoint
+      → AreLinked setting.system (with_life lives last kept ++ kept_life (record { opening = state; checkpoint = checkpoint; history = [] }) next ∷ [])
+  opened_linked lives None emptied stopped kept next checkpoint state first warm linked found above =
+      subst (λ (ls : List LifeState). AreLinked setting.system (ls ++ kept_life (record { opening = state; checkpoint = checkpoint; history = [] }) next ∷ [])) (sym (first refl)) (tt, tt)
+  opened_linked lives (Some life) emptied stopped kept next checkpoint state first warm linked (inl leaves) (inr above) =
+      one_linked setting.system lives (kept_life life kept) (kept_life (record { opening = state; checkpoint = checkpoint; history = [] }) next)
+      (record { left = leaves; above = above (last_number life) refl }) linked
+  opened_linked lives (Some life) emptied stopped kept next checkpoint state first warm linked (inr empty) above = let never : true ≡ false = sym empty.broke_off ∙ warm in cc
+  opened_linked lives (Some life) emptied stopped kept next checkpoint state first warm linked (inl leaves) (inl broke_off) = let never : true ≡ false = sym broke_off ∙ warm in cc
 
   opens_chained : (old : SessionState) (outage : Outage) (new : SessionState) → old.standing ≡ Down outage → Chained old → OpensSession false setting old outage new → Chained new
   opens_chained old outage new at chained opens =
       subst Chained (sym opens.goes) (record {
         linked = λ kept.
-            opened_linked old.lives outage.last outage.emptied outage.stopped opens.kept kept opens.state
+            opened_linked old.lives outage.last outage.emptied outage.stopped opens.kept kept opens.checkpoint opens.state
             (λ none. chained.first (ap last_life at ∙ none)) (sym (ap is_emptied at) ∙ chained.warm)
-            (subst (λ (s : Standing). AreLinked setting.system (with_life old.lives (last_life s) opens.kept)) at (chained.linked opens.kept)) (opens.may tells);
-        first = λ none. absurd (none_some (Some (record { opening = opens.state; history = [] })) (record { opening = opens.state; history = [] }) refl none);
+            (subst (λ (s : Standing). AreLinked setting.system (with_life old.lives (last_life s) opens.kept)) at (chained.linked opens.kept)) (opens.may tells) (opens.above tells);
+        first = λ none. absurd (none_some (Some (record { opening = opens.state; checkpoint = opens.checkpoint; history = [] })) (record { opening = opens.state; checkpoint = opens.checkpoint; history = [] }) refl none);
         warm = refl;
       })
 

@@ -246,7 +246,7 @@ module _ (terminal : List ℕ) where
   -- what a life leaves, whatever it did
   life_from : (system : System) (low : ℕ) (life : LifeState) → AreFrom low life.opening → Leaving (AreFrom low) system any_call (alone life)
   life_from system low life h =
-      more (AreFrom low) system any_call (from_kept low system) (record { opening = life.opening; history = [] }) life.history (all_any life.history) (begun (AreFrom low) system any_call life.opening h)
+      more (AreFrom low) system any_call (from_kept low system) (record { opening = life.opening; checkpoint = life.checkpoint; history = [] }) life.history (all_any life.history) (begun (AreFrom low) system any_call life.checkpoint life.opening h)
 
   lives_higher : (system : System) (low : ℕ) (lives : List LifeState) → OpenedWith (AreFrom (low + 1)) lives → AreLinked system lives → AreLegal system lives → LivesShowHigher terminal low lives
   lives_higher system low [] h linked legal = tt
@@ -337,10 +337,10 @@ module _ (terminal : List ℕ) where
     gone_for_good life later front rest linked legal h split =
         let is = legal.0.legal in
         let there : IsGone (start_of system life.opening) front rest = gone is.steps is.last (start_of system life.opening) front rest is.legal is.end h (sym is.all ∙ split) in
-        let base : LastLife = record { opening = life.opening; history = front } in
+        let base : LastLife = record { opening = life.opening; checkpoint = life.checkpoint; history = front } in
         let whole : (front ++ removal ∷ []) ++ rest ≡ life.history = append_assoc front (removal ∷ []) rest ∙ sym split in
         let left : Leaving (AreFrom (number + 1)) system any_call (alone life) =
-        subst (λ (es : List Entry). Leaving (AreFrom (number + 1)) system any_call (record { opening = life.opening; history = es })) whole
+        subst (λ (es : List Entry). Leaving (AreFrom (number + 1)) system any_call (record { opening = life.opening; checkpoint = life.checkpoint; history = es })) whole
         (more (AreFrom (number + 1)) system any_call (from_kept (number + 1) system) (longer base (removal ∷ [])) rest (all_any rest)
         (leaves_with (AreFrom (number + 1)) system any_call base removal refl there.from)) in
         (there.higher, lives_higher system number later (opened_behind system terminal 0 (AreFrom (number + 1)) life later left linked.0) linked.1 legal.1)

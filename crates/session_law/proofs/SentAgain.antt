@@ -217,7 +217,7 @@ OpenedWith P (life ∷ lives) = P life.opening
 module _ (system : System) (terminal : List ℕ) (number : ℕ) where
   pub opened_behind : (P : LastingState → Type 0) (life : LifeState) (later : List LifeState) → ((kept : ℕ) (state : LastingState) → LifeLeaves system (alone life) kept state → P state) → OpensBehind system life later → OpenedWith P later
   opened_behind P life [] has opens = tt
-  opened_behind P life (next ∷ later) has opens = has life.kept next.opening opens
+  opened_behind P life (next ∷ later) has opens = has life.kept next.opening opens.left
 
   -- ---- known from then on
 
@@ -258,8 +258,8 @@ module _ (system : System) (terminal : List ℕ) (number : ℕ) where
         subst (AllKnow terminal number) (sym is.all) (steps_know is.steps is.last (start_of system life.opening) is.legal is.end some low),
         lives_know lives some
             (opened_behind (Reached terminal number) life lives
-            (more (Reached terminal number) system any_call (numbers_kept terminal number system) (record { opening = life.opening; history = [] }) life.history (all_any life.history)
-            (begun (Reached terminal number) system any_call life.opening low)) linked.0)
+            (more (Reached terminal number) system any_call (numbers_kept terminal number system) (record { opening = life.opening; checkpoint = life.checkpoint; history = [] }) life.history (all_any life.history)
+            (begun (Reached terminal number) system any_call life.checkpoint life.opening low)) linked.0)
             linked.1 legal.1,
       )
 
@@ -321,10 +321,10 @@ module _ (system : System) (terminal : List ℕ) (number : ℕ) where
     answered_known life later front rest linked legal split =
         let is = legal.0.legal in
         let there : IsPlaced (start_of system life.opening) front rest = placed is.steps is.last (start_of system life.opening) front rest is.legal is.end (sym is.all ∙ split) in
-        let base : LastLife = record { opening = life.opening; history = front } in
+        let base : LastLife = record { opening = life.opening; checkpoint = life.checkpoint; history = front } in
         let whole : (front ++ taken_entry ∷ []) ++ rest ≡ life.history = append_assoc front (taken_entry ∷ []) rest ∙ sym split in
         let left : Leaving (Reached terminal number) system any_call (alone life) =
-        subst (λ (h : List Entry). Leaving (Reached terminal number) system any_call (record { opening = life.opening; history = h })) whole
+        subst (λ (h : List Entry). Leaving (Reached terminal number) system any_call (record { opening = life.opening; checkpoint = life.checkpoint; history = h })) whole
         (more (Reached terminal number) system any_call (numbers_kept terminal number system) (longer base (taken_entry ∷ [])) rest (all_any rest)
         (leaves_with (Reached terminal number) system any_call base taken_entry refl there.reached)) in
         (there.know, lives_know later there.some (opened_behind (Reached terminal number) life later left linked.0) linked.1 legal.1)
@@ -397,8 +397,8 @@ module _ (system : System) (terminal : List ℕ) (number : ℕ) where
       (steps_fresh last next is.steps is.last (start_of system life.opening) (entries_of lives) is.legal is.end stands
       (λ spares. lives_fresh last next lives
       (opened_behind (Stands terminal last) life lives
-      (more (Stands terminal last) system (spares_input terminal) (last_kept terminal last system) (record { opening = life.opening; history = [] }) life.history (ap spared is.all ∙ spares)
-      (begun (Stands terminal last) system (spares_input terminal) life.opening stands)) linked.0)
+      (more (Stands terminal last) system (spares_input terminal) (last_kept terminal last system) (record { opening = life.opening; checkpoint = life.checkpoint; history = [] }) life.history (ap spared is.all ∙ spares)
+      (begun (Stands terminal last) system (spares_input terminal) life.checkpoint life.opening stands)) linked.0)
       linked.1 legal.1))
 
   -- ---- one in whose call the disk failed
@@ -411,7 +411,7 @@ module _ (system : System) (terminal : List ℕ) (number : ℕ) where
     moment_then = life_moment system (alone life) doubt.before
 
     opens : LifeLeaves system (alone life) life.kept next.opening
-    opens = linked.0
+    opens = linked.0.left
 
     steps_are : legal.0.legal.steps ≡ doubt.before
     steps_are =

@@ -43,8 +43,8 @@ ended_measure state life entries = called_measure true state life entries
 pub broken_measure : (state : SessionState) (life : LastLife) (entries : List Entry) (stop : Stop) → measure (broken state life entries stop) ≡ measure_at state (Up life) + length entries + 1
 broken_measure state life entries stop = omega (arith, length-append life.history entries, length-append state.stops (stop ∷ []))
 
-pub opened_measure : (state : SessionState) (outage : Outage) (kept : ℕ) (opening : LastingState) → measure (life_opened state outage kept opening) ≡ measure_at state (Down outage) + 1
-opened_measure state outage kept opening = omega (arith, lives_behind state.lives outage.last kept)
+pub opened_measure : (state : SessionState) (outage : Outage) (kept checkpoint : ℕ) (opening : LastingState) → measure (life_opened state outage kept checkpoint opening) ≡ measure_at state (Down outage) + 1
+opened_measure state outage kept checkpoint opening = omega (arith, lives_behind state.lives outage.last kept)
 
 pub failed_measure : (state : SessionState) (outage : Outage) (cold : Bool) (stop : Stop) → measure (failed state outage cold stop) ≡ measure_at state (Down outage) + 1
 failed_measure state outage cold stop = omega (arith, length-append state.stops (stop ∷ []))
@@ -85,7 +85,7 @@ module _ (setting : Setting) (old new : SessionState) (text : List ℕ) where
 
   restart_rises : (cold : Bool) (outage : Outage) → old.standing ≡ Down outage → IsRestarted cold setting old outage new text → Rises (measure_at old (Down outage)) (measure new) 2
   restart_rises cold outage stands (inl h) =
-      risen (measure_at old (Down outage)) (measure new) 1 2 (ap measure h.0.goes ∙ opened_measure old outage h.0.kept h.0.state) (omega arith)
+      risen (measure_at old (Down outage)) (measure new) 1 2 (ap measure h.0.goes ∙ opened_measure old outage h.0.kept h.0.checkpoint h.0.state) (omega arith)
   restart_rises cold outage stands (inr (inl h)) =
       risen (measure_at old (Down outage)) (measure new) 1 2 (ap measure h.0.ends ∙ failed_measure old outage cold h.0.stop) (omega arith)
   restart_rises cold outage stands (inr (inr h)) = same_rises (Down outage) 2 stands h.stays
@@ -121,7 +121,7 @@ blocks_rise setting (block ∷ blocks) old new text h =
 
 -- A session's opening adds one.
 pub begun_measure : (setting : Setting) (first : SessionState) → BeginsSession setting first → measure first ≡ 1
-begun_measure setting first (inl h) = ap measure h.goes ∙ opened_measure unbegun no_life h.kept h.state
+begun_measure setting first (inl h) = ap measure h.goes ∙ opened_measure unbegun no_life h.kept h.checkpoint h.state
 begun_measure setting first (inr h) = ap measure h.ends ∙ failed_measure unbegun no_life false h.stop
 
 -- The turns of a QUIET that broke off

@@ -87,9 +87,9 @@ module _ (P : LastingState → Type 0) (system : System) (kind : ControlCall →
       (one_more keeps life entry (first_of (kind (call_of entry)) (list_all (λ e. kind (call_of e)) entries) all) has))
 
   -- a life that has begun with a state that has it
-  pub begun : (state : LastingState) → P state → Leaving (record { opening = state; history = [] })
-  begun state has kept left h =
-      subst P (sym (h.left ∙ ap (λ es. (life_moment system (record { opening = state; history = [] }) es).lasting) (none_left h.front h.rest h.split))) has
+  pub begun : (checkpoint : ℕ) (state : LastingState) → P state → Leaving (record { opening = state; checkpoint = checkpoint; history = [] })
+  begun checkpoint state has kept left h =
+      subst P (sym (h.left ∙ ap (λ es. (life_moment system (record { opening = state; checkpoint = checkpoint; history = [] }) es).lasting) (none_left h.front h.rest h.split))) has
 
   -- a life that goes on with an answered entry has it, where it has it then
   pub leaves_with : (life : LastLife) (entry : Entry) → is_fault entry ≡ false → P (life_moment system life (life.history ++ entry ∷ [])).lasting → Leaving (longer life (entry ∷ []))
@@ -180,7 +180,7 @@ module _ (P : LastingState → Type 0) (setting : Setting) (kind : ControlCall �
   restarted old outage new text tells here has (inl h) =
       let opens = h.0 in
       same _ new opens.goes
-      (up_has (record { opening = opens.state; history = [] }) (begun P setting.system kind opens.state (has opens.kept opens.state (opens.may tells))))
+      (up_has (record { opening = opens.state; checkpoint = opens.checkpoint; history = [] }) (begun P setting.system kind opens.checkpoint opens.state (has opens.kept opens.state (opens.may tells))))
   restarted old outage new text tells here has (inr (inl h)) = same _ new h.0.ends (λ kept state found. has kept state found)
   restarted old outage new text tells here has (inr (inr h)) = same old new h.stays here
 

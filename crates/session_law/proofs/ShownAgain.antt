@@ -115,8 +115,8 @@ module _ (terminal : List ℕ) (reply : Reply) where
     waits_on system (start_of system life.opening) life.history has,
     λ none. lives_wait system lives
         (opened_behind system terminal 0 (Waits terminal reply) life lives
-        (more (Waits terminal reply) system kind (keeps system) (record { opening = life.opening; history = [] }) life.history none
-        (begun (Waits terminal reply) system kind life.opening has)) linked.0)
+        (more (Waits terminal reply) system kind (keeps system) (record { opening = life.opening; checkpoint = life.checkpoint; history = [] }) life.history none
+        (begun (Waits terminal reply) system kind life.checkpoint life.opening has)) linked.0)
         linked.1,
   )
 
@@ -126,7 +126,7 @@ module _ (terminal : List ℕ) (reply : Reply) where
       × (takes_none terminal reply.number rest ≡ true → LivesWaitOn system terminal reply later)
   shown_on system life later front rest number linked split has =
       let entry : Entry = Show terminal (ShowReply number) in
-      let base : LastLife = record { opening = life.opening; history = front } in
+      let base : LastLife = record { opening = life.opening; checkpoint = life.checkpoint; history = front } in
       let whole : (front ++ entry ∷ []) ++ rest ≡ life.history = append_assoc front (entry ∷ []) rest ∙ sym split in
       let behind : Waits terminal reply (life_moment system base (front ++ entry ∷ [])).lasting =
       subst (λ (m : Moment). Waits terminal reply m.lasting) (sym (moment_after-append system (start_of system life.opening) front entry))
@@ -134,7 +134,7 @@ module _ (terminal : List ℕ) (reply : Reply) where
         waits_on system (life_moment system (alone life) front) (entry ∷ rest) has,
         λ none. lives_wait system later
             (opened_behind system terminal 0 (Waits terminal reply) life later
-            (subst (λ (h : List Entry). Leaving (Waits terminal reply) system kind (record { opening = life.opening; history = h })) whole
+            (subst (λ (h : List Entry). Leaving (Waits terminal reply) system kind (record { opening = life.opening; checkpoint = life.checkpoint; history = h })) whole
             (more (Waits terminal reply) system kind (keeps system) (longer base (entry ∷ [])) rest none
             (leaves_with (Waits terminal reply) system kind base entry refl behind))) linked.0)
             linked.1,

@@ -1,5 +1,5 @@
 -- What is sent again, over the lives of a session: inputs.
-use Rattle.std.specs.Prelude.{◌≡◌, ◌⊎◌, ℕ, ◌-◌, ◌≤◌, Bool, true, false, List, [], ◌∷◌, ◌++◌, Result, Ok, Err}
+use Rattle.std.specs.Prelude.{◌≡◌, ◌⊎◌, ℕ, ◌-◌, ◌<◌, ◌≤◌, Bool, true, false, List, [], ◌∷◌, ◌++◌, Result, Ok, Err}
 use Rattle.std.specs.List.{AllByRecursion}
 use Rattle.std.specs.Str.{bytes_eq}
 use Rattle.model_system.specs.System.{System}
@@ -11,18 +11,24 @@ use Rattle.model_machine.specs.declared.entry.InputRefused.{InputRefused}
 use Rattle.model_machine.specs.declared.entry.InputRefused.TheVariants.{StoppedTerminal, Expected, Fault}
 use Rattle.model_machine.specs.MachineCalls.{input_answer}
 use Rattle.model_machine.specs.History.{is_fault}
-use Rattle.model_session.specs.Lives.{LifeState, LastLife, LifeLeaves, life_moment}
+use Rattle.model_session.specs.Lives.{LifeState, LastLife, last_number, LifeLeaves, life_moment}
 
 -- ---- lives one after another
 
 -- a life by what it opened with and its entries
 abbrev pub alone : LifeState → LastLife
-alone life = record { opening = life.opening; history = life.history }
+alone life = record { opening = life.opening; checkpoint = life.checkpoint; history = life.history }
 
--- Each life opened with what the one before it left, of which so many lasting steps are kept.
+-- A life opened with what the one before it left, of which so many lasting steps are kept, and with a checkpoint of a higher number than
+-- any that this told of.
+pub record IsOpenedBehind (system : System) (life next : LifeState) : Type 0 where
+  pub left : LifeLeaves system (alone life) life.kept next.opening
+  pub above : last_number (alone life) < next.checkpoint
+
+-- so did each
 abbrev pub OpensBehind : System → LifeState → List LifeState → Type 0
 OpensBehind system life [] = Unit {0}
-OpensBehind system life (next ∷ lives) = LifeLeaves system (alone life) life.kept next.opening
+OpensBehind system life (next ∷ lives) = IsOpenedBehind system life next
 
 abbrev pub AreLinked : System → List LifeState → Type 0
 AreLinked system [] = Unit {0}

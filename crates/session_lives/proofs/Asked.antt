@@ -188,12 +188,13 @@ module _ {D : Type 0} (state : D → DiskState) where
 
   -- what stays over two calls
   pub stays_so : (a : ControlOnDisk D) → StaysSo state a a
-  stays_so a = record { system = refl; opening = refl; text = refl; began = refl; disk = stays_same (state a.disk); later = omega arith }
+  stays_so a = record { system = refl; opening = refl; checkpoint = refl; text = refl; began = refl; disk = stays_same (state a.disk); later = omega arith }
 
   pub stays_so_on : (a b c : ControlOnDisk D) → StaysSo state a b → StaysSo state b c → StaysSo state a c
   stays_so_on a b c first second = record {
     system = second.system ∙ first.system;
     opening = second.opening ∙ first.opening;
+    checkpoint = second.checkpoint ∙ first.checkpoint;
     text = second.text ∙ first.text;
     began = second.began ∙ first.began;
     disk = stays_on (state a.disk) (state b.disk) (state c.disk) first.disk second.disk;

@@ -45,7 +45,7 @@ nothing_begun ColdStart system a standing = refl
 -- a block that couldn't be read asks for nothing
 module _ {D : Type 0} (state : D → DiskState) (a : ControlOnDisk D) where
   stays_here : StaysSo state a a
-  stays_here = record { system = refl; opening = refl; text = refl; began = refl; disk = stays_same (state a.disk); later = omega arith }
+  stays_here = record { system = refl; opening = refl; checkpoint = refl; text = refl; began = refl; disk = stays_same (state a.disk); later = omega arith }
 
   pub stays_unread : (asked : Asked) → StaysBy state asked NotAsked a a
   stays_unread (Bad rule) = stays_here

@@ -1,27 +1,28 @@
 -- How a life goes on, and how it ends.
 use Rattle.std.proofs.Common.{◌≡◌, ◌⊎◌, ℕ, ◌+◌, ◌*◌, ◌-◌, ◌≤◌, Bool, true, false, List, [], ◌∷◌, ◌++◌, length, map, sym, ◌∙◌, ap, subst, refl, arith, inl, inr}
 use Rattle.std.proofs.lemmas.List.{append-nil, length-append}
-use Rattle.std.specs.Prelude.{if◌then◌else◌, Option, Some, None, Ok}
+use Rattle.std.specs.Prelude.{if◌then◌else◌, Option, Some, None, Ok, Err}
 use Rattle.std.specs.Option.{option_map}
 use Rattle.tm_disk.specs.Disk.{Image, DiskState, IsSameDisk, Only, Rose}
 use Rattle.tm_disk.proofs.Words.{same_on}
 use Rattle.model_system.specs.System.{System}
 use Rattle.model_machine.specs.declared.entry.Entry.{Entry}
+use Rattle.model_machine.specs.declared.entry.Entry.TheVariants.{Accept, Show, Acked, Turn, Commanded, Checked}
 use Rattle.model_machine.specs.declared.entry.ControlFault.TheVariants.{Disk}
 use Rattle.model_machine.specs.Machine.{LastingState, start_of}
 use Rattle.model_machine.specs.History.{AscendAbove, ControlState, IsLegal, is_fault, moment_after, control_moment}
 use Rattle.model_image.specs.RecoveredState.{Recovers}
-use Rattle.checkpointing.specs.DefinitionText.{HasText}
+use Rattle.checkpointing.specs.DefinitionText.{HasText, IsNumberedFrom}
 use Rattle.checkpointing.specs.Counts.{CountsUpTo}
 use Rattle.checkpointing.proofs.Counted.{up_to_more}
 use Rattle.system_types.specs.ValidSystem.{IsSystem}
 use Rattle.session_law.specs.Measures.{call_raises, last_measure, lives_measure, measure}
 use Rattle.openings.specs.FirstImage.{sectors_needed}
 use Rattle.disk_law.specs.KeptImages.{RecoversEither}
-use Rattle.model_session.specs.Lives.{LifeState, LastLife, AreLegal, HasAnswered, LifeLeaves, is_disk_fault, longer}
-use Rattle.model_session.specs.SessionState.{Standing, Outage, SessionState, Stop, AreStops, LastAnswered, IsStateLeft, life_gone_on, life_ended, broken}
+use Rattle.model_session.specs.Lives.{LifeState, LastLife, last_told, last_number, AreLegal, HasAnswered, LifeLeaves, is_disk_fault, longer}
+use Rattle.model_session.specs.SessionState.{Standing, Outage, SessionState, Stop, AreStops, LastAnswered, IsStateLeft, IsKnown, life_gone_on, life_ended, broken}
 use Rattle.model_session.specs.SessionState.Standing.{Up as StandsUp, Down as StandsDown}
-use Rattle.tm_control.specs.ControlOnDisk.{ControlOnDisk, LastsBy, lasting_after_entries}
+use Rattle.tm_control.specs.ControlOnDisk.{ControlOnDisk, LastsBy, last_checked, lasting_after_entries}
 use Rattle.openings.specs.declared.life.Life.{Life}
 use Rattle.session_lives.specs.declared.place.Idle.{Idle}
 use Rattle.session_lives.specs.declared.place.Place.TheVariants.{Up, Down}
@@ -41,11 +42,13 @@ pub same_state : (lives lives' : List LifeState) (stops stops' : List Stop) (sta
     → state_with lives' stops' standing' ≡ state_with lives stops standing
 same_state lives lives' stops stops' standing standing' a b c = ap (λ l. state_with l stops' standing') a ∙ ap (λ s. state_with lives s standing') b ∙ ap (state_with lives stops) c
 
-abbrev pub life_with : LastingState → List Entry → LastLife
-life_with opening history = record { opening = opening; history = history }
+abbrev pub life_with : LastingState → ℕ → List Entry → LastLife
+life_with opening number history = record { opening = opening; checkpoint = number; history = history }
 
-pub same_life : (opening opening' : LastingState) (history history' : List Entry) → opening' ≡ opening → history' ≡ history → life_with opening' history' ≡ life_with opening history
-same_life opening opening' history history' a b = ap (λ o. life_with o history') a ∙ ap (life_with opening) b
+pub same_life : (opening opening' : LastingState) (number number' : ℕ) (history history' : List Entry) → opening' ≡ opening → number' ≡ number → history' ≡ history
+    → life_with opening' number' history' ≡ life_with opening number history
+same_life opening opening' number number' history history' a n b =
+    ap (λ o. life_with o number' history') a ∙ ap (λ k. life_with opening k history') n ∙ ap (life_with opening number) b
 
 abbrev down_with : LastLife → Bool → Standing
 down_with life stopped = StandsDown (record { last = Some life; emptied = false; stopped = stopped })
@@ -54,20 +57,20 @@ same_kept : (old new : Kept) → new.lives ≡ old.lives → map life_of new.liv
 same_kept old new e = ap (λ v. map life_of v.items) e
 
 -- the life goes on
-pub up_state : {D : Type 0} (a b : ControlOnDisk D) (old new : Kept) (entries : List Entry) → b.control.opening ≡ a.control.opening
+pub up_state : {D : Type 0} (a b : ControlOnDisk D) (old new : Kept) (entries : List Entry) → b.control.opening ≡ a.control.opening → b.checkpoint ≡ a.checkpoint
     → b.control.history ≡ a.control.history ++ entries → new.lives ≡ old.lives → new.stops ≡ old.stops
     → session_at (Up b) new ≡ life_gone_on (session_at (Up a) old) (last_up a) entries
-up_state a b old new entries opening history lives stops =
+up_state a b old new entries opening number history lives stops =
     same_state (map life_of old.lives.items) (map life_of new.lives.items) old.stops.items new.stops.items (StandsUp (longer (last_up a) entries)) (StandsUp (last_up b))
     (same_kept old new lives) (ap (λ v. v.items) stops)
-    (ap StandsUp (same_life a.control.opening b.control.opening (a.control.history ++ entries) b.control.history opening history))
+    (ap StandsUp (same_life a.control.opening b.control.opening a.checkpoint b.checkpoint (a.control.history ++ entries) b.control.history opening number history))
 
-pub same_up : {D : Type 0} (a b : ControlOnDisk D) (old new : Kept) → b.control.opening ≡ a.control.opening
+pub same_up : {D : Type 0} (a b : ControlOnDisk D) (old new : Kept) → b.control.opening ≡ a.control.opening → b.checkpoint ≡ a.checkpoint
     → b.control.history ≡ a.control.history → new.lives ≡ old.lives → new.stops ≡ old.stops → session_at (Up b) new ≡ session_at (Up a) old
-same_up a b old new opening history lives stops =
+same_up a b old new opening number history lives stops =
     same_state (map life_of old.lives.items) (map life_of new.lives.items) old.stops.items new.stops.items (StandsUp (last_up a)) (StandsUp (last_up b))
     (same_kept old new lives) (ap (λ v. v.items) stops)
-    (ap StandsUp (same_life a.control.opening b.control.opening a.control.history b.control.history opening history))
+    (ap StandsUp (same_life a.control.opening b.control.opening a.checkpoint b.checkpoint a.control.history b.control.history opening number history))
 
 -- it ended
 abbrev pub outage_with : Option LastLife → Bool → Bool → Outage
@@ -82,42 +85,38 @@ last_is idle life a emptied stopped is same e t =
 module _ {D : Type 0} (state : D → DiskState) where
   -- the outage behind a life that had come to these entries
   outage_is : (c : ControlOnDisk D) (old new : Kept) (stopped : Bool) (idle : Idle D) (life : LastLife) → GoesDown state c old new stopped idle
-      → c.control.opening ≡ life.opening → c.control.history ≡ life.history → outage_of idle ≡ outage_with (Some life) false stopped
-  outage_is c old new stopped idle life down opening history =
+      → c.control.opening ≡ life.opening → c.checkpoint ≡ life.checkpoint → c.control.history ≡ life.history → outage_of idle ≡ outage_with (Some life) false stopped
+  outage_is c old new stopped idle life down opening number history =
       last_is idle down.life life false stopped down.last
-      (same_life life.opening down.life.opening life.history down.life.history (down.closes.opening ∙ opening) (down.closes.history ∙ history))
+      (same_life life.opening down.life.opening life.checkpoint down.life.checkpoint life.history down.life.history (down.closes.opening ∙ opening) (down.closes.checkpoint ∙ number)
+      (down.closes.history ∙ history))
       down.emptied down.stopped_is
 
   pub ended_state : (a c : ControlOnDisk D) (old kept new : Kept) (idle : Idle D) (entries : List Entry) → GoesDown state c kept new false idle → kept.lives ≡ old.lives → kept.stops ≡ old.stops
-      → c.control.opening ≡ a.control.opening → c.control.history ≡ a.control.history ++ entries → session_at (Down idle) new ≡ life_ended (session_at (Up a) old) (last_up a) entries
-  ended_state a c old kept new idle entries down lives stops opening history =
+      → c.control.opening ≡ a.control.opening → c.checkpoint ≡ a.checkpoint → c.control.history ≡ a.control.history ++ entries → session_at (Down idle) new ≡ life_ended (session_at (Up a) old) (last_up a) entries
+  ended_state a c old kept new idle entries down lives stops opening number history =
       same_state (map life_of old.lives.items) (map life_of new.lives.items) old.stops.items new.stops.items (down_with (longer (last_up a) entries) false) (StandsDown (outage_of idle))
       (same_kept old new (down.lives ∙ lives)) (down.stops ∙ append-nil kept.stops.items ∙ ap (λ v. v.items) stops)
-      (ap StandsDown (outage_is c kept new false idle (longer (last_up a) entries) down opening history))
+      (ap StandsDown (outage_is c kept new false idle (longer (last_up a) entries) down opening number history))
 
   pub broken_state : (a c : ControlOnDisk D) (old kept new : Kept) (idle : Idle D) (entries : List Entry) → (down : GoesDown state c kept new true idle) → kept.lives ≡ old.lives → kept.stops ≡ old.stops
-      → c.control.opening ≡ a.control.opening → c.control.history ≡ a.control.history ++ entries
+      → c.control.opening ≡ a.control.opening → c.checkpoint ≡ a.checkpoint → c.control.history ≡ a.control.history ++ entries
       → session_at (Down idle) new ≡ broken (session_at (Up a) old) (last_up a) entries (c.began, (state down.disk).faults)
-  broken_state a c old kept new idle entries down lives stops opening history =
+  broken_state a c old kept new idle entries down lives stops opening number history =
       same_state (map life_of old.lives.items) (map life_of new.lives.items) (old.stops.items ++ (c.began, (state down.disk).faults) ∷ []) new.stops.items
       (down_with (longer (last_up a) entries) true) (StandsDown (outage_of idle))
       (same_kept old new (down.lives ∙ lives)) (down.stops ∙ ap (λ v. v.items ++ (c.began, (state down.disk).faults) ∷ []) stops)
-      (ap StandsDown (outage_is c kept new true idle (longer (last_up a) entries) down opening history))
+      (ap StandsDown (outage_is c kept new true idle (longer (last_up a) entries) down opening number history))
 
 -- ---- counts
 
-pub stops_higher : (low high more : ℕ) (stops : List Stop) → AreStops low stops high → high ≤ more → AreStops low stops more
-stops_higher low high more [] h few = omega (arith, h)
-stops_higher low high more ((began, end) ∷ stops) h few = (h.0, h.1, h.2, stops_higher end high more stops h.3 few)
+pub stops_one : (low mid end : ℕ) (stops : List Stop) → AreStops low stops mid → mid ≤ end → (mid + 1 ≤ end) ⊎ (18446744073709551615 ≤ end) → AreStops low (stops ++ (mid, end) ∷ []) end
+stops_one low mid end [] h less rose = (sym h, less, rose, refl)
+stops_one low mid end ((first, second) ∷ stops) h less rose = (h.0, h.1, h.2, stops_one second mid end stops h.3 less rose)
 
-pub stops_one : (low mid began end : ℕ) (stops : List Stop) → AreStops low stops mid → mid ≤ began → began ≤ end → (began + 1 ≤ end) ⊎ (18446744073709551615 ≤ end)
-    → AreStops low (stops ++ (began, end) ∷ []) end
-stops_one low mid began end [] h few less rose = (omega (arith, h), less, rose, omega arith)
-stops_one low mid began end ((first, second) ∷ stops) h few less rose = (h.0, h.1, h.2, stops_one second mid began end stops h.3 few less rose)
-
-pub rose_from : (began before now : ℕ) → began ≤ before → Rose before now → (began + 1 ≤ now) ⊎ (18446744073709551615 ≤ now)
-rose_from began before now less (inl risen) = inl (omega arith)
-rose_from began before now less (inr full) = inr full
+pub rose_from : (began before now : ℕ) → began ≡ before → Rose before now → (began + 1 ≤ now) ⊎ (18446744073709551615 ≤ now)
+rose_from began before now same (inl risen) = inl (omega (arith, same, risen))
+rose_from began before now same (inr full) = inr full
 
 -- ---- what is left of a life
 
@@ -135,23 +134,39 @@ has_ended life None is none = cc
 has_ended life (Some other) is none = cc
 
 -- of faults it has the disk's alone
-disk_by : (up : Bool) (control : ControlState) (text : List ℕ) (disk : DiskState) → LastsBy up control text disk
+disk_by : (up : Bool) (control : ControlState) (checkpoint : ℕ) (text : List ℕ) (disk : DiskState) → LastsBy up control checkpoint text disk
     → (legal : IsLegal control.system (start_of control.system control.opening) control.history) (entry : Entry) → legal.last ≡ Some entry → is_disk_fault entry ≡ true
-disk_by true control text disk lasts legal entry last = answered_end control.system (start_of control.system control.opening) control.history legal entry last lasts.legal
-disk_by false control text disk lasts legal entry last =
+disk_by true control checkpoint text disk lasts legal entry last = answered_end control.system (start_of control.system control.opening) control.history legal entry last lasts.legal
+disk_by false control checkpoint text disk lasts legal entry last =
     faulted_end control.system (start_of control.system control.opening) control.history legal entry last lasts.before lasts.entry lasts.all (disk_fault_is lasts.entry lasts.fault)
 
 -- it is legal, with its steps that were answered
-pub answered_by : (up : Bool) (control : ControlState) (text : List ℕ) (disk : DiskState) (count : ℕ) → LastsBy up control text disk
-    → (legal : IsLegal control.system (start_of control.system control.opening) control.history) → AscendAbove 0 control.history
-    → control.opening.steps + count ≡ (lasting_after_entries control.system control.opening legal.steps).steps → HasAnswered control.system (life_with control.opening control.history) count
-answered_by up control text disk count lasts legal numbers counted =
-    record { life_is = record { legal = legal; by_disk = disk_by up control text disk lasts legal; numbers = numbers }; counted = counted }
+pub answered_by : (up : Bool) (control : ControlState) (checkpoint : ℕ) (text : List ℕ) (disk : DiskState) (count : ℕ) → LastsBy up control checkpoint text disk
+    → (legal : IsLegal control.system (start_of control.system control.opening) control.history) → AscendAbove checkpoint control.history
+    → control.opening.steps + count ≡ (lasting_after_entries control.system control.opening legal.steps).steps → HasAnswered control.system (life_with control.opening checkpoint control.history) count
+answered_by up control checkpoint text disk count lasts legal numbers counted =
+    record { life_is = record { legal = legal; by_disk = disk_by up control checkpoint text disk lasts legal; numbers = numbers }; counted = counted }
 
 -- its steps that were answered
-pub answered_of : (s s' : System) (o o' : LastingState) (h h' : List Entry) (count : ℕ) → s ≡ s' → o ≡ o' → h ≡ h' → HasAnswered s (life_with o h) count → HasAnswered s' (life_with o' h') count
-answered_of s s' o o' h h' count a b c answered =
-    subst (λ h. HasAnswered s' (life_with o' h) count) c (subst (λ o. HasAnswered s' (life_with o h) count) b (subst (λ s. HasAnswered s (life_with o h) count) a answered))
+pub answered_of : (s s' : System) (o o' : LastingState) (n n' : ℕ) (h h' : List Entry) (count : ℕ) → s ≡ s' → o ≡ o' → n ≡ n' → h ≡ h' → HasAnswered s (life_with o n h) count
+    → HasAnswered s' (life_with o' n' h') count
+answered_of s s' o o' n n' h h' count a b k c answered =
+    subst (λ h. HasAnswered s' (life_with o' n' h) count) c
+    (subst (λ n. HasAnswered s' (life_with o' n h) count) k (subst (λ o. HasAnswered s' (life_with o n h) count) b (subst (λ s. HasAnswered s (life_with o n h) count) a answered)))
+
+-- the number that was told last
+same_number : (number : ℕ) (entries : List Entry) → last_checked number entries ≡ last_told number entries
+same_number number [] = refl
+same_number number (Checked freeze (Ok told) ∷ entries) = same_number told entries
+same_number number (Checked freeze (Err refused) ∷ entries) = same_number number entries
+same_number number (Accept terminal sent segments answer ∷ entries) = same_number number entries
+same_number number (Show terminal answer ∷ entries) = same_number number entries
+same_number number (Acked terminal shown answer ∷ entries) = same_number number entries
+same_number number (Turn region answer ∷ entries) = same_number number entries
+same_number number (Commanded command answer ∷ entries) = same_number number entries
+
+numbered_in : (system : System) (number : ℕ) (entries : List Entry) (image : Image) → IsNumberedFrom system (last_checked number entries) image → IsNumberedFrom system (last_told number entries) image
+numbered_in system number entries image h = subst (λ n. IsNumberedFrom system n image) (same_number number entries) h
 
 module _ {D : Type 0} (state : D → DiskState) (system : System) (source : List ℕ) (handed : D) (c : ControlOnDisk D) (system_is : c.control.system ≡ system) where
   -- what the disk holds of it
@@ -166,7 +181,7 @@ module _ {D : Type 0} (state : D → DiskState) (system : System) (source : List
   lasting_in : (entries : List Entry) → lasting_after_entries c.control.system c.control.opening entries ≡ lasting_after_entries system c.control.opening entries
   lasting_in entries = ap (λ s. lasting_after_entries s c.control.opening entries) system_is
 
-  up_images : (outage : Outage) (image : Image) → LastsBy true c.control c.text (state c.disk) → (state c.disk).may_leave image → outage.last ≡ Some (last_up c)
+  up_images : (outage : Outage) (image : Image) → LastsBy true c.control c.checkpoint c.text (state c.disk) → (state c.disk).may_leave image → outage.last ≡ Some (last_up c)
       → HoldsSession state system source handed (StandsDown outage) image
   up_images outage image lasts left last =
       recalls outage image (control_moment c.control).lasting (lasts.images image left) (leaves_all system (last_up c) (control_moment c.control).lasting (lasting_in c.control.history)) last
@@ -181,18 +196,23 @@ module _ {D : Type 0} (state : D → DiskState) (system : System) (source : List
       recalls outage image (lasting_after_entries c.control.system c.control.opening c.control.history) two
       (leaves_all system (last_up c) (lasting_after_entries c.control.system c.control.opening c.control.history) (lasting_in c.control.history)) last
 
-  down_images : (outage : Outage) (image : Image) → LastsBy false c.control c.text (state c.disk) → (state c.disk).may_leave image → outage.last ≡ Some (last_up c)
+  down_images : (outage : Outage) (image : Image) → LastsBy false c.control c.checkpoint c.text (state c.disk) → (state c.disk).may_leave image → outage.last ≡ Some (last_up c)
       → HoldsSession state system source handed (StandsDown outage) image
   down_images outage image lasts left last = down_either outage image lasts.before lasts.entry lasts.all (fault_is lasts.entry Disk lasts.fault) (lasts.images image left) last
 
-  images_by : (up : Bool) (outage : Outage) (image : Image) → LastsBy up c.control c.text (state c.disk) → (state c.disk).may_leave image → outage.last ≡ Some (last_up c)
+  images_by : (up : Bool) (outage : Outage) (image : Image) → LastsBy up c.control c.checkpoint c.text (state c.disk) → (state c.disk).may_leave image → outage.last ≡ Some (last_up c)
       → HoldsSession state system source handed (StandsDown outage) image
   images_by true outage image lasts left last = up_images outage image lasts left last
   images_by false outage image lasts left last = down_images outage image lasts left last
 
-  texts_by : (up : Bool) (image : Image) → LastsBy up c.control c.text (state c.disk) → (state c.disk).may_leave image → HasText c.control.system c.text image
+  texts_by : (up : Bool) (image : Image) → LastsBy up c.control c.checkpoint c.text (state c.disk) → (state c.disk).may_leave image → HasText c.control.system c.text image
   texts_by true image lasts left = lasts.texts image left
   texts_by false image lasts left = lasts.texts image left
+
+  -- its checkpoint's number
+  pub numbered_by : (up : Bool) (image : Image) → LastsBy up c.control c.checkpoint c.text (state c.disk) → (state c.disk).may_leave image → IsNumberedFrom system (last_number (last_up c)) image
+  numbered_by true image lasts left = numbered_in system c.checkpoint c.control.history image (subst (λ s. IsNumberedFrom s (last_checked c.checkpoint c.control.history) image) system_is (lasts.numbered image left))
+  numbered_by false image lasts left = numbered_in system c.checkpoint c.control.history image (subst (λ s. IsNumberedFrom s (last_checked c.checkpoint c.control.history) image) system_is (lasts.numbered image left))
 
   -- the end of a life undoes nothing of what it has done
   down_measure : (old new : Kept) (stopped : Bool) (idle : Idle D) → GoesDown state c old new stopped idle → measure (session_at (Up c) old) ≤ measure (session_at (Down idle) new)
@@ -219,7 +239,7 @@ module _ {D : Type 0} (state : D → DiskState) (system : System) (source : List
   down_sound alone text_is size old new stopped idle down same legal stops valid counts =
       let disk : IsSameDisk (state handed) (state down.disk) = subst (λ d. IsSameDisk (state handed) (state d)) (sym down.closes.disk_is) same in
       let faults : (state idle.disk).faults ≡ (state c.disk).faults = down.laid.faults ∙ ap (λ d. (state d).faults) down.closes.disk_is in
-      let outage : outage_of idle ≡ outage_with (Some (last_up c)) false stopped = outage_is state c old new stopped idle (last_up c) down refl refl in
+      let outage : outage_of idle ≡ outage_with (Some (last_up c)) false stopped = outage_is state c old new stopped idle (last_up c) down refl refl refl in
       record {
         handed_alone = alone;
         system_is = down.closes.system_is ∙ system_is;
@@ -235,24 +255,28 @@ module _ {D : Type 0} (state : D → DiskState) (system : System) (source : List
         stops = subst (λ n. AreStops (state handed).faults new.stops.items n) (sym faults) stops;
         legal = subst (λ l. AreLegal system l) (sym (same_kept old new down.lives)) legal;
         answered = subst (λ l. LastAnswered system (option_map last_life_of l) (kept_steps l)) (sym down.last)
-            (answered_of c.control.system system c.control.opening down.life.opening c.control.history down.life.history down.life.kept
-            system_is (sym down.closes.opening) (sym down.closes.history) (answered_by c.up c.control c.text (state c.disk) down.life.kept down.lasts down.closes.legal down.closes.numbers down.closes.kept));
+            (answered_of c.control.system system c.control.opening down.life.opening c.checkpoint down.life.checkpoint c.control.history down.life.history down.life.kept
+            system_is (sym down.closes.opening) (sym down.closes.checkpoint) (sym down.closes.history) (answered_by c.up c.control c.checkpoint c.text (state c.disk) down.life.kept down.lasts down.closes.legal down.closes.numbers down.closes.kept));
         images = λ image left. images_by c.up (outage_of idle) image down.lasts (subst (λ d. (state d).may_leave image) down.closes.disk_is (down.laid.no_more image left)) (ap (λ o. o.last) outage);
+        numbered = λ image left.
+            inr (λ number known.
+            subst (λ n. IsNumberedFrom system n image) (sym (subst (λ l. IsKnown (session_setting state system source handed) l number) (ap (λ o. o.last) outage) known))
+            (numbered_by c.up image down.lasts (subst (λ d. (state d).may_leave image) down.closes.disk_is (down.laid.no_more image left))));
         valid = valid;
         counts = λ high first. down_counts old new stopped idle down high (counts high first);
       }
 
-  -- the counts of a stop lie behind those before
+  -- a stop begins where the one before it had ended
   pub stop_behind : (old new : Kept) (idle : Idle D) (before : ℕ) → (down : GoesDown state c old new true idle) → AreStops (state handed).faults old.stops.items c.began
-      → c.began ≤ before → before ≤ (state c.disk).faults → Rose before (state c.disk).faults → AreStops (state handed).faults new.stops.items (state c.disk).faults
+      → c.began ≡ before → before ≤ (state c.disk).faults → Rose before (state c.disk).faults → AreStops (state handed).faults new.stops.items (state c.disk).faults
   stop_behind old new idle before down stops began more rose =
       let faults : (state down.disk).faults ≡ (state c.disk).faults = ap (λ d. (state d).faults) down.closes.disk_is in
       subst (λ s. AreStops (state handed).faults s (state c.disk).faults) (sym down.stops)
       (subst (λ n. AreStops (state handed).faults (old.stops.items ++ (c.began, n) ∷ []) (state c.disk).faults) (sym faults)
-      (stops_one (state handed).faults c.began c.began (state c.disk).faults old.stops.items stops (omega arith) (omega (arith, began, more)) (rose_from c.began before (state c.disk).faults began rose)))
+      (stops_one (state handed).faults c.began (state c.disk).faults old.stops.items stops (omega (arith, began, more)) (rose_from c.began before (state c.disk).faults began rose)))
 
   pub no_stop : (old new : Kept) (idle : Idle D) → GoesDown state c old new false idle → AreStops (state handed).faults old.stops.items c.began
-      → c.began ≤ (state c.disk).faults → AreStops (state handed).faults new.stops.items (state c.disk).faults
+      → c.began ≡ (state c.disk).faults → AreStops (state handed).faults new.stops.items (state c.disk).faults
   no_stop old new idle down stops began =
       subst (λ s. AreStops (state handed).faults s (state c.disk).faults) (sym (down.stops ∙ append-nil old.stops.items))
-      (stops_higher (state handed).faults c.began (state c.disk).faults old.stops.items stops began)
+      (subst (λ n. AreStops (state handed).faults old.stops.items n) began stops)

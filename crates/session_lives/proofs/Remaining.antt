@@ -20,7 +20,7 @@ use Rattle.session_lives.specs.declared.place.Kept.{Kept}
 use Rattle.session_lives.specs.declared.place.Session.{Session}
 use Rattle.session_lives.specs.RunningSession.{life_of, last_life_of, last_up, kept_steps, session_at, HoldsSession, IsUpReady, IsSessionReady, IsReadyAt, IsUpSound, IsDownSound, IsSoundAt}
 use Rattle.session_lives.specs.ClosedSession.{listed, IsClosedUp, IsClosedDown, IsClosedAt, IsSessionClosed, Remains, SessionLeaves}
-use Rattle.session_lives.proofs.Ends.{same_life, answered_by, answered_of, stops_higher}
+use Rattle.session_lives.proofs.Ends.{same_life, answered_by, answered_of, numbered_by}
 use Rattle.session_lives.proofs.Restarted.{legal_with}
 
 lives_listed : (lives : List Life) (last : Option Life) → map life_of (lives ++ listed last) ≡ with_life (map life_of lives) (option_map last_life_of last) (kept_steps last)
@@ -44,10 +44,11 @@ module _ {D : Type 0} (state : D → DiskState) (system : System) (source : List
         counted = subst (λ d. AreStops (state handed).faults stops (state d).faults) (sym over.disk_is)
             (subst (λ s. AreStops (state handed).faults s (state idle.disk).faults) (sym over.stops_are) sound.stops);
         images = λ image left. sound.images image (subst (λ d. (state d).may_leave image) over.disk_is left);
+        numbered = λ image left. sound.numbered image (subst (λ d. (state d).may_leave image) over.disk_is left);
         enough = λ some. sound.size (some_life idle.last some);
       }
 
-  up_holds : (control : ControlOnDisk D) (up : Bool) → up ≡ true → control.control.system ≡ system → LastsBy up control.control control.text (state control.disk) → (image : Image)
+  up_holds : (control : ControlOnDisk D) (up : Bool) → up ≡ true → control.control.system ≡ system → LastsBy up control.control control.checkpoint control.text (state control.disk) → (image : Image)
       → (state control.disk).may_leave image → HoldsSession state system source handed (StandsUp (last_up control)) image
   up_holds control false is same lasts image left = cc
   up_holds control true is same lasts image left = inl (record {
@@ -60,12 +61,12 @@ module _ {D : Type 0} (state : D → DiskState) (system : System) (source : List
       → IsClosedUp state control kept disk lives stops → Remains state system source handed disk (session_at (Up control) kept) lives stops
   up_remains control kept disk lives stops ready sound over =
       let life : LifeState = kept_life (last_up control) over.life.kept in
-      let same : life_of over.life ≡ life = ap (λ l. kept_life l over.life.kept) (same_life control.control.opening over.life.opening control.control.history over.life.history over.closes.opening over.closes.history) in
+      let same : life_of over.life ≡ life = ap (λ l. kept_life l over.life.kept) (same_life control.control.opening over.life.opening control.checkpoint over.life.checkpoint control.control.history over.life.history over.closes.opening over.closes.checkpoint over.closes.history) in
       let all : map life_of lives ≡ with_life (map life_of kept.lives.items) (Some (last_up control)) over.life.kept =
       ap (map life_of) over.lives_are ∙ map-append life_of kept.lives.items (over.life ∷ []) ∙ ap (λ l. map life_of kept.lives.items ++ l ∷ []) same in
       let answered : HasAnswered system (last_up control) over.life.kept =
-      answered_of control.control.system system control.control.opening control.control.opening control.control.history control.control.history over.life.kept
-      sound.system_is refl refl (answered_by control.up control.control control.text (state control.disk) over.life.kept over.lasts over.closes.legal over.closes.numbers over.closes.kept) in
+      answered_of control.control.system system control.control.opening control.control.opening control.checkpoint control.checkpoint control.control.history control.control.history over.life.kept
+      sound.system_is refl refl refl (answered_by control.up control.control control.checkpoint control.text (state control.disk) over.life.kept over.lasts over.closes.legal over.closes.numbers over.closes.kept) in
       record {
         lives_are = record { count = over.life.kept; answered = answered; are = all };
         legal = subst (λ l. AreLegal system l) (sym all) (legal_with system (map life_of kept.lives.items) (Some (last_up control)) over.life.kept over.life.kept sound.legal answered);
@@ -73,8 +74,10 @@ module _ {D : Type 0} (state : D → DiskState) (system : System) (source : List
         same = subst (λ d. IsSameDisk (state handed) (state d)) (sym over.closes.disk_is) sound.same;
         counted = subst (λ d. AreStops (state handed).faults stops (state d).faults) (sym over.closes.disk_is)
             (subst (λ s. AreStops (state handed).faults s (state control.disk).faults) (sym over.stops_are)
-            (stops_higher (state handed).faults control.began (state control.disk).faults kept.stops.items sound.stops sound.began));
+            (subst (λ n. AreStops (state handed).faults kept.stops.items n) sound.began sound.stops));
         enough = λ some. sound.size;
+        numbered = λ image left.
+            numbered_by state system source handed control sound.system_is control.up image over.lasts (subst (λ d. (state d).may_leave image) over.closes.disk_is left);
         images = λ image left. up_holds control control.up ready.up sound.system_is over.lasts image (subst (λ d. (state d).may_leave image) over.closes.disk_is left);
       }
 

@@ -1,5 +1,5 @@
 -- A system that was down, and what a restart comes to.
-use Rattle.std.proofs.Common.{◌≡◌, ◌⊎◌, ℕ, suc, ◌+◌, ◌*◌, ◌-◌, ◌≤◌, max, Bool, true, false, List, [], ◌∷◌, ◌++◌, map, sym, ◌∙◌, ap, subst, refl, arith, inl, inr, ⊎_elim}
+use Rattle.std.proofs.Common.{◌≡◌, ◌⊎◌, ℕ, suc, ◌+◌, ◌*◌, ◌-◌, ◌≤◌, ◌<◌, max, Bool, true, false, List, [], ◌∷◌, ◌++◌, map, sym, ◌∙◌, ap, subst, refl, arith, inl, inr, ⊎_elim}
 use Rattle.std.proofs.lemmas.List.{map-append}
 use Rattle.std.proofs.lemmas.Bool.{cases_Bool, eq-eqb}
 use Rattle.std.specs.Prelude.{◌==◌, if◌then◌else◌, Option, Some, None, Result, Ok, Err}
@@ -21,14 +21,15 @@ use Rattle.model_session.specs.Lives.{LifeState, LastLife, AreLegal, LifeLeaves,
 use Rattle.model_session.specs.SessionState.{Setting, Outage, SessionState, AreStops, IsStateEmptied, MayBeFound, LastAnswered, IsStateLeft, or_cold, life_opened, failed}
 use Rattle.model_session.specs.SessionState.Standing.{Up as StandsUp, Down as StandsDown}
 use Rattle.model_session.proofs.Kept.{kept_has}
-use Rattle.model_session.specs.Session.{MayOpenWith, MayRefuse, OpensFirst, IsRestarted, OpensSession as OpensLife, FailsToOpen}
+use Rattle.model_session.specs.Session.{MayOpenWith, MayRefuse, OpensFirst, OpensAbove, IsRestarted, OpensSession as OpensLife, FailsToOpen}
+use Rattle.restart_data.specs.declared.restart.RestartSector.{RestartSector}
 use Rattle.restart_data.specs.Restart.{restart_in}
 use Rattle.model_machine.specs.declared.counts.Counter.{Counter}
 use Rattle.model_image.specs.Areas.{snapshot_area}
 use Rattle.model_image.specs.Counters.{next_sequence}
 use Rattle.model_image.specs.Text.{text_in, first_difference}
 use Rattle.openings.specs.FirstImage.{sectors_needed}
-use Rattle.checkpointing.specs.DefinitionText.{HasText}
+use Rattle.checkpointing.specs.DefinitionText.{HasText, IsNumberedFrom}
 use Rattle.checkpointing.specs.Counts.{AreUpTo, CountsUpTo, RaisesCounts}
 use Rattle.checkpointing.proofs.Counted.{up_to_more, same_raises}
 use Rattle.session_law.specs.Measures.{call_raises, measure}
@@ -49,7 +50,7 @@ use Rattle.session_lives.specs.declared.place.Idle.{Idle}
 use Rattle.session_lives.specs.declared.place.Place.TheVariants.{Up, Down}
 use Rattle.session_lives.specs.declared.place.Kept.{Kept}
 use Rattle.session_lives.specs.declared.place.Session.{Session}
-use Rattle.session_lives.specs.RunningSession.{life_of, last_life_of, last_up, kept_steps, outage_of, session_at, session_of, session_down, session_setting, CountsDown, CountsFirst, LeadsBy, IsBrokenAs, IsRefusedFirst, IsOfDefinition, IsEmptyImage, IsRight, IsOfText, HoldsSession, IsDownSound, IsSessionSound, IsSoundAt, error_of}
+use Rattle.session_lives.specs.RunningSession.{life_of, last_life_of, last_up, kept_steps, outage_of, session_at, session_of, session_down, session_setting, CountsDown, CountsFirst, LeadsBy, IsBrokenAs, IsRefusedFirst, IsOfDefinition, IsEmptyImage, IsRight, IsOfText, HoldsSession, IsNumberedAt, IsDownSound, IsSessionSound, IsSoundAt, error_of}
 use Rattle.session_lives.specs.ControlCounts.{CountsUp}
 use Rattle.session_lives.proofs.Counting.{stands_more}
 use Rattle.session_lives.proofs.Told.{told_text}
@@ -106,7 +107,7 @@ abbrev count_of : Option Life → Bool → ℕ → ℕ
 count_of None cold steps = 0
 count_of (Some life) cold steps = (life_kept_by cold life steps).kept
 
-kept_life_is : (cold : Bool) (life : Life) (steps : ℕ) → life_of (life_kept_by cold life steps) ≡ record { opening = life.opening; history = life.history; kept = (life_kept_by cold life steps).kept }
+kept_life_is : (cold : Bool) (life : Life) (steps : ℕ) → life_of (life_kept_by cold life steps) ≡ record { opening = life.opening; checkpoint = life.checkpoint; history = life.history; kept = (life_kept_by cold life steps).kept }
 kept_life_is true life steps = refl
 kept_life_is false life steps = refl
 
@@ -224,18 +225,18 @@ module _ {D : Type 0} (state : D → DiskState) (is_disk : (disk : D) → IsDisk
   sectors_there : sectors_needed idle.system ≤ (state idle.disk).size → sectors_needed system ≤ (state handed).size
   sectors_there enough = subst (λ n. sectors_needed system ≤ n) sound.same.size (subst (λ s. sectors_needed s ≤ (state idle.disk).size) sound.system_is enough)
 
-  opened_state : (cold : Bool) (gone : HasOpened state idle old cold session) → session_of session ≡ life_opened before outage (count_of idle.last cold gone.control.control.opening.steps) gone.control.control.opening
+  opened_state : (cold : Bool) (gone : HasOpened state idle old cold session) → session_of session ≡ life_opened before outage (count_of idle.last cold gone.control.control.opening.steps) gone.control.checkpoint gone.control.control.opening
   opened_state cold gone =
       ap (λ p. session_at p session.kept) gone.place
       ∙ same_state (with_life (map life_of old.lives.items) outage.last (count_of idle.last cold gone.control.control.opening.steps)) (map life_of session.kept.lives.items)
-      old.stops.items session.kept.stops.items (StandsUp (life_with gone.control.control.opening [])) (StandsUp (last_up gone.control))
+      old.stops.items session.kept.stops.items (StandsUp (life_with gone.control.control.opening gone.control.checkpoint [])) (StandsUp (last_up gone.control))
       (ap (map life_of) gone.lives ∙ lives_with old.lives.items idle.last cold gone.control.control.opening.steps) gone.stops
-      (ap StandsUp (same_life gone.control.control.opening gone.control.control.opening [] gone.control.control.history refl gone.opens.history))
+      (ap StandsUp (same_life gone.control.control.opening gone.control.control.opening gone.control.checkpoint gone.control.checkpoint [] gone.control.control.history refl refl gone.opens.history))
 
   opened_measured : (cold : Bool) (gone : HasOpened state idle old cold session) → measure (session_at (Up gone.control) session.kept) ≡ measure before + 1
   opened_measured cold gone =
       ap measure (sym (ap (λ p. session_at p session.kept) gone.place) ∙ opened_state cold gone)
-      ∙ opened_measure before outage (count_of idle.last cold gone.control.control.opening.steps) gone.control.control.opening
+      ∙ opened_measure before outage (count_of idle.last cold gone.control.control.opening.steps) gone.control.checkpoint gone.control.control.opening
 
   opened_counts : (cold : Bool) (gone : HasOpened state idle old cold session) (high : ℕ) → CountsFirst system high (state handed)
       → CountsUp state (high + call_raises * measure (session_at (Up gone.control) session.kept)) gone.control
@@ -260,7 +261,7 @@ module _ {D : Type 0} (state : D → DiskState) (is_disk : (disk : D) → IsDisk
         same = same_on (state handed) (state idle.disk) (state gone.control.disk) sound.same (stays_is_same (state idle.disk) (state gone.control.disk) gone.opens.stays);
         stops = subst (λ n. AreStops (state handed).faults session.kept.stops.items n) (sym gone.opens.began)
             (subst (λ s. AreStops (state handed).faults s (state idle.disk).faults) (sym gone.stops) sound.stops);
-        began = omega (arith, gone.opens.began, gone.opens.no_fault);
+        began = gone.opens.began ∙ sym gone.opens.no_fault;
         legal = subst (λ l. AreLegal system l) (sym (ap (map life_of) gone.lives ∙ lives_with old.lives.items idle.last cold gone.control.control.opening.steps))
             (legal_with system (map life_of old.lives.items) outage.last (kept_steps idle.last) (count_of idle.last cold gone.control.control.opening.steps) sound.legal sound.answered);
         valid = sound.valid;
@@ -303,7 +304,7 @@ module _ {D : Type 0} (state : D → DiskState) (is_disk : (disk : D) → IsDisk
   broken_by true first image (inr empty) holds = inl (record { state = empty_state system; recovers = empty.recovers; may = (kept_steps idle.last, inr (record { broke_off = refl; empty = refl; answered = sound.answered })) })
 
   same_image : (cold : Bool) (image : Image) → KeepsBy (how_of cold) system source image image
-  same_image false image = record { alike = λ answer is. is; texts = inl refl }
+  same_image false image = record { alike = λ answer is. is; texts = inl refl; number = λ low is. is }
   same_image true image = inl refl
 
   abbrev outage_behind : Bool → Outage
@@ -371,6 +372,17 @@ module _ {D : Type 0} (state : D → DiskState) (is_disk : (disk : D) → IsDisk
       let comes = failed_from cold gone image left in
       broken_by cold comes.before image comes.by (sound.images comes.before comes.left)
 
+  -- the number of its checkpoint
+  numbered_still : (cold : Bool) (first image : Image) → KeepsBy (how_of cold) system source first image → IsNumberedAt setting (StandsDown outage) first → IsNumberedAt setting (StandsDown (outage_behind cold)) image
+  numbered_still true first image keeps numbered = inl refl
+  numbered_still false first image keeps (inl emptied) = inl emptied
+  numbered_still false first image keeps (inr above) = inr (λ number known. keeps.number number (above number known))
+
+  failed_numbered : (cold : Bool) (gone : HasFailed state idle old cold session) (image : Image) → (state gone.after.disk).may_leave image → IsNumberedAt setting (StandsDown (outage_behind cold)) image
+  failed_numbered cold gone image left =
+      let comes = failed_from cold gone image left in
+      numbered_still cold comes.before image comes.by (sound.numbered comes.before comes.left)
+
   failed_measured : (cold : Bool) (gone : HasFailed state idle old cold session) → measure (session_at (Down gone.after) session.kept) ≡ measure before + 1
   failed_measured cold gone =
       ap measure (sym (ap (λ p. session_at p session.kept) gone.place) ∙ failed_state cold gone) ∙ failed_measure before outage cold ((state idle.disk).faults, (state gone.disk).faults)
@@ -394,11 +406,12 @@ module _ {D : Type 0} (state : D → DiskState) (is_disk : (disk : D) → IsDisk
         same = same_on (state handed) (state gone.disk) (state gone.after.disk) same gone.cut.same;
         stops = subst (λ n. AreStops (state handed).faults session.kept.stops.items n) (sym gone.cut.faults)
             (subst (λ s. AreStops (state handed).faults s (state gone.disk).faults) (sym gone.stops)
-            (stops_one (state handed).faults (state idle.disk).faults (state idle.disk).faults (state gone.disk).faults old.stops.items sound.stops (omega arith) gone.back.stays.faults
-            (rose_from (state idle.disk).faults (state idle.disk).faults (state gone.disk).faults (omega arith) gone.back.cause)));
+            (stops_one (state handed).faults (state idle.disk).faults (state gone.disk).faults old.stops.items sound.stops gone.back.stays.faults
+            (rose_from (state idle.disk).faults (state idle.disk).faults (state gone.disk).faults refl gone.back.cause)));
         legal = subst (λ l. AreLegal system (map life_of l)) (sym gone.lives) sound.legal;
         answered = subst (λ l. LastAnswered system (option_map last_life_of l) (kept_steps l)) (sym gone.last) sound.answered;
         images = λ image left. subst (λ o. HoldsSession state system source handed (StandsDown o) image) (sym outage_is) (failed_holds cold gone image left);
+        numbered = λ image left. subst (λ o. IsNumberedAt setting (StandsDown o) image) (sym outage_is) (failed_numbered cold gone image left);
         valid = sound.valid;
         counts = failed_counts cold gone;
       })
@@ -435,6 +448,7 @@ module _ {D : Type 0} (state : D → DiskState) (is_disk : (disk : D) → IsDisk
         legal = subst (λ l. AreLegal system (map life_of l)) (sym idles.lives) sound.legal;
         answered = subst (λ l. LastAnswered system (option_map last_life_of l) (kept_steps l)) (sym idles.last) sound.answered;
         images = λ image left. subst (λ o. HoldsSession state system source handed (StandsDown o) image) (sym outage_is) (sound.images image (idles.wrote.keeps.no_more image left));
+        numbered = λ image left. subst (λ o. IsNumberedAt setting (StandsDown o) image) (sym outage_is) (sound.numbered image (idles.wrote.keeps.no_more image left));
         valid = sound.valid;
         counts = idle_counts idles;
       })
@@ -658,11 +672,44 @@ module _ {D : Type 0} (state : D → DiskState) (is_disk : (disk : D) → IsDisk
       of (inl right) = ⊎_elim (λ was. inl was) (λ emptied. inr (opens_empty emptied)) (right.first (record { found = refl; first = yet.first }))
       of (inr there) = inl (handed_text (state idle.disk).shown there.left has)
 
+  -- a life opens with a higher number than any before it
+  no_sector : (restart : RestartSector) (found : Result (Option RestartSector) Fault) → found ≡ Ok None → found ≡ Ok (Some restart) → ⊥
+  no_sector restart found none some = cc
+
+  one_sector : (a b : RestartSector) (found : Result (Option RestartSector) Fault) → found ≡ Ok (Some a) → found ≡ Ok (Some b) → a ≡ b
+  one_sector a b found one other = cc
+
+  told_above : (number : ℕ) (parts : OpeningParts) (opening : LastingState) → IsNumberedFrom system number (state idle.disk).shown
+      → TellsOpening idle.system idle.text (state idle.disk).shown (Ok (parts, opening)) → number < parts.now.checkpoint
+  told_above number parts opening is (inl reopened) =
+      let here : IsNumberedFrom idle.system number (state idle.disk).shown = subst (λ (s : System). IsNumberedFrom s number (state idle.disk).shown) (sym sound.system_is) is in
+      let same : here.restart ≡ reopened.restart =
+      one_sector here.restart reopened.restart (restart_in (snapshot_area idle.system) (state idle.disk).shown) here.found reopened.found.has_restart in
+      omega (arith, here.least, ap (λ (r : RestartSector). r.checkpoint) same, reopened.next.checkpoint)
+  told_above number parts opening is (inr cold) =
+      let here : IsNumberedFrom idle.system number (state idle.disk).shown = subst (λ (s : System). IsNumberedFrom s number (state idle.disk).shown) (sym sound.system_is) is in
+      absurd (no_sector here.restart (restart_in (snapshot_area idle.system) (state idle.disk).shown) cold.zeros here.found)
+
+  shown_above : (gone : HasOpened state idle old false session) → setting.tells ≡ true → IsNumberedAt setting (StandsDown outage) (state idle.disk).shown
+      → OpensAbove false setting outage gone.control.checkpoint
+  shown_above gone tells (inl emptied) = inl emptied
+  shown_above gone tells (inr numbered) =
+      inr (λ number known.
+      let above : number < gone.opens.begins.parts.now.checkpoint =
+      told_above number gone.opens.begins.parts gone.control.control.opening (numbered number known) (gone.opens.begins.found refl (tells_now tells)) in
+      omega (arith, above, gone.opens.checkpoint, ap (λ (r : RestartSector). r.checkpoint) gone.opens.begins.restart_is))
+
+  opens_above : (cold : Bool) (gone : HasOpened state idle old cold session) → setting.tells ≡ true → OpensAbove cold setting outage gone.control.checkpoint
+  opens_above false gone tells = shown_above gone tells (sound.numbered (state idle.disk).shown ((is_disk idle.disk).shown_left (tells_now tells)))
+  opens_above true gone tells = gone.opens.checkpoint ∙ ap (λ (r : RestartSector). r.checkpoint) gone.opens.begins.restart_is ∙ (gone.opens.begins.cold refl).first.checkpoint
+
   -- a life that opened, and a disk that failed
   pub opens_gone : (cold : Bool) → HasOpened state idle old cold session → OpensLife cold setting before outage (session_of session)
   opens_gone cold gone = record {
     kept = count_of idle.last cold gone.control.control.opening.steps;
+    checkpoint = gone.control.checkpoint;
     state = gone.control.control.opening;
+    above = opens_above cold gone;
     may = λ tells. may_open cold gone.control.control.opening gone.control.journal gone.control.next_unit gone.opens.begins tells;
     right = right_first cold gone;
     goes = opened_state cold gone;

@@ -60,10 +60,10 @@ module _ {D : Type 0} (state : D → DiskState) (system : System) (source : List
   goes_up on = ap (λ (s : Session D). session_of s) on
 
   up_after : session ≡ session_up b kept → (entries : List Entry) → b.control.history ≡ a.control.history ++ entries → session_of session ≡ life_gone_on before (last_up a) entries
-  up_after on entries history = goes_up on ∙ up_state a b old kept entries stays.opening history lives stops
+  up_after on entries history = goes_up on ∙ up_state a b old kept entries stays.opening stays.checkpoint history lives stops
 
   same_after : session ≡ session_up b kept → b.control.history ≡ a.control.history → session_of session ≡ before
-  same_after on history = goes_up on ∙ same_up a b old kept stays.opening history lives stops
+  same_after on history = goes_up on ∙ same_up a b old kept stays.opening stays.checkpoint history lives stops
 
   -- the machine's answer, in the system's own words
   may_in : (entry : Entry) → May a.control.system (control_moment a.control) entry → May system (now_in system (last_up a)) entry
@@ -100,8 +100,8 @@ module _ {D : Type 0} (state : D → DiskState) (system : System) (source : List
 
   -- ---- what is sound behind it
 
-  pub up_sound : session ≡ session_up b kept → IsSessionSound state system source handed session
-  up_sound on =
+  pub up_sound : session ≡ session_up b kept → (state b.disk).faults ≡ (state a.disk).faults → IsSessionSound state system source handed session
+  up_sound on calm =
       subst (λ (s : Session D). IsSoundAt state system source handed s.place s.kept) (sym on)
       (record {
         handed_alone = sound.handed_alone;
@@ -110,7 +110,7 @@ module _ {D : Type 0} (state : D → DiskState) (system : System) (source : List
         size = sound.size;
         same = same_on (state handed) (state a.disk) (state b.disk) sound.same stays.disk;
         stops = subst (λ v. AreStops (state handed).faults v.items b.began) (sym stops) (subst (λ n. AreStops (state handed).faults old.stops.items n) (sym stays.began) sound.stops);
-        began = subst (λ n. n ≤ (state b.disk).faults) (sym stays.began) (omega (arith, sound.began, stays.disk.faults));
+        began = stays.began ∙ sound.began ∙ sym calm;
         legal = subst (λ v. AreLegal system (map life_of v.items)) (sym lives) sound.legal;
         valid = sound.valid;
         counts = counts_now;
@@ -125,14 +125,14 @@ module _ {D : Type 0} (state : D → DiskState) (system : System) (source : List
   stops_now : AreStops (state handed).faults kept.stops.items b.began
   stops_now = subst (λ v. AreStops (state handed).faults v.items b.began) (sym stops) (subst (λ n. AreStops (state handed).faults old.stops.items n) (sym stays.began) sound.stops)
 
-  began_before : b.began ≤ (state a.disk).faults
-  began_before = subst (λ n. n ≤ (state a.disk).faults) (sym stays.began) sound.began
+  began_before : b.began ≡ (state a.disk).faults
+  began_before = stays.began ∙ sound.began
 
-  pub power_sound : {cut : Option ℕ} → HasEndedLife state b kept cut false session → IsSessionSound state system source handed session
-  power_sound over =
+  pub power_sound : {cut : Option ℕ} → HasEndedLife state b kept cut false session → (state b.disk).faults ≡ (state a.disk).faults → IsSessionSound state system source handed session
+  power_sound over calm =
       subst (λ p. IsSoundAt state system source handed p session.kept) (sym over.place)
       (down_sound state system source handed b (stays.system ∙ sound.system_is) sound.handed_alone (stays.text ∙ sound.text_is) sound.size kept session.kept false over.idle over.down same_now legal_now
-      (no_stop state system source handed b (stays.system ∙ sound.system_is) kept session.kept over.idle over.down stops_now (omega (arith, began_before, stays.disk.faults))) sound.valid counts_now)
+      (no_stop state system source handed b (stays.system ∙ sound.system_is) kept session.kept over.idle over.down stops_now (began_before ∙ sym calm)) sound.valid counts_now)
 
   pub broke_sound : {cut : Option ℕ} → HasEndedLife state b kept cut true session → Rose (state a.disk).faults (state b.disk).faults → IsSessionSound state system source handed session
   broke_sound over rose =
@@ -176,7 +176,7 @@ module _ {D : Type 0} (state : D → DiskState) (system : System) (source : List
     may = may_in frozen.entry frozen.answered.adds.may;
     goes = subst (λ ends. session_of session ≡ called_on ends before (last_up a) (frozen.entry ∷ [])) (sym frozen.ends)
         (ap (λ p. session_at p session.kept) over.place
-        ∙ ended_state state a b old kept session.kept over.idle (frozen.entry ∷ []) over.down lives stops stays.opening frozen.answered.adds.history);
+        ∙ ended_state state a b old kept session.kept over.idle (frozen.entry ∷ []) over.down lives stops stays.opening stays.checkpoint frozen.answered.adds.history);
     printed = text_in frozen.entry frozen.printed;
   })
   freezes (Bad rule) never over = absurd never
@@ -191,7 +191,7 @@ module _ {D : Type 0} (state : D → DiskState) (system : System) (source : List
   ends_with : {cut : Option ℕ} → (entries : List Entry) → b.control.history ≡ a.control.history ++ entries → (over : HasEndedLife state b kept cut true session)
       → session_of session ≡ broken before (last_up a) entries (b.began, (state over.down.disk).faults)
   ends_with entries history over =
-      ap (λ p. session_at p session.kept) over.place ∙ broken_state state a b old kept session.kept over.idle entries over.down lives stops stays.opening history
+      ap (λ p. session_at p session.kept) over.place ∙ broken_state state a b old kept session.kept over.idle entries over.down lives stops stays.opening stays.checkpoint history
 
   fails : (asked : Asked) → AskedFails state asked a b → HasEndedLife state b kept (Some kept.pick) true session → IsServedUp asked setting before (last_up a) (session_of session) broken_text
   fails (Call call) failed over = inr (record {
@@ -237,7 +237,7 @@ module _ {D : Type 0} (state : D → DiskState) (system : System) (source : List
   powers : (asked : Asked) (pick : ℕ) → PowersOff state asked pick a b text → HasEndedLife state b kept (Some pick) false session → IsServedUp asked setting before (last_up a) (session_of session) text
   powers (AskedPower asked) pick (same, unchanged, added, printed) over = (
     ap (λ p. session_at p session.kept) over.place
-        ∙ ended_state state a b old kept session.kept over.idle [] over.down lives stops stays.opening (added.adds.history ∙ sym (append-nil a.control.history)),
+        ∙ ended_state state a b old kept session.kept over.idle [] over.down lives stops stays.opening stays.checkpoint (added.adds.history ∙ sym (append-nil a.control.history)),
     printed,
   )
   powers (Bad rule) pick never over = absurd never
@@ -283,28 +283,75 @@ module _ {D : Type 0} (state : D → DiskState) (system : System) (source : List
   counts_on : (asked : Asked) → LooksAtCounters asked → session ≡ session_up b kept → CountsOn (session_of session).standing asked
   counts_on asked looks on = subst (λ (s : SessionState). CountsOn s.standing asked) (sym (goes_up on)) looks
 
+  -- ---- the disk fails in a stop alone
+
+  calm_done : (asked : Asked) → DoesAsked state asked a b text → (state b.disk).faults ≡ (state a.disk).faults
+  calm_done (Bad rule) does_it = does_it.0.no_fault
+  calm_done (BadCommand rule) does_it = does_it.0.no_fault
+  calm_done (Stopped terminal number reason) does_it = does_it.0.no_fault
+  calm_done (Call call) told = told.answered.no_fault
+  calm_done (Quiet most) turned = turned.no_fault
+  calm_done (AskedPower pick) never = absurd never
+  calm_done (PowerIn writes pick) does_it = does_it.0.no_fault
+  calm_done Restart does_it = does_it.0.no_fault
+  calm_done ColdStart does_it = does_it.0.no_fault
+
+  calm_frozen : (asked : Asked) → Freezes state asked a b text → (state b.disk).faults ≡ (state a.disk).faults
+  calm_frozen (Call call) frozen = frozen.answered.no_fault
+  calm_frozen (Bad rule) never = absurd never
+  calm_frozen (BadCommand rule) never = absurd never
+  calm_frozen (Stopped terminal number reason) never = absurd never
+  calm_frozen (Quiet most) never = absurd never
+  calm_frozen (AskedPower pick) never = absurd never
+  calm_frozen (PowerIn writes pick) never = absurd never
+  calm_frozen Restart never = absurd never
+  calm_frozen ColdStart never = absurd never
+
+  calm_power : (asked : Asked) (pick : ℕ) → PowersOff state asked pick a b text → (state b.disk).faults ≡ (state a.disk).faults
+  calm_power (AskedPower asked) pick (same, unchanged, added, printed) = added.no_fault
+  calm_power (Bad rule) pick never = absurd never
+  calm_power (BadCommand rule) pick never = absurd never
+  calm_power (Stopped terminal number reason) pick never = absurd never
+  calm_power (Call call) pick never = absurd never
+  calm_power (Quiet most) pick never = absurd never
+  calm_power (PowerIn writes picked) pick never = absurd never
+  calm_power Restart pick never = absurd never
+  calm_power ColdStart pick never = absurd never
+
+  calm_undone : (asked : Asked) → Undoes state asked a b → (state b.disk).faults ≡ (state a.disk).faults
+  calm_undone (Quiet most) (inl added) = added.no_fault
+  calm_undone (Quiet most) (inr stand) = stand.no_fault
+  calm_undone (Bad rule) added = added.no_fault
+  calm_undone (BadCommand rule) added = added.no_fault
+  calm_undone (Stopped terminal number reason) added = added.no_fault
+  calm_undone (Call call) added = added.no_fault
+  calm_undone (AskedPower pick) added = added.no_fault
+  calm_undone (PowerIn writes pick) added = added.no_fault
+  calm_undone Restart added = added.no_fault
+  calm_undone ColdStart added = added.no_fault
+
   -- ---- all of it
 
   pub served_up : (asked : Asked) (called : Called) (served : Served) → IsAsked state asked a b text called → IsCallSettled state (session_up b kept) called session served
       → LeadsBy state (λ setting old new. IsServedSo asked text served setting old new) system source handed (session_up a old) session
   served_up asked Answered served does_it (on, printed) =
       subst (λ s. LeadsBy state (λ setting old new. IsServedSo asked text s setting old new) system source handed (session_up a old) session) (sym printed)
-      (record { goes = does asked does_it on; sound = up_sound on })
+      (record { goes = does asked does_it on; sound = up_sound on (calm_done asked does_it) })
   served_up asked Frozen served frozen (over, printed) =
       subst (λ s. LeadsBy state (λ setting old new. IsServedSo asked text s setting old new) system source handed (session_up a old) session) (sym printed)
-      (record { goes = freezes asked frozen over; sound = power_sound over })
+      (record { goes = freezes asked frozen over; sound = power_sound over (calm_frozen asked frozen) })
   served_up asked (Power pick) served power (over, printed) =
       subst (λ s. LeadsBy state (λ setting old new. IsServedSo asked text s setting old new) system source handed (session_up a old) session) (sym printed)
-      (record { goes = powers asked pick power over; sound = power_sound over })
+      (record { goes = powers asked pick power over; sound = power_sound over (calm_power asked pick power) })
   served_up asked Broke served failed (over, broke) =
       subst (λ s. LeadsBy state (λ setting old new. IsServedSo asked text s setting old new) system source handed (session_up a old) session) (sym broke)
       (record { goes = fails asked failed over; sound = broke_sound over (rose_in asked failed) })
   served_up asked Memory served undone (on, why) =
       subst (λ s. LeadsBy state (λ setting old new. IsServedSo asked text s setting old new) system source handed (session_up a old) session) (sym why)
-      (record { goes = (undoes asked undone on, tt); sound = up_sound on })
+      (record { goes = (undoes asked undone on, tt); sound = up_sound on (calm_undone asked undone) })
   served_up asked Spent served (undone, spent, looks) (on, why) =
       subst (λ s. LeadsBy state (λ setting old new. IsServedSo asked text s setting old new) system source handed (session_up a old) session) (sym why)
-      (record { goes = (undoes asked undone on, (spent_now_at on (up_undone state a b asked undone) spent, counts_on asked looks on)); sound = up_sound on })
+      (record { goes = (undoes asked undone on, (spent_now_at on (up_undone state a b asked undone) spent, counts_on asked looks on)); sound = up_sound on (calm_undone asked undone) })
 
 -- ---- what is ready behind it
 

@@ -15,6 +15,7 @@ module _ {D : Type 0} (state : D → DiskState) where
   same_of a b stays = record {
     system = stays.system;
     opening = stays.opening;
+    checkpoint = stays.checkpoint;
     text = stays.text;
     began = stays.began;
     disk = stays_is_same (state a.disk) (state b.disk) stays.disk;

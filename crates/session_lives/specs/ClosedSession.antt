@@ -14,7 +14,7 @@ use Rattle.session_lives.specs.declared.place.Place.{Place}
 use Rattle.session_lives.specs.declared.place.Place.TheVariants.{Up, Down, Moved}
 use Rattle.session_lives.specs.declared.place.Kept.{Kept}
 use Rattle.session_lives.specs.declared.place.Session.{Session}
-use Rattle.session_lives.specs.RunningSession.{life_of, session_of, HoldsSession, IsSessionSound}
+use Rattle.session_lives.specs.RunningSession.{life_of, session_of, session_setting, HoldsSession, IsNumberedAt, IsSessionSound}
 
 -- the disk has sectors enough for the system
 abbrev pub HasSectors : System → DiskState → Type 0
@@ -59,6 +59,7 @@ pub record Remains {D : Type 0} (state : D → DiskState) (system : System) (sou
   pub same : IsSameDisk (state handed) (state disk)
   pub counted : AreStops (state handed).faults stops (state disk).faults
   pub images : (image : Image) → (state disk).may_leave image → HoldsSession state system source handed last.standing image
+  pub numbered : (image : Image) → (state disk).may_leave image → IsNumberedAt (session_setting state system source handed) last.standing image
   pub enough : is_some (last_life last.standing) ≡ true → HasSectors system (state handed)
 
 -- So it is, whatever disk was handed in.

@@ -6,14 +6,14 @@ use Rattle.model_system.specs.System.{System}
 use Rattle.model_machine.specs.Machine.{LastingState, empty_state}
 use Rattle.model_image.specs.RecoveredState.{Recovers}
 use Rattle.model_image.specs.AlikeImages.{RecoversAlike}
-use Rattle.model_session.specs.Lives.{LifeState, LastLife, AreLegal}
-use Rattle.model_session.specs.SessionState.{Setting, Outage, Standing, SessionState, LastAnswered, MayHold, HasNoLife, AreStops, no_life}
+use Rattle.model_session.specs.Lives.{LifeState, LastLife, last_number, AreLegal}
+use Rattle.model_session.specs.SessionState.{Setting, Outage, Standing, SessionState, LastAnswered, MayHold, IsKnown, HasNoLife, AreStops, no_life}
 use Rattle.model_session.specs.SessionState.Standing.{Up as StandsUp, Down as StandsDown}
 use Rattle.model_session.specs.Session.{OpensFirst}
 use Rattle.model_session.specs.declared.asked.ImageRefused.{ImageRefused}
 use Rattle.model_session.specs.declared.asked.ImageRefused.TheVariants.{Rule, Text as OtherText, Size}
 use Rattle.openings.specs.FirstImage.{sectors_needed}
-use Rattle.checkpointing.specs.DefinitionText.{HasText}
+use Rattle.checkpointing.specs.DefinitionText.{HasText, IsNumberedFrom}
 use Rattle.checkpointing.specs.Counts.{CountsUpTo}
 use Rattle.system_types.specs.ValidSystem.{IsSystem}
 use Rattle.openings.specs.declared.refusals.OpenError.{OpenError}
@@ -34,13 +34,13 @@ use Rattle.session_lives.specs.ControlCounts.{CountsUp}
 
 -- a life as it is kept, and as the last one
 abbrev pub life_of : Life → LifeState
-life_of life = record { opening = life.opening; history = life.history; kept = life.kept }
+life_of life = record { opening = life.opening; checkpoint = life.checkpoint; history = life.history; kept = life.kept }
 
 abbrev pub last_life_of : Life → LastLife
-last_life_of life = record { opening = life.opening; history = life.history }
+last_life_of life = record { opening = life.opening; checkpoint = life.checkpoint; history = life.history }
 
 abbrev pub last_up : {D : Type 0} → ControlOnDisk D → LastLife
-last_up c = record { opening = c.control.opening; history = c.control.history }
+last_up c = record { opening = c.control.opening; checkpoint = c.checkpoint; history = c.control.history }
 
 abbrev pub outage_of : {D : Type 0} → Idle D → Outage
 outage_of idle = record { last = option_map last_life_of idle.last; emptied = idle.emptied; stopped = idle.stopped }
@@ -123,6 +123,10 @@ pub record CountsFirst (system : System) (high : ℕ) (disk : DiskState) : Type 
   pub tells : IsTrue disk.tells
   pub images : CountsDown system high disk
 
+-- each image that a crash may leave of the disk has a checkpoint with this number or a higher one
+abbrev pub IsNumberedFirst : System → ℕ → DiskState → Type 0
+IsNumberedFirst system number disk = (image : Image) → disk.may_leave image → IsNumberedFrom system number image
+
 -- the setting of a session over the disk that was handed in, whose definition has this text
 abbrev pub session_setting : {D : Type 0} → (D → DiskState) → System → List ℕ → D → Setting
 session_setting state system source handed = record {
@@ -133,6 +137,7 @@ session_setting state system source handed = record {
   right_text = IsOfDefinition system source (state handed);
   refuses = λ refusal. IsRefusedFirst state system source handed refusal;
   counts = λ high. CountsFirst system high (state handed);
+  numbered = λ number. IsNumberedFirst system number (state handed);
 }
 
 -- The image recovers to a state that the session's standing allows.
@@ -150,6 +155,12 @@ pub record IsUnopened {D : Type 0} (state : D → DiskState) (system : System) (
 
 abbrev pub HoldsSession : {D : Type 0} → (D → DiskState) → System → List ℕ → D → Standing → Image → Type 0
 HoldsSession state system source handed standing image = Recalls (session_setting state system source handed) standing image ⊎ IsUnopened state system handed standing image
+
+-- The image's checkpoint has the last number that is known, or a higher one; but behind a cold start that broke off.
+abbrev pub IsNumberedAt : Setting → Standing → Image → Type 0
+IsNumberedAt setting (StandsUp life) image = IsNumberedFrom setting.system (last_number life) image
+IsNumberedAt setting (StandsDown outage) image =
+    (outage.emptied ≡ true) ⊎ ((number : ℕ) → IsKnown setting outage.last number → IsNumberedFrom setting.system number image)
 
 -- an image recovers to a state
 pub record RecoversToState (system : System) (image : Image) : Type 0 where
@@ -202,7 +213,7 @@ IsReadyAt state Moved kept = ⊥
 abbrev pub IsSessionReady : {D : Type 0} → (D → DiskState) → Session D → Type 0
 IsSessionReady state session = IsReadyAt state session.place session.kept
 
--- The system is up. The stops lie behind one another, and before its life. It counts no further than up to where the disk counts
+-- The system is up. The stops lie behind one another, and before its life, in which the disk hasn't failed. It counts no further than up to where the disk counts
 -- that was handed in, and 4,096 more for each opening, entry and stop.
 pub record IsUpSound {D : Type 0} (state : D → DiskState) (system : System) (source : List ℕ) (handed : D) (control : ControlOnDisk D) (kept : Kept) : Type 0 where
   pub handed_alone : Only (state handed).shown (state handed)
@@ -211,7 +222,7 @@ pub record IsUpSound {D : Type 0} (state : D → DiskState) (system : System) (s
   pub size : sectors_needed system ≤ (state handed).size
   pub same : IsSameDisk (state handed) (state control.disk)
   pub stops : AreStops (state handed).faults kept.stops.items control.began
-  pub began : control.began ≤ (state control.disk).faults
+  pub began : control.began ≡ (state control.disk).faults
   pub legal : AreLegal system (map life_of kept.lives.items)
   pub valid : IsSystem system
   pub counts : (high : ℕ) → CountsFirst system high (state handed) → CountsUp state (high + call_raises * measure (session_at (Up control) kept)) control
@@ -246,7 +257,7 @@ pub record IsRight {D : Type 0} (state : D → DiskState) (system : System) (sou
 abbrev pub IsOfText : {D : Type 0} → (D → DiskState) → System → List ℕ → D → Standing → Image → Type 0
 IsOfText state system source handed standing image = IsRight state system source handed standing image ⊎ IsHanded state handed standing image
 
--- The system is down, and the disk holds what the outage allows. Once a life has begun it has sectors enough. It counts no further
+-- The system is down, and the disk holds what the outage allows, with a checkpoint of no lower number than is known. Once a life has begun it has sectors enough. It counts no further
 -- than up to where it counted when it was handed in, and 4,096 more for each opening, entry and stop.
 pub record IsDownSound {D : Type 0} (state : D → DiskState) (system : System) (source : List ℕ) (handed : D) (idle : Idle D) (kept : Kept) : Type 0 where
   pub handed_alone : Only (state handed).shown (state handed)
@@ -259,6 +270,7 @@ pub record IsDownSound {D : Type 0} (state : D → DiskState) (system : System) 
   pub legal : AreLegal system (map life_of kept.lives.items)
   pub answered : LastAnswered system (option_map last_life_of idle.last) (kept_steps idle.last)
   pub images : (image : Image) → (state idle.disk).may_leave image → HoldsSession state system source handed (StandsDown (outage_of idle)) image
+  pub numbered : (image : Image) → (state idle.disk).may_leave image → IsNumberedAt (session_setting state system source handed) (StandsDown (outage_of idle)) image
   pub valid : IsSystem system
   pub counts : (high : ℕ) → CountsFirst system high (state handed) → CountsDown system (high + call_raises * measure (session_at (Down idle) kept)) (state idle.disk)
 

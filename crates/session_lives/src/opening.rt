@@ -138,6 +138,7 @@ fn kept_by(cold: bool, life: Life, steps: u64) -> Life
     let kept = life.kept.max(found);
     Life {
         opening: life.opening,
+        checkpoint: life.checkpoint,
         history: life.history,
         kept,
     }

@@ -77,15 +77,15 @@ faulted (Checked freeze answer) fault e = checked_faulted freeze answer fault e
 
 -- ---- a life's end
 
-pub record IsEnded (system : System) (opening : LastingState) (history : List Entry) (kept : ℕ) : Type 0 where
+pub record IsEnded (system : System) (opening : LastingState) (first : ℕ) (history : List Entry) (kept : ℕ) : Type 0 where
   pub legal : IsLegal system (start_of system opening) history
   pub count : opening.steps + kept ≡ (lasting_after_entries system opening legal.steps).steps
-  pub numbers : AscendAbove 0 history
+  pub numbers : AscendAbove first history
   pub rings : HasNoCycles (moment_after system (start_of system opening) legal.steps).enqueues
 
-pub ended : {D : Type 0} (state : D → DiskState) (machine : LoggedState D) (opening : LastingState) (history : List Entry) (steps kept : ℕ) (b : Bool)
-    → HoldsBy b state machine opening history steps → kept ≡ steps - opening.steps → IsEnded machine.machine.system opening history kept
-ended state machine opening history steps kept true h is = record {
+pub ended : {D : Type 0} (state : D → DiskState) (machine : LoggedState D) (opening : LastingState) (first : ℕ) (history : List Entry) (steps kept : ℕ) (b : Bool)
+    → HoldsBy b state machine opening first history steps → kept ≡ steps - opening.steps → IsEnded machine.machine.system opening first history kept
+ended state machine opening first history steps kept true h is = record {
   legal = record { steps = history; last = None; all = refl; legal = h.legal; end = tt };
   count =
       let same : steps ≡ (lasting_after_entries machine.machine.system opening history).steps = h.count ∙ ap (λ (m : Moment). m.lasting.steps) (sym h.moment) in
@@ -93,7 +93,7 @@ ended state machine opening history steps kept true h is = record {
   numbers = h.ascend;
   rings = no_ring machine.machine.system opening history h.legal;
 }
-ended state machine opening history steps kept false h is = record {
+ended state machine opening first history steps kept false h is = record {
   legal = record { steps = h.before; last = Some h.entry; all = h.all; legal = h.legal; end = (faulted h.entry _ h.fault, h.call) };
   count = omega (arith, is, h.more, h.count);
   numbers = h.ascend;
@@ -101,7 +101,7 @@ ended state machine opening history steps kept false h is = record {
 }
 
 -- so many lasting steps were done before at least
-pub least : {D : Type 0} (state : D → DiskState) (machine : LoggedState D) (opening : LastingState) (history : List Entry) (steps : ℕ) (b : Bool)
-    → HoldsBy b state machine opening history steps → opening.steps ≤ steps
-least state machine opening history steps true h = h.more
-least state machine opening history steps false h = h.more
+pub least : {D : Type 0} (state : D → DiskState) (machine : LoggedState D) (opening : LastingState) (first : ℕ) (history : List Entry) (steps : ℕ) (b : Bool)
+    → HoldsBy b state machine opening first history steps → opening.steps ≤ steps
+least state machine opening first history steps true h = h.more
+least state machine opening first history steps false h = h.more

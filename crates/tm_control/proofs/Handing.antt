@@ -11,19 +11,20 @@ use Rattle.openings.specs.declared.life.Life.{Life}
 use Rattle.tm_control.proofs.Closing.{IsEnded, ended}
 use Rattle.tm_control.proofs.Going.{seen}
 
-pub closes_now : {D : Type 0} (state : D → DiskState) (machine : LoggedState D) (opening : LastingState) (history : List Entry) (room began steps : ℕ)
+pub closes_now : {D : Type 0} (state : D → DiskState) (machine : LoggedState D) (opening : LastingState) (first : ℕ) (history : List Entry) (room began steps : ℕ)
     (disk : D) (life : Life) (system : System) (text : List ℕ) (faults : ℕ)
-    → HoldsControl state machine opening history steps → disk ≡ machine.disk → system ≡ machine.machine.system → text ≡ machine.text → faults ≡ began
-    → life.opening ≡ opening → life.history ≡ history → life.kept ≡ steps - opening.steps
-    → Closes (seen machine opening history room began) disk life system text faults
-closes_now state machine opening history room began steps disk life system text faults holds disk_is system_is text_is faults_are opening_is history_is kept_is =
-    let over : IsEnded machine.machine.system opening history life.kept = ended state machine opening history steps life.kept machine.served holds kept_is in
+    → HoldsControl state machine opening first history steps → disk ≡ machine.disk → system ≡ machine.machine.system → text ≡ machine.text → faults ≡ began
+    → life.opening ≡ opening → life.checkpoint ≡ first → life.history ≡ history → life.kept ≡ steps - opening.steps
+    → Closes (seen machine opening first history room began) disk life system text faults
+closes_now state machine opening first history room began steps disk life system text faults holds disk_is system_is text_is faults_are opening_is checkpoint_is history_is kept_is =
+    let over : IsEnded machine.machine.system opening first history life.kept = ended state machine opening first history steps life.kept machine.served holds kept_is in
     record {
       disk_is = disk_is;
       system_is = system_is;
       text_is = text_is;
       faults_are = faults_are;
       opening = opening_is;
+      checkpoint = checkpoint_is;
       history = history_is;
       legal = over.legal;
       numbers = over.numbers;

@@ -11,7 +11,7 @@ use Rattle.model_system.specs.System.{System}
 use Rattle.disk_law.specs.JournalState.{JournalState}
 use Rattle.openings.specs.Faults.{fault_in}
 use Rattle.logged_machine.specs.TakenCheckpoint.{IsTaken}
-use Rattle.tm_control.specs.ControlParts.{last_checked}
+use Rattle.tm_control.specs.ControlOnDisk.{last_checked}
 use Rattle.tm_control.proofs.Closing.{none_some}
 
 pub ascend_more : (least : ℕ) (entries more : List Entry) → AscendAbove least entries → AscendAbove (last_checked least entries) more → AscendAbove least (entries ++ more)
@@ -61,6 +61,15 @@ fault_ascends (Show terminal answer) fault last e = tt
 fault_ascends (Acked terminal number answer) fault last e = tt
 fault_ascends (Turn region answer) fault last e = tt
 fault_ascends (Commanded command answer) fault last e = tt
+
+pub fault_tells : (entry : Entry) (fault : ControlFault) (last : ℕ) → fault_in entry ≡ Some fault → last_checked last (entry ∷ []) ≡ last
+fault_tells (Checked freeze (Ok number)) fault last e = absurd (none_some fault e)
+fault_tells (Checked freeze (Err refused)) fault last e = refl
+fault_tells (Accept terminal number segments answer) fault last e = refl
+fault_tells (Show terminal answer) fault last e = refl
+fault_tells (Acked terminal number answer) fault last e = refl
+fault_tells (Turn region answer) fault last e = refl
+fault_tells (Commanded command answer) fault last e = refl
 
 -- a checkpoint's number is the one that holds behind it
 pub taken_numbers : (freeze : Bool) (result : Result ℕ CheckpointRefused) (system : System) (old new : JournalState) (disk : DiskState)

@@ -17,6 +17,7 @@ pub record OpensControl {D : Type 0} (state : D → DiskState) (how : How) (syst
   pub system_is : new.control.system ≡ system
   pub text_is : new.text ≡ text
   pub history : new.control.history ≡ []
+  pub checkpoint : new.checkpoint ≡ new.journal.restart.checkpoint
   pub unchanged : new.databases.changed ≡ map (λ dbd. []) system.databases
   pub units : new.units ≡ replicate (length system.regions) 0
   pub up : new.up ≡ true
@@ -27,7 +28,8 @@ pub record OpensControl {D : Type 0} (state : D → DiskState) (how : How) (syst
   pub begins : BeginsLife how system text (state disk) new.control.opening new.journal.restart new.journal.log new.next_unit
   pub any_moment : Within (KeepsBy how system text) (state disk) (state new.disk)
 
--- The life is the opening with the history, which is legal; the numbers of its checkpoints ascend. It is kept with the lasting steps that were answered, and no ring
+-- The life is the opening with the history, which is legal; the numbers of its checkpoints ascend from the one with which it opened. It
+-- is kept with the lasting steps that were answered, and no ring
 -- of regions that wait for one another stands behind these. The disk, the system and the text are handed back, with the
 -- disk's count of faults when the life began.
 pub record Closes {D : Type 0} (c : ControlOnDisk D) (disk : D) (life : Life) (system : System) (text : List ℕ) (faults : ℕ) : Type 0 where
@@ -36,8 +38,9 @@ pub record Closes {D : Type 0} (c : ControlOnDisk D) (disk : D) (life : Life) (s
   pub text_is : text ≡ c.text
   pub faults_are : faults ≡ c.began
   pub opening : life.opening ≡ c.control.opening
+  pub checkpoint : life.checkpoint ≡ c.checkpoint
   pub history : life.history ≡ c.control.history
   pub legal : IsLegal c.control.system (start_of c.control.system c.control.opening) c.control.history
-  pub numbers : AscendAbove 0 c.control.history
+  pub numbers : AscendAbove c.checkpoint c.control.history
   pub kept : c.control.opening.steps + life.kept ≡ (lasting_after_entries c.control.system c.control.opening legal.steps).steps
   pub rings : HasNoCycles (moment_after c.control.system (start_of c.control.system c.control.opening) legal.steps).enqueues

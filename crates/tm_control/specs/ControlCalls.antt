@@ -21,6 +21,7 @@ use Rattle.tm_control.specs.ControlOnDisk.{ControlOnDisk, lasting_after_entries}
 pub record IsSameControl {D : Type 0} (state : D → DiskState) (old new : ControlOnDisk D) : Type 0 where
   pub system : new.control.system ≡ old.control.system
   pub opening : new.control.opening ≡ old.control.opening
+  pub checkpoint : new.checkpoint ≡ old.checkpoint
   pub text : new.text ≡ old.text
   pub began : new.began ≡ old.began
   pub disk : IsSameDisk (state old.disk) (state new.disk)
@@ -36,6 +37,7 @@ pub record HasArmed {D : Type 0} (state : D → DiskState) (writes : ℕ) (old n
 pub record StaysSo {D : Type 0} (state : D → DiskState) (old new : ControlOnDisk D) : Type 0 where
   pub system : new.control.system ≡ old.control.system
   pub opening : new.control.opening ≡ old.control.opening
+  pub checkpoint : new.checkpoint ≡ old.checkpoint
   pub text : new.text ≡ old.text
   pub began : new.began ≡ old.began
   pub disk : Stays (state old.disk) (state new.disk)

@@ -45,6 +45,8 @@ pub struct Control<D: Disk> {
     alloc: Global,
     machine: LoggedMachine<D>,
     opening: Lasting,
+    /// The number of the checkpoint with which it was opened.
+    checkpoint: u64,
     history: Vec<Entry>,
     /// How often the disk had failed when it was opened.
     began: u64,
@@ -63,6 +65,7 @@ impl<D: Disk> Model for Control<D> {
 
     ghost view = { λ c. record {
       control = record { system = c.machine.machine.system; opening = c.opening; history = c.history.items; room = vec_capacity c.history - vec_len c.history };
+      checkpoint = c.checkpoint;
       text = c.machine.text;
       up = c.machine.served;
       began = c.began;
@@ -73,7 +76,7 @@ impl<D: Disk> Model for Control<D> {
       disk = c.machine.disk;
     } };
 
-    ghost invariant = { λ c. HoldsControl D.state c.machine c.opening c.history.items c.steps };
+    ghost invariant = { λ c. HoldsControl D.state c.machine c.opening c.checkpoint c.history.items c.steps };
 }
 
 impl<D: Disk> Control<D> {
@@ -99,10 +102,12 @@ impl<D: Disk> Control<D> {
         match LoggedMachine::open(alloc, disk, system, text, how) {
             Ok((machine, opening)) => {
                 let steps = machine.steps();
+                let checkpoint = machine.checkpoint_number();
                 Ok(Control {
                     alloc,
                     machine,
                     opening,
+                    checkpoint,
                     history: Vec::new(alloc),
                     began,
                     steps,
@@ -129,6 +134,7 @@ impl<D: Disk> Control<D> {
         close(
             self.machine,
             self.opening,
+            self.checkpoint,
             self.history,
             self.began,
             self.steps,
@@ -400,6 +406,7 @@ fn steps_of<D: Disk>(before: u64, machine: &LoggedMachine<D>) -> u64
 fn close<D: Disk>(
     machine: LoggedMachine<D>,
     opening: Lasting,
+    checkpoint: u64,
     history: Vec<Entry>,
     began: u64,
     steps: u64,
@@ -410,6 +417,7 @@ fn close<D: Disk>(
     ensures text { result.text ≡ machine.text }
     ensures faults { result.faults ≡ began }
     ensures opening { result.life.opening ≡ opening }
+    ensures checkpoint { result.life.checkpoint ≡ checkpoint }
     ensures history { result.life.history ≡ history.items }
     ensures kept { result.life.kept ≡ steps - opening.steps }
     ensures lasts { LastsNow D.state machine }
@@ -420,6 +428,7 @@ fn close<D: Disk>(
         disk,
         life: Life {
             opening,
+            checkpoint,
             history: History::from_vec(history),
             kept,
         },

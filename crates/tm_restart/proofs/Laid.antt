@@ -1,5 +1,5 @@
 -- What the writes of a restart leave, for what was made of an image.
-use Rattle.std.proofs.Common.{◌≡◌, ℕ, ◌≤◌, false, List, [], length, refl, sym, ◌∙◌, ap, subst, inl, inr, ⊎_elim, IsTrue}
+use Rattle.std.proofs.Common.{◌≡◌, ℕ, ◌≤◌, false, List, [], length, refl, sym, ◌∙◌, ap, subst, inl, inr, ⊎_elim, IsTrue, arith}
 use Rattle.std.proofs.lemmas.Bool.{cases_Bool}
 use Rattle.tm_disk.specs.Disk.{Image, DiskState, IsDisk, Follows, Within, Only}
 use Rattle.tm_disk.proofs.Words.{within_where, leaves_none}
@@ -16,7 +16,8 @@ use Rattle.tm_restart.proofs.Behind.{rows_found}
 use Rattle.tm_restart.proofs.Recovering.{IsNextLife}
 use Rattle.tm_restart.proofs.Stored.{stores_held}
 use Rattle.openings.specs.OpeningParts.{OpeningParts}
-use Rattle.checkpointing.specs.DefinitionText.{HasText}
+use Rattle.openings.specs.OpenedImage.{IsReopened}
+use Rattle.checkpointing.specs.DefinitionText.{HasText, IsNumberedFrom, KeepsNumber}
 use Rattle.checkpointing.specs.Counts.{RaisesCounts}
 use Rattle.checkpointing.proofs.Counted.{alike_raises}
 use Rattle.openings.proofs.Counted.{reopened_raises}
@@ -24,7 +25,7 @@ use Rattle.tm_restart.proofs.Unreading.{unread_images}
 use Rattle.openings.specs.KeptImage.{KeepsImage}
 use Rattle.openings.specs.Renewal.{IsRenewed}
 use Rattle.tm_restart.specs.PreparedLife.{IsPrepared, IsMadeOf}
-use Rattle.tm_restart.proofs.Reopened.{is_renewed, names_none, rewrites_recover, unread_text}
+use Rattle.tm_restart.proofs.Reopened.{is_renewed, names_none, rewrites_recover, unread_number, unread_text}
 use Rattle.tm_restart.proofs.Renewed.{same_restart}
 
 module _ (system : System) (text : List ℕ) (given : GivenSlots) (parts : OpeningParts) (state : LastingState) (bytes : List ℕ) (now : RestartSector) (prepared : IsPrepared system text given parts state bytes now) where
@@ -56,10 +57,25 @@ module _ (system : System) (text : List ℕ) (given : GivenSlots) (parts : Openi
   text_before : (a : Image) → IsMadeOf system text given parts state now a → HasText system text a
   text_before a made = unread_text system made.restart made.snapshot given now a a made.before (record { size = refl; each = λ k. inl refl }) text made.has_text
 
+  -- its checkpoint is the one before or the next
+  numbers : (a e : Image) → IsMadeOf system text given parts state now a → Rewrites system given bytes now a e → KeepsNumber system a e
+  numbers a e made (inl unread) = unread_number system made.restart made.snapshot given now a e made.before unread
+  numbers a e made (inr done) = λ low is. number_by made.reopened low is
+    where
+      number_by : IsReopened system text a parts state → (low : ℕ) → IsNumberedFrom system low a → IsNumberedFrom system low e
+      number_by re low is =
+          let same : is.restart ≡ re.restart = same_restart is.restart re.restart (sym is.found ∙ re.found.has_restart) in
+          record {
+            restart = parts.now;
+            found = (renewed a e made done).restart;
+            least = omega (arith, is.least, ap (λ (r : RestartSector). r.checkpoint) same, re.next.checkpoint);
+          }
+
   kept : (a e : Image) → IsMadeOf system text given parts state now a → Rewrites system given bytes now a e → KeepsImage system text a e
   kept a e made rewrites = record {
     alike = rewrites_recover system made.restart made.snapshot given bytes now (next_life a made) parts.next_unit state prepared.whole.read prepared.whole.spelled a e made.before made.recovers rewrites;
     texts = inr (text_before a made, texts a e made rewrites);
+    number = numbers a e made rewrites;
   }
 
   -- It counts further by one at most.

@@ -8,7 +8,7 @@ use Rattle.model_system.specs.System.{System}
 use Rattle.model_machine.specs.Machine.{LastingState, empty_state}
 use Rattle.restart_data.specs.declared.restart.RestartSector.{RestartSector}
 use Rattle.restart_data.specs.Restart.{restart_in}
-use Rattle.checkpointing.specs.DefinitionText.{HasText}
+use Rattle.checkpointing.specs.DefinitionText.{HasText, IsNumberedFrom, KeepsNumber}
 use Rattle.model_image.specs.AlikeImages.{RecoversAlike}
 use Rattle.model_image.specs.Areas.{snapshot_area}
 use Rattle.model_image.specs.Faults.{Fault}
@@ -49,7 +49,7 @@ module _ (step : Image → Image → Type 0) (still : (image : Image) → step i
 module _ (system : System) (text : List ℕ) (old mid : DiskState) (keeps : Keeps old mid) where
   -- the same image
   same_image : (image : Image) → KeepsImage system text image image
-  same_image image = record { alike = λ answer is. is; texts = inl refl }
+  same_image image = record { alike = λ answer is. is; texts = inl refl; number = λ low is. is }
 
   -- reading leaves what was there
   pub read_within : Within (KeepsImage system text) old mid
@@ -89,11 +89,20 @@ module _ (system : System) (text : List ℕ) (old mid : DiskState) (keeps : Keep
         (λ (silent : old.tells ≡ false). absurd (leaves_none old is_disk silent a left))
         (cases_Bool old.tells)
 
+    -- and it has no number
+    none_number : (a e : Image) → old.may_leave a → KeepsNumber system a e
+    none_number a e left low is =
+        ⊎_elim
+        (λ (tells : IsTrue old.tells).
+        absurd (no_restart is.restart (restart_in (snapshot_area system) a) (subst (λ (i : Image). restart_in (snapshot_area system) i ≡ Ok None) (sym (only a left)) (zeros tells)) is.found))
+        (λ (silent : old.tells ≡ false). absurd (leaves_none old is_disk silent a left))
+        (cases_Bool old.tells)
+
     alike : (a e : Image) → old.may_leave a → KeepsOrEmpties system text a e → KeepsImage system text a e
     alike a e left by =
         ⊎_elim
-        (λ (same : e ≡ a). record { alike = λ (answer : Result LastingState Fault) (is : Recovers system a answer). subst (λ (i : Image). Recovers system i answer) (sym same) is; texts = inl same })
-        (λ (empty : IsImageEmptied system text e). record { alike = emptied a e left empty.recovers; texts = inr (none_text a left, empty.has_text) })
+        (λ (same : e ≡ a). record { alike = λ (answer : Result LastingState Fault) (is : Recovers system a answer). subst (λ (i : Image). Recovers system i answer) (sym same) is; texts = inl same; number = λ low is. subst (IsNumberedFrom system low) (sym same) is })
+        (λ (empty : IsImageEmptied system text e). record { alike = emptied a e left empty.recovers; texts = inr (none_text a left, empty.has_text); number = none_number a e left })
         by
 
     -- an image of zeros that was read, and begun cold, recovers alike

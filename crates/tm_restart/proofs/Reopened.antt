@@ -24,7 +24,7 @@ use Rattle.checkpointing.specs.SnapshotRecords.{snapshot_records}
 use Rattle.checkpointing.proofs.Plain.{none_named}
 use Rattle.checkpointing.proofs.Read.{IsRead}
 use Rattle.checkpointing.specs.Checkpoint.{InArea}
-use Rattle.checkpointing.specs.DefinitionText.{HasText}
+use Rattle.checkpointing.specs.DefinitionText.{HasText, KeepsNumber}
 use Rattle.tm_restart.specs.GivenSlots.{GivenSlots, IsGiven}
 use Rattle.tm_restart.specs.UnpreparedImage.{IsUnprepared}
 use Rattle.tm_restart.specs.ToldSnapshot.{TellsState}
@@ -116,6 +116,10 @@ module _ (system : System) (r : RestartSector) (snapshot : List Record) (given :
       (λ (in_ : InArea (snapshot_first system now.snapshot) (snapshot_area system) k). absurd (omega (arith, in_.low, high)))
       other)
       (changes.each k)
+
+  -- the restart sector stays
+  pub unread_number : KeepsNumber system a e
+  unread_number low is = record { restart = is.restart; found = ap (restart_of (snapshot_area system)) (unread_stays 0 (omega arith)) ∙ is.found; least = is.least }
 
   pub unread_text : (text : List ℕ) → first_difference text (text_in a r.text) ≡ None → HasText system text e
   unread_text text none = λ restart found.

@@ -30,7 +30,7 @@ use Rattle.tm_session.proofs.First.{life_begun}
 -- ---- counts
 
 reaches : (low high : ℕ) (stops : List Stop) → AreStops low stops high → low ≤ high
-reaches low high [] h = h
+reaches low high [] h = omega (arith, h)
 reaches low high ((began, end) ∷ stops) h = omega (arith, h.0, h.1, reaches end high stops h.3)
 
 -- a stop is told only where the count rose

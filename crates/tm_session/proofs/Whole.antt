@@ -11,7 +11,7 @@ use Rattle.checkpointing.proofs.Counted.{up_to_more}
 use Rattle.session_law.specs.Measures.{call_raises, measure}
 use Rattle.model_session.specs.Blocks.{Block}
 use Rattle.model_session.specs.Lives.{AreLegal}
-use Rattle.model_session.specs.SessionState.{SessionState, Standing, Stop, AreStops, LastAnswered, no_life, unbegun, is_session_stopped, last_life}
+use Rattle.model_session.specs.SessionState.{SessionState, Standing, Stop, AreStops, LastAnswered, IsKnown, no_life, unbegun, is_session_stopped, last_life}
 use Rattle.model_session.specs.SessionState.Standing.{Down as StandsDown}
 use Rattle.model_session.specs.Session.{BeginsSession, AreServed, IsSessionBegun, OpensSession as OpensLife, FailsToOpen}
 use Rattle.openings.specs.OpenedImage.{WroteNothing}
@@ -67,7 +67,7 @@ module _ {D : Type 0} (state : D → DiskState) (is_disk : (disk : D) → IsDisk
     size = λ begun. absurd (no_first b.idle.last b.last_is begun);
     texts = λ image left. inr (record { no_life = ap (λ l. option_map last_life_of l) b.last_is; left = subst (λ d. (state d).may_leave image) b.disk_is left });
     same = first_same;
-    stops = subst (λ s. AreStops (state handed).faults s (state b.idle.disk).faults) (sym b.stops) first_same.faults;
+    stops = subst (λ s. AreStops (state handed).faults s (state b.idle.disk).faults) (sym b.stops) (ap (λ d. (state d).faults) (sym b.disk_is));
     legal = subst (λ l. AreLegal system (map life_of l)) (sym b.lives) tt;
     answered = subst (λ l. LastAnswered system (option_map last_life_of l) (kept_steps l)) (sym b.last_is) refl;
     images = λ image left. inr (record {
@@ -76,6 +76,9 @@ module _ {D : Type 0} (state : D → DiskState) (is_disk : (disk : D) → IsDisk
       left = subst (λ d. (state d).may_leave image) b.disk_is left;
       alike = λ answer is. is;
     });
+    numbered = λ image left.
+        inr (λ number known.
+        subst (λ l. IsKnown (session_setting state system text handed) (option_map last_life_of l) number) b.last_is known image (subst (λ d. (state d).may_leave image) b.disk_is left));
     valid = b.valid;
     counts = λ high first image left.
         up_to_more system high (high + call_raises * measure (session_at (Down b.idle) b.kept)) image (omega arith) (first.images image (subst (λ d. (state d).may_leave image) b.disk_is left));
@@ -290,6 +293,7 @@ module _ {D : Type 0} (state : D → DiskState) (system : System) (source : List
     same = rest.same;
     counted = rest.counted;
     images = rest.images;
+    numbered = rest.numbered;
     by = by_is stopped ended last.standing driven.not_down is;
   }
 

@@ -28,7 +28,7 @@ use Rattle.tm_session.specs.ReadDefinition.{IsCutShort}
 use Rattle.tm_session.specs.Outcome.{ending_of, HasWrittenText, left_by_session, UndoneAs, IsBy}
 use Rattle.tm_session.specs.ReadSources.{HasReadTold}
 use Rattle.tm_session.specs.Outcome.Ending.{NotBegun}
-use Rattle.session_lives.specs.RunningSession.{life_of, session_setting, HoldsSession, error_of, IsFoundAs, IsOfDefinition, IsValidDisk as IsValid, IsOpenedDisk as IsOpened}
+use Rattle.session_lives.specs.RunningSession.{life_of, session_setting, HoldsSession, IsNumberedAt, error_of, IsFoundAs, IsOfDefinition, IsValidDisk as IsValid, IsOpenedDisk as IsOpened}
 use Rattle.session_lives.specs.ClosedSession.{HasSectors}
 pub use Rattle.session_lives.specs.RunningSession.{CountsDisk}
 
@@ -64,7 +64,7 @@ AskNoColdStart system blocks = AllByRecursion (λ (block : Block). asked_of syst
 -- served, each the source's next one, and what is printed for them, and nothing else, was written. They led through the lives
 -- and the stops that are told, and each image that a crash of the disk may leave as it is handed back recovers to what the
 -- session's standing allows: the state after a front of the last life's lasting steps that has all that were answered, and
--- while the system is up after all of them. Where a block could not be served since a counter is spent, or since the disk can't be
+-- while the system is up after all of them. Its checkpoint has the last number that is known, or a higher one. Where a block could not be served since a counter is spent, or since the disk can't be
 -- opened, that has its cause. No more than a million blocks were served.
 pub record HasLived {D : Type 0} (state : D → DiskState) (system : System) (source : List ℕ) (told told' old new : Option (List ℕ)) (handed disk : D) (ended : Ended) (lives : List LifeState) (stops : List Stop) : Type 0 where
   pub blocks : List Block
@@ -91,6 +91,7 @@ pub record HasLived {D : Type 0} (state : D → DiskState) (system : System) (so
   pub same : IsSameDisk (state handed) (state disk)
   pub counted : AreStops (state handed).faults stops (state disk).faults
   pub images : (image : Image) → (state disk).may_leave image → HoldsSession state system source handed last.standing image
+  pub numbered : (image : Image) → (state disk).may_leave image → IsNumberedAt (session_setting state system source handed) last.standing image
   pub by : IsBy ended last.standing
 
 -- the disk that is handed in can be opened for the system, whose definition has this text

@@ -11,7 +11,7 @@ use Rattle.session_lives.specs.RunningSession.{life_of}
 use Rattle.tm_session.specs.declared.outcome.Ended.{Ended}
 use Rattle.tm_session.specs.Headline.{HasSession, AskNoColdStart}
 
--- Each life opened with what the one before it left, of which so many lasting steps are kept. So an input under a number is answered as
+-- Each life opened with what the one before it left, of which so many lasting steps are kept, and with a checkpoint of a higher number. So an input under a number is answered as
 -- accepted before exactly where its step was kept, and is taken as new exactly where it was not; and a reply is shown again until it is
 -- acknowledged or dequeued, and never after it was acknowledged.
 pub record IsAnsweredAsKept (system : System) (lives : List LifeState) : Type 0 where

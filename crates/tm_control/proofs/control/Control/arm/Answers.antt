@@ -26,6 +26,7 @@ returns-clause-arms g c = rw (sym c.self.view_is)
       same = record {
         system = ap (λ (p : PartsState). p.system) c.arm.ensures.machine;
         opening = refl;
+        checkpoint = refl;
         text = c.arm.ensures.text;
         began = refl;
         disk = c.arm.ensures.told.same;

@@ -12,10 +12,10 @@ use Rattle.tm_control.proofs.control.Control.checkpoint.Goals as goal
 
 pub invariant_of-self-2 : goal.invariant_of-self-2
 invariant_of-self-2 g c =
-    (called g.D.Disk.state c.self.inside.machine c.checkpoint-answer.new.self c.self.inside.opening c.self.inside.history.items c.note.new.history.items (Checked c.args.freeze c.checkpoint-answer.result) 0 0 c.self.inside.began c.self.inside.steps c.steps_of-self-inside.result
+    (called g.D.Disk.state c.self.inside.machine c.checkpoint-answer.new.self c.self.inside.opening c.self.inside.checkpoint c.self.inside.history.items c.note.new.history.items (Checked c.args.freeze c.checkpoint-answer.result) 0 0 c.self.inside.began c.self.inside.steps c.steps_of-self-inside.result
     (record {
       served = ap (λ (v : ControlOnDisk _). v.up) c.self.view_is ∙ c.requires.up;
-      holds = is_served g.D.Disk.state c.self.inside.machine c.self.inside.opening c.self.inside.history.items c.self.inside.steps (ap (λ (v : ControlOnDisk _). v.up) c.self.view_is ∙ c.requires.up) c.self.invariant;
+      holds = is_served g.D.Disk.state c.self.inside.machine c.self.inside.opening c.self.inside.checkpoint c.self.inside.history.items c.self.inside.steps (ap (λ (v : ControlOnDisk _). v.up) c.self.view_is ∙ c.requires.up) c.self.invariant;
       call = tt;
       keeps = c.checkpoint-answer.ensures.keeps;
       lasts = c.checkpoint-answer.ensures.lasts;
@@ -28,10 +28,10 @@ invariant_of-self-2 g c =
 
 pub returns-clause-crash : goal.returns-clause-crash
 returns-clause-crash g c = rw (sym c.self.view_is)
-    (called g.D.Disk.state c.self.inside.machine c.checkpoint-answer.new.self c.self.inside.opening c.self.inside.history.items c.note.new.history.items (Checked c.args.freeze c.checkpoint-answer.result) _ _ c.self.inside.began c.self.inside.steps c.steps_of-self-inside.result
+    (called g.D.Disk.state c.self.inside.machine c.checkpoint-answer.new.self c.self.inside.opening c.self.inside.checkpoint c.self.inside.history.items c.note.new.history.items (Checked c.args.freeze c.checkpoint-answer.result) _ _ c.self.inside.began c.self.inside.steps c.steps_of-self-inside.result
     (record {
       served = ap (λ (v : ControlOnDisk _). v.up) c.self.view_is ∙ c.requires.up;
-      holds = is_served g.D.Disk.state c.self.inside.machine c.self.inside.opening c.self.inside.history.items c.self.inside.steps (ap (λ (v : ControlOnDisk _). v.up) c.self.view_is ∙ c.requires.up) c.self.invariant;
+      holds = is_served g.D.Disk.state c.self.inside.machine c.self.inside.opening c.self.inside.checkpoint c.self.inside.history.items c.self.inside.steps (ap (λ (v : ControlOnDisk _). v.up) c.self.view_is ∙ c.requires.up) c.self.invariant;
       call = tt;
       keeps = c.checkpoint-answer.ensures.keeps;
       lasts = c.checkpoint-answer.ensures.lasts;
@@ -44,10 +44,10 @@ returns-clause-crash g c = rw (sym c.self.view_is)
 
 pub returns-clause-undone : goal.returns-clause-undone
 returns-clause-undone g c = rw (sym c.self.view_is)
-    (called g.D.Disk.state c.self.inside.machine c.checkpoint-answer.new.self c.self.inside.opening c.self.inside.history.items c.note.new.history.items (Checked c.args.freeze c.checkpoint-answer.result) _ _ c.self.inside.began c.self.inside.steps c.steps_of-self-inside.result
+    (called g.D.Disk.state c.self.inside.machine c.checkpoint-answer.new.self c.self.inside.opening c.self.inside.checkpoint c.self.inside.history.items c.note.new.history.items (Checked c.args.freeze c.checkpoint-answer.result) _ _ c.self.inside.began c.self.inside.steps c.steps_of-self-inside.result
     (record {
       served = ap (λ (v : ControlOnDisk _). v.up) c.self.view_is ∙ c.requires.up;
-      holds = is_served g.D.Disk.state c.self.inside.machine c.self.inside.opening c.self.inside.history.items c.self.inside.steps (ap (λ (v : ControlOnDisk _). v.up) c.self.view_is ∙ c.requires.up) c.self.invariant;
+      holds = is_served g.D.Disk.state c.self.inside.machine c.self.inside.opening c.self.inside.checkpoint c.self.inside.history.items c.self.inside.steps (ap (λ (v : ControlOnDisk _). v.up) c.self.view_is ∙ c.requires.up) c.self.invariant;
       call = tt;
       keeps = c.checkpoint-answer.ensures.keeps;
       lasts = c.checkpoint-answer.ensures.lasts;
@@ -60,13 +60,13 @@ returns-clause-undone g c = rw (sym c.self.view_is)
 
 pub returns-clause-refused : goal.returns-clause-refused
 returns-clause-refused g c = rw (sym c.self.view_is)
-    (untaken c.self.inside.machine c.checkpoint-answer.new.self c.self.inside.opening c.self.inside.history.items c.note.new.history.items _ _ c.self.inside.began c.args.freeze c.checkpoint-answer.result c.checkpoint-answer.ensures.refused
+    (untaken c.self.inside.machine c.checkpoint-answer.new.self c.self.inside.opening c.self.inside.checkpoint c.self.inside.history.items c.note.new.history.items _ _ c.self.inside.began c.args.freeze c.checkpoint-answer.result c.checkpoint-answer.ensures.refused
     (subst (λ (e : Entry). c.note.new.history.items ≡ noted (is_noted (fault_in e)) c.self.inside.history.items e) c.checked_entry.ensures
     (c.note.ensures.items ∙ ap (λ (es : List Entry). noted (is_noted (fault_in c.checked_entry.result)) es c.checked_entry.result) c.reserve.ensures.items))
-    (called g.D.Disk.state c.self.inside.machine c.checkpoint-answer.new.self c.self.inside.opening c.self.inside.history.items c.note.new.history.items (Checked c.args.freeze c.checkpoint-answer.result) _ _ c.self.inside.began c.self.inside.steps c.steps_of-self-inside.result
+    (called g.D.Disk.state c.self.inside.machine c.checkpoint-answer.new.self c.self.inside.opening c.self.inside.checkpoint c.self.inside.history.items c.note.new.history.items (Checked c.args.freeze c.checkpoint-answer.result) _ _ c.self.inside.began c.self.inside.steps c.steps_of-self-inside.result
     (record {
       served = ap (λ (v : ControlOnDisk _). v.up) c.self.view_is ∙ c.requires.up;
-      holds = is_served g.D.Disk.state c.self.inside.machine c.self.inside.opening c.self.inside.history.items c.self.inside.steps (ap (λ (v : ControlOnDisk _). v.up) c.self.view_is ∙ c.requires.up) c.self.invariant;
+      holds = is_served g.D.Disk.state c.self.inside.machine c.self.inside.opening c.self.inside.checkpoint c.self.inside.history.items c.self.inside.steps (ap (λ (v : ControlOnDisk _). v.up) c.self.view_is ∙ c.requires.up) c.self.invariant;
       call = tt;
       keeps = c.checkpoint-answer.ensures.keeps;
       lasts = c.checkpoint-answer.ensures.lasts;
@@ -79,8 +79,8 @@ returns-clause-refused g c = rw (sym c.self.view_is)
 
 pub returns-clause-room : goal.returns-clause-room
 returns-clause-room g c = rw (sym c.self.view_is)
-    (room_saved (seen c.self.inside.machine c.self.inside.opening c.self.inside.history.items (c.self.inside.history.cap - c.self.inside.history.len) c.self.inside.began)
-    (seen c.checkpoint-answer.new.self c.self.inside.opening c.note.new.history.items (c.note.new.history.cap - c.note.new.history.len) c.self.inside.began)
+    (room_saved (seen c.self.inside.machine c.self.inside.opening c.self.inside.checkpoint c.self.inside.history.items (c.self.inside.history.cap - c.self.inside.history.len) c.self.inside.began)
+    (seen c.checkpoint-answer.new.self c.self.inside.opening c.self.inside.checkpoint c.note.new.history.items (c.note.new.history.cap - c.note.new.history.len) c.self.inside.began)
     c.self.inside.history.items c.note.new.history.items c.self.inside.history.len c.note.new.history.len c.self.inside.history.cap c.note.new.history.cap
     refl refl c.self.inside.history.ok.0 c.note.new.history.ok.0 (omega (arith, c.reserve.ensures.capacity, c.note.ensures.capacity))
     (fault_in (Checked c.args.freeze c.checkpoint-answer.result)) (Checked c.args.freeze c.checkpoint-answer.result)
@@ -89,10 +89,10 @@ returns-clause-room g c = rw (sym c.self.view_is)
 
 pub returns-clause-lasts : goal.returns-clause-lasts
 returns-clause-lasts g c =
-    (called g.D.Disk.state c.self.inside.machine c.checkpoint-answer.new.self c.self.inside.opening c.self.inside.history.items c.note.new.history.items (Checked c.args.freeze c.checkpoint-answer.result) 0 _ c.self.inside.began c.self.inside.steps c.steps_of-self-inside.result
+    (called g.D.Disk.state c.self.inside.machine c.checkpoint-answer.new.self c.self.inside.opening c.self.inside.checkpoint c.self.inside.history.items c.note.new.history.items (Checked c.args.freeze c.checkpoint-answer.result) 0 _ c.self.inside.began c.self.inside.steps c.steps_of-self-inside.result
     (record {
       served = ap (λ (v : ControlOnDisk _). v.up) c.self.view_is ∙ c.requires.up;
-      holds = is_served g.D.Disk.state c.self.inside.machine c.self.inside.opening c.self.inside.history.items c.self.inside.steps (ap (λ (v : ControlOnDisk _). v.up) c.self.view_is ∙ c.requires.up) c.self.invariant;
+      holds = is_served g.D.Disk.state c.self.inside.machine c.self.inside.opening c.self.inside.checkpoint c.self.inside.history.items c.self.inside.steps (ap (λ (v : ControlOnDisk _). v.up) c.self.view_is ∙ c.requires.up) c.self.invariant;
       call = tt;
       keeps = c.checkpoint-answer.ensures.keeps;
       lasts = c.checkpoint-answer.ensures.lasts;
@@ -111,11 +111,11 @@ returns-clause-counts g c = rw (sym c.self.view_is) c.checkpoint-answer.ensures.
 
 pub returns-in-Some-clause-counts : goal.returns-in-Some-clause-counts
 returns-in-Some-clause-counts g c = rw (sym c.self.view_is)
-    (still_counts g.D.Disk.state c.self.inside.machine c.self.inside.opening c.self.inside.history.items 0 0 c.self.inside.began (ap (λ (v : ControlOnDisk _). v.up) c.self.view_is ∙ c.requires.up) c.spent.ensures.lasts (g.met.D.Disk.is_disk c.self.inside.machine.disk))
+    (still_counts g.D.Disk.state c.self.inside.machine c.self.inside.opening c.self.inside.checkpoint c.self.inside.history.items 0 0 c.self.inside.began (ap (λ (v : ControlOnDisk _). v.up) c.self.view_is ∙ c.requires.up) c.spent.ensures.lasts (g.met.D.Disk.is_disk c.self.inside.machine.disk))
 
 pub returns-then-is_err-clause-counts : goal.returns-then-is_err-clause-counts
 returns-then-is_err-clause-counts g c = rw (sym c.self.view_is)
-    (still_counts g.D.Disk.state c.self.inside.machine c.self.inside.opening c.self.inside.history.items 0 0 c.self.inside.began (ap (λ (v : ControlOnDisk _). v.up) c.self.view_is ∙ c.requires.up) c.spent.ensures.lasts (g.met.D.Disk.is_disk c.self.inside.machine.disk))
+    (still_counts g.D.Disk.state c.self.inside.machine c.self.inside.opening c.self.inside.checkpoint c.self.inside.history.items 0 0 c.self.inside.began (ap (λ (v : ControlOnDisk _). v.up) c.self.view_is ∙ c.requires.up) c.spent.ensures.lasts (g.met.D.Disk.is_disk c.self.inside.machine.disk))
 
 pub returns-clause-settled : goal.returns-clause-settled
 returns-clause-settled g c = rw (sym c.self.view_is) c.checkpoint-answer.ensures.settled

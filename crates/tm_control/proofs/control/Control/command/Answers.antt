@@ -12,10 +12,10 @@ use Rattle.tm_control.proofs.control.Control.command.Goals as goal
 
 pub invariant_of-self-2 : goal.invariant_of-self-2
 invariant_of-self-2 g c =
-    (called g.D.Disk.state c.self.inside.machine c.serve-answer.new.self c.self.inside.opening c.self.inside.history.items c.note.new.history.items (Commanded c.args.command.now c.serve-answer.result) 0 0 c.self.inside.began c.self.inside.steps c.steps_of-self-inside.result
+    (called g.D.Disk.state c.self.inside.machine c.serve-answer.new.self c.self.inside.opening c.self.inside.checkpoint c.self.inside.history.items c.note.new.history.items (Commanded c.args.command.now c.serve-answer.result) 0 0 c.self.inside.began c.self.inside.steps c.steps_of-self-inside.result
     (record {
       served = ap (λ (v : ControlOnDisk _). v.up) c.self.view_is ∙ c.requires.up;
-      holds = is_served g.D.Disk.state c.self.inside.machine c.self.inside.opening c.self.inside.history.items c.self.inside.steps (ap (λ (v : ControlOnDisk _). v.up) c.self.view_is ∙ c.requires.up) c.self.invariant;
+      holds = is_served g.D.Disk.state c.self.inside.machine c.self.inside.opening c.self.inside.checkpoint c.self.inside.history.items c.self.inside.steps (ap (λ (v : ControlOnDisk _). v.up) c.self.view_is ∙ c.requires.up) c.self.invariant;
       call = c.requires.command;
       keeps = c.serve-answer.ensures.keeps;
       lasts = c.serve-answer.ensures.lasts;
@@ -28,10 +28,10 @@ invariant_of-self-2 g c =
 
 pub returns-clause-crash : goal.returns-clause-crash
 returns-clause-crash g c = rw (sym c.self.view_is)
-    (called g.D.Disk.state c.self.inside.machine c.serve-answer.new.self c.self.inside.opening c.self.inside.history.items c.note.new.history.items (Commanded c.args.command.now c.serve-answer.result) _ _ c.self.inside.began c.self.inside.steps c.steps_of-self-inside.result
+    (called g.D.Disk.state c.self.inside.machine c.serve-answer.new.self c.self.inside.opening c.self.inside.checkpoint c.self.inside.history.items c.note.new.history.items (Commanded c.args.command.now c.serve-answer.result) _ _ c.self.inside.began c.self.inside.steps c.steps_of-self-inside.result
     (record {
       served = ap (λ (v : ControlOnDisk _). v.up) c.self.view_is ∙ c.requires.up;
-      holds = is_served g.D.Disk.state c.self.inside.machine c.self.inside.opening c.self.inside.history.items c.self.inside.steps (ap (λ (v : ControlOnDisk _). v.up) c.self.view_is ∙ c.requires.up) c.self.invariant;
+      holds = is_served g.D.Disk.state c.self.inside.machine c.self.inside.opening c.self.inside.checkpoint c.self.inside.history.items c.self.inside.steps (ap (λ (v : ControlOnDisk _). v.up) c.self.view_is ∙ c.requires.up) c.self.invariant;
       call = c.requires.command;
       keeps = c.serve-answer.ensures.keeps;
       lasts = c.serve-answer.ensures.lasts;
@@ -44,10 +44,10 @@ returns-clause-crash g c = rw (sym c.self.view_is)
 
 pub returns-clause-undone : goal.returns-clause-undone
 returns-clause-undone g c = rw (sym c.self.view_is)
-    (called g.D.Disk.state c.self.inside.machine c.serve-answer.new.self c.self.inside.opening c.self.inside.history.items c.note.new.history.items (Commanded c.args.command.now c.serve-answer.result) _ _ c.self.inside.began c.self.inside.steps c.steps_of-self-inside.result
+    (called g.D.Disk.state c.self.inside.machine c.serve-answer.new.self c.self.inside.opening c.self.inside.checkpoint c.self.inside.history.items c.note.new.history.items (Commanded c.args.command.now c.serve-answer.result) _ _ c.self.inside.began c.self.inside.steps c.steps_of-self-inside.result
     (record {
       served = ap (λ (v : ControlOnDisk _). v.up) c.self.view_is ∙ c.requires.up;
-      holds = is_served g.D.Disk.state c.self.inside.machine c.self.inside.opening c.self.inside.history.items c.self.inside.steps (ap (λ (v : ControlOnDisk _). v.up) c.self.view_is ∙ c.requires.up) c.self.invariant;
+      holds = is_served g.D.Disk.state c.self.inside.machine c.self.inside.opening c.self.inside.checkpoint c.self.inside.history.items c.self.inside.steps (ap (λ (v : ControlOnDisk _). v.up) c.self.view_is ∙ c.requires.up) c.self.invariant;
       call = c.requires.command;
       keeps = c.serve-answer.ensures.keeps;
       lasts = c.serve-answer.ensures.lasts;
@@ -60,8 +60,8 @@ returns-clause-undone g c = rw (sym c.self.view_is)
 
 pub returns-clause-room : goal.returns-clause-room
 returns-clause-room g c = rw (sym c.self.view_is)
-    (room_saved (seen c.self.inside.machine c.self.inside.opening c.self.inside.history.items (c.self.inside.history.cap - c.self.inside.history.len) c.self.inside.began)
-    (seen c.serve-answer.new.self c.self.inside.opening c.note.new.history.items (c.note.new.history.cap - c.note.new.history.len) c.self.inside.began)
+    (room_saved (seen c.self.inside.machine c.self.inside.opening c.self.inside.checkpoint c.self.inside.history.items (c.self.inside.history.cap - c.self.inside.history.len) c.self.inside.began)
+    (seen c.serve-answer.new.self c.self.inside.opening c.self.inside.checkpoint c.note.new.history.items (c.note.new.history.cap - c.note.new.history.len) c.self.inside.began)
     c.self.inside.history.items c.note.new.history.items c.self.inside.history.len c.note.new.history.len c.self.inside.history.cap c.note.new.history.cap
     refl refl c.self.inside.history.ok.0 c.note.new.history.ok.0 (omega (arith, c.reserve.ensures.capacity, c.note.ensures.capacity))
     (fault_in (Commanded c.args.command.now c.serve-answer.result)) (Commanded c.args.command.now c.serve-answer.result)
@@ -70,10 +70,10 @@ returns-clause-room g c = rw (sym c.self.view_is)
 
 pub returns-clause-lasts : goal.returns-clause-lasts
 returns-clause-lasts g c =
-    (called g.D.Disk.state c.self.inside.machine c.serve-answer.new.self c.self.inside.opening c.self.inside.history.items c.note.new.history.items (Commanded c.args.command.now c.serve-answer.result) 0 _ c.self.inside.began c.self.inside.steps c.steps_of-self-inside.result
+    (called g.D.Disk.state c.self.inside.machine c.serve-answer.new.self c.self.inside.opening c.self.inside.checkpoint c.self.inside.history.items c.note.new.history.items (Commanded c.args.command.now c.serve-answer.result) 0 _ c.self.inside.began c.self.inside.steps c.steps_of-self-inside.result
     (record {
       served = ap (λ (v : ControlOnDisk _). v.up) c.self.view_is ∙ c.requires.up;
-      holds = is_served g.D.Disk.state c.self.inside.machine c.self.inside.opening c.self.inside.history.items c.self.inside.steps (ap (λ (v : ControlOnDisk _). v.up) c.self.view_is ∙ c.requires.up) c.self.invariant;
+      holds = is_served g.D.Disk.state c.self.inside.machine c.self.inside.opening c.self.inside.checkpoint c.self.inside.history.items c.self.inside.steps (ap (λ (v : ControlOnDisk _). v.up) c.self.view_is ∙ c.requires.up) c.self.invariant;
       call = c.requires.command;
       keeps = c.serve-answer.ensures.keeps;
       lasts = c.serve-answer.ensures.lasts;
@@ -86,8 +86,8 @@ returns-clause-lasts g c =
 
 pub returns-clause-frugal : goal.returns-clause-frugal
 returns-clause-frugal g c = rw (sym c.self.view_is)
-    (frugal_too g.D.Disk.state c.self.inside.machine c.self.inside.opening c.self.inside.history.items 0 c.self.inside.began c.self.inside.steps
-    (is_served g.D.Disk.state c.self.inside.machine c.self.inside.opening c.self.inside.history.items c.self.inside.steps (ap (λ (v : ControlOnDisk _). v.up) c.self.view_is ∙ c.requires.up) c.self.invariant)
+    (frugal_too g.D.Disk.state c.self.inside.machine c.self.inside.opening c.self.inside.checkpoint c.self.inside.history.items 0 c.self.inside.began c.self.inside.steps
+    (is_served g.D.Disk.state c.self.inside.machine c.self.inside.opening c.self.inside.checkpoint c.self.inside.history.items c.self.inside.steps (ap (λ (v : ControlOnDisk _). v.up) c.self.view_is ∙ c.requires.up) c.self.invariant)
     (fault_in (Commanded c.args.command.now c.serve-answer.result)) (CommandCall c.args.command.now) c.serve-answer.new.self.journal c.serve-answer.new.self.disk c.serve-answer.ensures.frugal)
 
 pub returns-clause-raises : goal.returns-clause-raises
@@ -98,12 +98,12 @@ returns-clause-counts g c = rw (sym c.self.view_is) c.serve-answer.ensures.count
 
 pub returns-in-Some-clause-counts : goal.returns-in-Some-clause-counts
 returns-in-Some-clause-counts g c = rw (sym c.self.view_is)
-    (still_counts g.D.Disk.state c.self.inside.machine c.self.inside.opening c.self.inside.history.items 0 0 c.self.inside.began (ap (λ (v : ControlOnDisk _). v.up) c.self.view_is ∙ c.requires.up) c.spent.ensures.lasts (g.met.D.Disk.is_disk c.self.inside.machine.disk))
+    (still_counts g.D.Disk.state c.self.inside.machine c.self.inside.opening c.self.inside.checkpoint c.self.inside.history.items 0 0 c.self.inside.began (ap (λ (v : ControlOnDisk _). v.up) c.self.view_is ∙ c.requires.up) c.spent.ensures.lasts (g.met.D.Disk.is_disk c.self.inside.machine.disk))
 
 pub returns-in_default-answer_to-clause-counts : goal.returns-in_default-answer_to-clause-counts
 returns-in_default-answer_to-clause-counts g c = rw (sym c.self.view_is)
-    (still_counts g.D.Disk.state c.self.inside.machine c.self.inside.opening c.self.inside.history.items 0 0 c.self.inside.began (ap (λ (v : ControlOnDisk _). v.up) c.self.view_is ∙ c.requires.up) c.spent.ensures.lasts (g.met.D.Disk.is_disk c.self.inside.machine.disk))
+    (still_counts g.D.Disk.state c.self.inside.machine c.self.inside.opening c.self.inside.checkpoint c.self.inside.history.items 0 0 c.self.inside.began (ap (λ (v : ControlOnDisk _). v.up) c.self.view_is ∙ c.requires.up) c.spent.ensures.lasts (g.met.D.Disk.is_disk c.self.inside.machine.disk))
 
 pub returns-then-is_err-clause-counts : goal.returns-then-is_err-clause-counts
 returns-then-is_err-clause-counts g c = rw (sym c.self.view_is)
-    (still_counts g.D.Disk.state c.self.inside.machine c.self.inside.opening c.self.inside.history.items 0 0 c.self.inside.began (ap (λ (v : ControlOnDisk _). v.up) c.self.view_is ∙ c.requires.up) c.spent.ensures.lasts (g.met.D.Disk.is_disk c.self.inside.machine.disk))
+    (still_counts g.D.Disk.state c.self.inside.machine c.self.inside.opening c.self.inside.checkpoint c.self.inside.history.items 0 0 c.self.inside.began (ap (λ (v : ControlOnDisk _). v.up) c.self.view_is ∙ c.requires.up) c.spent.ensures.lasts (g.met.D.Disk.is_disk c.self.inside.machine.disk))

@@ -8,8 +8,8 @@ use Rattle.tm_control.proofs.control.Control.open.Goals as goal
 
 pub returns-in-Ok-clause-lasts : goal.returns-in-Ok-clause-lasts
 returns-in-Ok-clause-lasts g c =
-    lasts_open g.D.Disk.state c.in-Ok.machine c.in-Ok.opening c.new.result.items _ c.faults-began.result c.new.ensures.items
-    (c.in-Ok.ensures.opened.moment ∙ ap (λ (s : System). start_of s c.in-Ok.opening) (sym c.in-Ok.ensures.opened.system_is)) c.in-Ok.ensures.opened.served c.in-Ok.ensures.lasts
+    lasts_open g.D.Disk.state c.in-Ok.machine c.in-Ok.opening c.checkpoint_number-checkpoint.result c.new.result.items _ c.faults-began.result c.new.ensures.items
+    (c.in-Ok.ensures.opened.moment ∙ ap (λ (s : System). start_of s c.in-Ok.opening) (sym c.in-Ok.ensures.opened.system_is)) c.in-Ok.ensures.opened.served c.checkpoint_number-checkpoint.ensures c.in-Ok.ensures.lasts
 
 pub returns-in-Ok-clause-stands : goal.returns-in-Ok-clause-stands
 returns-in-Ok-clause-stands g c high tells counts =

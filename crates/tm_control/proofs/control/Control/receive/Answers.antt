@@ -7,6 +7,6 @@ use Rattle.tm_control.proofs.control.Control.receive.Goals as goal
 
 pub invariant_of-self : goal.invariant_of-self
 invariant_of-self g c =
-    shown_holds g.D.Disk.state c.self.inside.machine c.self.inside.opening c.self.inside.history.items c.push_reserved.new.self.items
+    shown_holds g.D.Disk.state c.self.inside.machine c.self.inside.opening c.self.inside.checkpoint c.self.inside.history.items c.push_reserved.new.self.items
     (Show c.args.terminal.now c.show_answer-answer.result) c.self.inside.steps
     (ap (λ (v : ControlOnDisk _). v.up) c.self.view_is ∙ c.requires.up) c.self.invariant c.push_reserved.ensures.items c.show_answer-answer.ensures.answers tt
