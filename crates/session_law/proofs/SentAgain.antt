@@ -31,7 +31,7 @@ use Rattle.model_machine.proofs.Histories.{moment_after-append}
 use Rattle.model_session.specs.Lives.{LifeState, LastLife, LifeLeaves, AreLegal, life_moment, longer}
 use Rattle.model_session.proofs.Unfaulted.{unfaulted}
 use Rattle.session_law.specs.ResentInputs.{last_number_of, any_call, spares_input}
-use Rattle.session_law.specs.SentAgain.{alone, OpensBehind, AreLinked, steps_of, entries_of, IsKnown, IsFresh, KnowsInput, AllKnow, LivesKnow, by_terminal, NextIsFresh, IsInDoubt, SettlesDoubt, KnowsInputs}
+use Rattle.session_law.specs.SentAgain.{alone, OpensBehind, AreLinked, steps_of, entries_of_lives, IsInputKnown, IsFresh, KnowsInput, AllKnow, LivesKnow, by_terminal, NextIsFresh, IsInDoubt, SettlesDoubt, KnowsInputs}
 use Rattle.session_law.proofs.Sessions.{Leaving, EndsRest, last_in, begun, leaves_with, more}
 use Rattle.session_law.proofs.Inputs.{Reached, answer_by, later_refusals, next_by, there_by, numbers_kept, taken}
 use Rattle.session_law.proofs.Again.{Stands, last_kept}
@@ -72,16 +72,16 @@ nothing_less : 0 < 0 → ⊥
 nothing_less e = omega (arith, e)
 
 -- up to a terminal's last number each input is known
-known_by : (t : Option TerminalState) (number next : ℕ) (later : Refusal) → 0 < option_map_or (λ (u : TerminalState). u.last) t 0 → number ≤ option_map_or (λ (u : TerminalState). u.last) t 0 → IsKnown (answer_by t number next later)
+known_by : (t : Option TerminalState) (number next : ℕ) (later : Refusal) → 0 < option_map_or (λ (u : TerminalState). u.last) t 0 → number ≤ option_map_or (λ (u : TerminalState). u.last) t 0 → IsInputKnown (answer_by t number next later)
 known_by None number next later some low = absurd (nothing_less some)
 known_by (Some u) number next later some low = by_stopped u.stopped where
-  at : (b : Bool) → nat_le number u.last ≡ b → IsKnown (unwrap_or (option_or (if b then Some (Ok Already) else if nat_lt (u.last + 1) number then Some (Err (Expected (u.last + 1))) else None) later) (Ok (New next)))
+  at : (b : Bool) → nat_le number u.last ≡ b → IsInputKnown (unwrap_or (option_or (if b then Some (Ok Already) else if nat_lt (u.last + 1) number then Some (Err (Expected (u.last + 1))) else None) later) (Ok (New next)))
   at true e = tt
   at false e = absurd (apart (sym is ∙ e)) where
     is : nat_le number u.last ≡ true
     is = grind (arith, nat_tests, low)
 
-  by_stopped : (s : Bool) → IsKnown (unwrap_or (option_or (if s then Some (Err StoppedTerminal) else None) (option_or (by_number u.last number) later)) (Ok (New next)))
+  by_stopped : (s : Bool) → IsInputKnown (unwrap_or (option_or (if s then Some (Err StoppedTerminal) else None) (option_or (by_number u.last number) later)) (Ok (New next)))
   by_stopped true = tt
   by_stopped false = at (nat_le number u.last) refl
 
@@ -140,7 +140,7 @@ later_fresh system moment terminal segments =
     (either _ _ (choose (nat_lt system.qbytes need) (Some (Err (QueueFull need system.qbytes))) None tt tt) tt))))
 
 -- a fault in place of the answer
-fault_known : (terminal : List ℕ) (number : ℕ) (segments : List (List ℕ)) (answer : Result Taken InputRefused) → is_fault (Accept terminal number segments answer) ≡ true → IsKnown answer
+fault_known : (terminal : List ℕ) (number : ℕ) (segments : List (List ℕ)) (answer : Result Taken InputRefused) → is_fault (Accept terminal number segments answer) ≡ true → IsInputKnown answer
 fault_known terminal number segments (Ok (New id)) e = cc
 fault_known terminal number segments (Ok Already) e = cc
 fault_known terminal number segments (Err NoTerminal) e = cc
@@ -227,7 +227,7 @@ module _ (system : System) (terminal : List ℕ) (number : ℕ) where
   entry_knows : (moment : Moment) (entry : Entry) → May system moment entry → 0 < number → Reached terminal number moment.lasting → KnowsInput terminal number entry
   entry_knows moment (Accept other sent segments answer) may some low = λ is below.
       let at : number ≤ last_number_of other moment.lasting = subst (λ (name : List ℕ). number ≤ last_number_of name moment.lasting) (sym (same_terminal other is)) low in
-      subst IsKnown (sym (answers_input system moment other sent segments answer may))
+      subst IsInputKnown (sym (answers_input system moment other sent segments answer may))
       (known_by (terminal_at moment.lasting.terminals other) sent moment.lasting.next_id (later_refusals system moment other segments) (omega (arith, some, at)) (omega (arith, below, at)))
   entry_knows moment (Show other answer) may some low = tt
   entry_knows moment (AckedEntry other n answer) may some low = tt
@@ -389,12 +389,12 @@ module _ (system : System) (terminal : List ℕ) (number : ℕ) where
       (λ spares. steps_fresh last next steps (Some entry) (after_entry system moment step) behind legal.1 is (last_kept terminal last system moment step spares stands)
       (λ rest. on (both_true (spares_input terminal (call_of step)) (spared (steps ++ entry ∷ [])) spares rest)))
 
-  lives_fresh : (last : ℕ) → number ≡ last + 1 → (lives : List LifeState) → OpenedWith (Stands terminal last) lives → AreLinked system lives → AreLegal system lives → NextIsFresh terminal number (entries_of lives)
+  lives_fresh : (last : ℕ) → number ≡ last + 1 → (lives : List LifeState) → OpenedWith (Stands terminal last) lives → AreLinked system lives → AreLegal system lives → NextIsFresh terminal number (entries_of_lives lives)
   lives_fresh last next [] stands linked legal = tt
   lives_fresh last next (life ∷ lives) stands linked legal =
       let is = legal.0.legal in
-      subst (λ (h : List Entry). NextIsFresh terminal number (h ++ entries_of lives)) (sym is.all)
-      (steps_fresh last next is.steps is.last (start_of system life.opening) (entries_of lives) is.legal is.end stands
+      subst (λ (h : List Entry). NextIsFresh terminal number (h ++ entries_of_lives lives)) (sym is.all)
+      (steps_fresh last next is.steps is.last (start_of system life.opening) (entries_of_lives lives) is.legal is.end stands
       (λ spares. lives_fresh last next lives
       (opened_behind (Stands terminal last) life lives
       (more (Stands terminal last) system (spares_input terminal) (last_kept terminal last system) (record { opening = life.opening; checkpoint = life.checkpoint; history = [] }) life.history (ap spared is.all ∙ spares)

@@ -38,18 +38,18 @@ AreLinked system (life ∷ lives) = OpensBehind system life lives × AreLinked s
 abbrev pub steps_of : System → LifeState → List Entry → ℕ
 steps_of system life entries = (life_moment system (alone life) entries).lasting.steps - life.opening.steps
 
-abbrev pub entries_of : List LifeState → List Entry
-entries_of [] = []
-entries_of (life ∷ lives) = life.history ++ entries_of lives
+abbrev pub entries_of_lives : List LifeState → List Entry
+entries_of_lives [] = []
+entries_of_lives (life ∷ lives) = life.history ++ entries_of_lives lives
 
 -- ---- inputs
 
 -- the input was accepted before, unless its terminal is stopped, or the disk failed
-abbrev pub IsKnown : Result Taken InputRefused → Type 0
-IsKnown (Ok Already) = Unit {0}
-IsKnown (Err StoppedTerminal) = Unit {0}
-IsKnown (Err (Fault fault)) = Unit {0}
-IsKnown _ = ⊥
+abbrev pub IsInputKnown : Result Taken InputRefused → Type 0
+IsInputKnown (Ok Already) = Unit {0}
+IsInputKnown (Err StoppedTerminal) = Unit {0}
+IsInputKnown (Err (Fault fault)) = Unit {0}
+IsInputKnown _ = ⊥
 
 -- the input is new, unless a refusal applies that isn't for its number, or the disk failed
 abbrev pub IsFresh : Result Taken InputRefused → Type 0
@@ -59,7 +59,7 @@ IsFresh _ = Unit {0}
 
 -- an input of the terminal under this number, or a lower one, is known
 abbrev pub KnowsInput : List ℕ → ℕ → Entry → Type 0
-KnowsInput terminal number (Accept other sent segments answer) = bytes_eq other terminal ≡ true → sent ≤ number → IsKnown answer
+KnowsInput terminal number (Accept other sent segments answer) = bytes_eq other terminal ≡ true → sent ≤ number → IsInputKnown answer
 KnowsInput terminal number _ = Unit {0}
 
 abbrev pub AllKnow : List ℕ → ℕ → List Entry → Type 0
@@ -93,7 +93,7 @@ pub record IsInDoubt (system : System) (life : LifeState) (terminal : List ℕ) 
 abbrev pub SettlesDoubt : System → LifeState → List LifeState → (terminal : List ℕ) → (number : ℕ) → List Entry → Type 0
 SettlesDoubt system life later terminal number before =
     ((life.kept ≡ steps_of system life life.history) × LivesKnow terminal number later)
-    ⊎ ((life.kept ≡ steps_of system life before) × NextIsFresh terminal number (entries_of later))
+    ⊎ ((life.kept ≡ steps_of system life before) × NextIsFresh terminal number (entries_of_lives later))
 
 -- Behind any stops and restarts an input under a number is answered as accepted before exactly where its step was kept, and is
 -- taken as new exactly where it was not: one that was answered as new is known from then on, in its life and in all behind it;
