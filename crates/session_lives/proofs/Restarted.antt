@@ -53,7 +53,7 @@ use Rattle.session_lives.specs.declared.place.Session.{Session}
 use Rattle.session_lives.specs.RunningSession.{life_of, last_life_of, last_up, kept_steps, outage_of, session_at, session_of, session_down, session_setting, CountsDown, CountsFirst, LeadsBy, IsBrokenAs, IsRefusedFirst, IsOfDefinition, IsEmptyImage, IsRight, IsOfText, HoldsSession, IsNumberedAt, IsDownSound, IsSessionSound, IsSoundAt, error_of}
 use Rattle.session_lives.specs.ControlCounts.{CountsUp}
 use Rattle.session_lives.proofs.Counting.{stands_more}
-use Rattle.session_lives.proofs.Told.{told_text}
+use Rattle.session_lives.proofs.Told.{told_text, one_restart, no_restart}
 use Rattle.session_lives.specs.Openings.{how_of, life_kept_by, with_last_life, HasOpened, StaysIdle, HasFailed, HasGone, RefusesSpent, IsOpeningTold, IsRefusalTold, IsRestartedSo, IsLookedAt, CountsOn, UndoneBy, IsServedSo, asked_restart}
 use Rattle.session_lives.proofs.Ends.{same_state, outage_with, life_with, same_life, stops_one, rose_from}
 
@@ -673,22 +673,16 @@ module _ {D : Type 0} (state : D → DiskState) (is_disk : (disk : D) → IsDisk
       of (inr there) = inl (handed_text (state idle.disk).shown there.left has)
 
   -- a life opens with a higher number than any before it
-  no_sector : (restart : RestartSector) (found : Result (Option RestartSector) Fault) → found ≡ Ok None → found ≡ Ok (Some restart) → ⊥
-  no_sector restart found none some = cc
-
-  one_sector : (a b : RestartSector) (found : Result (Option RestartSector) Fault) → found ≡ Ok (Some a) → found ≡ Ok (Some b) → a ≡ b
-  one_sector a b found one other = cc
-
   told_above : (number : ℕ) (parts : OpeningParts) (opening : LastingState) → IsNumberedFrom system number (state idle.disk).shown
       → TellsOpening idle.system idle.text (state idle.disk).shown (Ok (parts, opening)) → number < parts.now.checkpoint
   told_above number parts opening is (inl reopened) =
       let here : IsNumberedFrom idle.system number (state idle.disk).shown = subst (λ (s : System). IsNumberedFrom s number (state idle.disk).shown) (sym sound.system_is) is in
       let same : here.restart ≡ reopened.restart =
-      one_sector here.restart reopened.restart (restart_in (snapshot_area idle.system) (state idle.disk).shown) here.found reopened.found.has_restart in
+      one_restart here.restart reopened.restart (restart_in (snapshot_area idle.system) (state idle.disk).shown) here.found reopened.found.has_restart in
       omega (arith, here.least, ap (λ (r : RestartSector). r.checkpoint) same, reopened.next.checkpoint)
   told_above number parts opening is (inr cold) =
       let here : IsNumberedFrom idle.system number (state idle.disk).shown = subst (λ (s : System). IsNumberedFrom s number (state idle.disk).shown) (sym sound.system_is) is in
-      absurd (no_sector here.restart (restart_in (snapshot_area idle.system) (state idle.disk).shown) cold.zeros here.found)
+      absurd (no_restart here.restart (restart_in (snapshot_area idle.system) (state idle.disk).shown) cold.zeros here.found)
 
   shown_above : (gone : HasOpened state idle old false session) → setting.tells ≡ true → IsNumberedAt setting (StandsDown outage) (state idle.disk).shown
       → OpensAbove false setting outage gone.control.checkpoint

@@ -32,10 +32,10 @@ same_text (a ∷ xs) [] e = cc
 same_text (a ∷ xs) (b ∷ ys) e = same_by a b xs ys (a == b) refl (same_text xs ys) e
 
 module _ {F : Type 0} where
-  one_restart : (a b : RestartSector) (found : Result (Option RestartSector) F) → found ≡ Ok (Some a) → found ≡ Ok (Some b) → a ≡ b
+  pub one_restart : (a b : RestartSector) (found : Result (Option RestartSector) F) → found ≡ Ok (Some a) → found ≡ Ok (Some b) → a ≡ b
   one_restart a b found one other = cc
 
-  no_restart : (b : RestartSector) (found : Result (Option RestartSector) F) → found ≡ Ok None → found ≡ Ok (Some b) → ⊥
+  pub no_restart : (b : RestartSector) (found : Result (Option RestartSector) F) → found ≡ Ok None → found ≡ Ok (Some b) → ⊥
   no_restart b found none other = cc
 
 module _ (system : System) (source : List ℕ) (image : Image) (parts : OpeningParts) (opening : LastingState) where
