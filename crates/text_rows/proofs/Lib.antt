@@ -1,3 +1,2 @@
 pub mod FirstPiece
-pub mod CappedNumber
 pub mod Reading

@@ -1,17 +1,15 @@
 //! Numbers.
-ghost use Rattle.std.specs.Prelude.{◌≡◌, ◌<◌, ◌≤◌, min, IfOk};
+ghost use Rattle.std.specs.Prelude.{◌≡◌, ◌<◌, ◌≤◌, IfOk};
 ghost use Rattle.text_rows.specs.Numbers as spec;
 
 use crate::rules::{NO_NUMBER, OUT_OF_RANGE};
-use tm_types::are_digits;
-
-/// One more than the greatest limit that `number_between` can be given.
-pub const NUMBER_CAP: u32 = 1_000_000_000;
+use tm_types::{NUMBER_CAP, are_digits, capped_number};
 
 #[tactic(auto, unfolding(crate::specs::Numbers::number_between))]
 /// The number that the text spells, from `low` to `high`.
 ///
-/// A text that isn't 1 to 20 digits is no number; another number is out of range.
+/// A text that isn't 1 to 20 digits is no number; another number is out of range. The limits are below
+/// 1,000,000,000.
 pub fn number_between(low: u32, high: u32, text: &[u8]) -> Result<u32, u8>
     requires { high < NUMBER_CAP }
     ensures value { result ≡ spec.number_between low high text.now }
@@ -39,16 +37,4 @@ fn is_number(text: &[u8]) -> bool
     ensures { result ≡ spec.is_number text.now }
 {
     1 <= text.len() && text.len() <= 20 && are_digits(text)
-}
-
-#[tactic(auto, using(crate::proofs::CappedNumber::capped_more), unfolding(crate::specs::Numbers::number_of))]
-/// The number of the digits, or the cap where it is above.
-fn capped_number(digits: &[u8]) -> u32
-    ensures { result ≡ min (spec.number_of digits.now) NUMBER_CAP }
-{
-    let mut number: u64 = 0;
-    for &digit in digits {
-        number = (10 * number + u64::from(digit.saturating_sub(b'0'))).min(u64::from(NUMBER_CAP));
-    }
-    number as u32
 }

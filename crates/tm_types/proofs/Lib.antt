@@ -8,3 +8,5 @@ pub mod Parted
 pub mod Positions
 pub mod Ordered
 pub mod Truths
+pub mod CappedNumber
+pub mod SpelledNumbers

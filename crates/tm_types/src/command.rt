@@ -1,8 +1,10 @@
 //! The commands of an operator that last.
-ghost use Rattle.std.specs.Prelude.{◌≡◌, ◌↔◌, ◌++◌, Some, length, take, OnOk, OnErr};
+ghost use Rattle.std.specs.Prelude.{◌≡◌, ◌↔◌, ◌++◌, Some, codes, decimal, length, take, OnOk, OnErr};
 ghost use Rattle.tm_types.specs.Commands as spec;
 
+use crate::digits::spelled_number;
 use crate::{Memory, Name, first_word, operands};
+use itoa::Buffer;
 
 /// A command of an operator that changes what lasts: one variant for each form, with its name.
 #[derive(Clone, Copy, Debug, PartialEq, Eq)]
@@ -21,6 +23,10 @@ pub enum LastingCommand {
     DequeueAll(Name),
     /// The conversation of this terminal ends.
     Exit(Name),
+    /// This code has this class, 1 to 255.
+    AssignClass(Name, u8),
+    /// This code has this normal priority, 0 to 14.
+    AssignPriority(Name, u8),
 }
 
 impl LastingCommand {
@@ -69,6 +75,12 @@ impl LastingCommand {
                 write_around(out, b"/DEQUEUE LTERM ", terminal, b" PURGE")
             }
             LastingCommand::Exit(terminal) => write_around(out, b"/EXIT ", terminal, b""),
+            LastingCommand::AssignClass(code, class) => {
+                write_assignment(out, code, b" CLASS ", *class)
+            }
+            LastingCommand::AssignPriority(code, priority) => {
+                write_assignment(out, code, b" PRIORITY ", *priority)
+            }
         }
     }
 }
@@ -87,6 +99,8 @@ fn command_of(text: &[u8]) -> Option<LastingCommand>
     } else if verb == b"/EXIT".as_slice() {
         let terminal = Name::read(operands(text))?;
         Some(LastingCommand::Exit(terminal))
+    } else if verb == b"/ASSIGN".as_slice() {
+        read_assign(operands(text))
     } else {
         None
     }
@@ -153,6 +167,71 @@ fn read_purge(text: &[u8]) -> Option<LastingCommand>
     } else {
         None
     }
+}
+
+/// What stands behind `/ASSIGN`.
+#[tactic(auto, unfolding(crate::specs::Commands::assign_in))]
+fn read_assign(text: &[u8]) -> Option<LastingCommand>
+    ensures { result ≡ spec.assign_in text.now }
+{
+    if first_word(text) == b"TRANSACTION".as_slice() {
+        read_assigned(operands(text))
+    } else {
+        None
+    }
+}
+
+/// What stands behind `/ASSIGN TRANSACTION`.
+#[tactic(auto, unfolding(crate::specs::Commands::assigned_in))]
+fn read_assigned(text: &[u8]) -> Option<LastingCommand>
+    ensures { result ≡ spec.assigned_in text.now }
+{
+    let assignment = operands(text);
+    let keyword = first_word(assignment);
+    if keyword == b"CLASS".as_slice() {
+        let class = spelled_number(1, 255, operands(assignment))?;
+        let code = Name::read(first_word(text))?;
+        Some(LastingCommand::AssignClass(code, class))
+    } else if keyword == b"PRIORITY".as_slice() {
+        let priority = spelled_number(0, 14, operands(assignment))?;
+        let code = Name::read(first_word(text))?;
+        Some(LastingCommand::AssignPriority(code, priority))
+    } else {
+        None
+    }
+}
+
+/// Adds the spelling of an assignment, or nothing.
+fn write_assignment(
+    out: &mut Vec<u8>,
+    code: &Name,
+    keyword: &[u8],
+    number: u8,
+) -> Result<(), Memory>
+    ensures written { OnOk result (out.new.items ≡ out.old.items ++ (codes "/ASSIGN TRANSACTION " ++ (code.now ++ (keyword.now ++ decimal number)))) }
+    ensures unwritten { OnErr result (out.new.items ≡ out.old.items) }
+{
+    let start = out.len();
+    let written = write_numbered(out, code, keyword, number);
+    if written.is_err() {
+        out.truncate(start);
+    }
+    written
+}
+
+/// Adds the spelling of an assignment. Where there is no memory a part of it may stand there.
+fn write_numbered(
+    out: &mut Vec<u8>,
+    code: &Name,
+    keyword: &[u8],
+    number: u8,
+) -> Result<(), Memory>
+    ensures written { OnOk result (out.new.items ≡ out.old.items ++ (codes "/ASSIGN TRANSACTION " ++ (code.now ++ (keyword.now ++ decimal number)))) }
+    ensures kept { OnErr result (take (length out.old.items) out.new.items ≡ out.old.items) }
+{
+    write_parts(out, b"/ASSIGN TRANSACTION ", code, keyword)?;
+    let mut digits = Buffer::new();
+    out.extend_from_slice(digits.format(number).as_bytes())
 }
 
 /// Adds a name with what stands before it and behind it, or nothing.

@@ -13,7 +13,7 @@ pub use abend::AbendCode;
 pub use bytes::Bytes;
 pub use command::LastingCommand;
 pub use dbd::{Dbd, SegType, SegTypes};
-pub use digits::{are_digits, four_digits};
+pub use digits::{NUMBER_CAP, are_digits, capped_number, four_digits};
 pub use function::Function;
 pub use key::Key;
 pub use message::{Message, Reply};

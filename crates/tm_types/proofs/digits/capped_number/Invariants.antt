@@ -1,6 +1,6 @@
 use Rattle.std.proofs.Common.{◌≡◌, ◌≤◌, drop, min}
-use Rattle.text_rows.specs.Numbers.{number_after}
-use Rattle.text_rows.proofs.numbers.capped_number.Given as goal
+use Rattle.tm_types.specs.Digits.{number_after}
+use Rattle.tm_types.proofs.digits.capped_number.Given as goal
 
 abbrev pub invariant-loop-digit : goal.invariant-loop-digit
 invariant-loop-digit l =

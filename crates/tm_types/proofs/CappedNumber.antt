@@ -1,6 +1,6 @@
 -- Numbers up to a cap.
 use Rattle.std.proofs.Common.{ℕ, suc, ◌≡◌, ◌+◌, ◌-◌, ◌*◌, ◌<◌, min, List, [], ◌∷◌, length, get_or, drop, arith, add-one, drop-cons}
-use Rattle.text_rows.specs.Numbers.{number_after}
+use Rattle.tm_types.specs.Digits.{number_after}
 
 -- two numbers that are the same up to a cap stay so when digits follow
 pub same_capped : (cap : ℕ) (digits : List ℕ) (m n : ℕ) → min m cap ≡ min n cap → min (number_after m digits) cap ≡ min (number_after n digits) cap
