@@ -6,7 +6,7 @@ use Rattle.std.proofs.lemmas.Bool.{eq-eqb, eqb-true, ne_eqb}
 use Rattle.tm_types.specs.declared.abend.AbendCode.{AbendCode}
 use Rattle.tm_types.specs.declared.command.LastingCommand.{LastingCommand}
 use Rattle.tm_types.specs.declared.message.Message.{Message}
-use Rattle.tm_types.specs.Commands.{name_in, command_spelling}
+use Rattle.tm_types.specs.Commands.{IsSpellable, command_spelling}
 use Rattle.tm_types.specs.Name.{IsName}
 use Rattle.tm_types.proofs.Commands.{spelled_read}
 use Rattle.tm_types.specs.declared.message.Reply.{Reply as KeptReply}
@@ -218,6 +218,6 @@ completes_again unit id message outputs pad lasting found below =
 -- ---- a command
 
 -- its spelling is done again as the command
-pub commands_again : (lasting : LastingState) (command : LastingCommand) → IsName (name_in command) → commands (command_spelling command) lasting ≡ Some (applied (Commands command) lasting)
-commands_again lasting command named =
-    ap (option_map (λ c. applied (Commands c) lasting)) (spelled_read (command_spelling command) command (record { spelled = refl; named = named }))
+pub commands_again : (lasting : LastingState) (command : LastingCommand) → IsSpellable command → commands (command_spelling command) lasting ≡ Some (applied (Commands command) lasting)
+commands_again lasting command right =
+    ap (option_map (λ c. applied (Commands c) lasting)) (spelled_read (command_spelling command) command (record { spelled = refl; named = right.0; assigned = right.1 }))

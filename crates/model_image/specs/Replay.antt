@@ -2,7 +2,7 @@
 use Rattle.std.specs.Prelude.{ℕ, zero, suc, ◌+◌, ◌-◌, Bool, false, not, ◌&&◌, ◌==◌, List, [], ◌∷◌, ◌++◌, filter, Option, Some, None, if◌then◌else◌}
 use Rattle.std.specs.Option.{option_map, option_map_or, option_and_then, is_some}
 use Rattle.tm_types.specs.declared.command.LastingCommand.{LastingCommand}
-use Rattle.tm_types.specs.declared.command.LastingCommand.TheVariants.{StartTransaction, StopTransaction, StartTerminal, StopTerminal, DequeueFirst, DequeueAll, Exit}
+use Rattle.tm_types.specs.declared.command.LastingCommand.TheVariants.{StartTransaction, StopTransaction, StartTerminal, StopTerminal, DequeueFirst, DequeueAll, Exit, AssignClass, AssignPriority}
 use Rattle.tm_types.specs.Commands.{command_in}
 use Rattle.tm_types.specs.declared.message.Message.{Message}
 use Rattle.tm_types.specs.declared.abend.AbendCode.{AbendCode}
@@ -150,6 +150,8 @@ names_known system (StopTerminal terminal) = is_system_terminal system terminal
 names_known system (DequeueFirst terminal) = is_system_terminal system terminal
 names_known system (DequeueAll terminal) = is_system_terminal system terminal
 names_known system (Exit terminal) = is_system_terminal system terminal
+names_known system (AssignClass code class) = is_system_code system code
+names_known system (AssignPriority code priority) = is_system_code system code
 
 -- the names of a record are known where it stands, and the images of a change are of a slot
 abbrev pub is_record_known : System → Record → Bool

@@ -5,7 +5,7 @@ use Rattle.model_machine.specs.declared.active.RegionWork.{RegionWork}
 use Rattle.model_machine.specs.declared.active.RegionWork.TheVariants.{Idle, Working, Waiting}
 use Rattle.model_machine.specs.declared.active.ActiveRegion.{ActiveRegion}
 use Rattle.model_machine.specs.declared.answer.Answer.{Answer}
-use Rattle.model_machine.specs.declared.answer.Answer.TheVariants.{Started, Stopped, Transaction, Terminal, Active, Checkpoint, Frozen, FreezeRefused, Dequeued, Exited, ConversationBusy, NoConversation, Restarted, ColdStarted, Up, UnknownName, Bad}
+use Rattle.model_machine.specs.declared.answer.Answer.TheVariants.{Started, Stopped, Transaction, Terminal, Active, Checkpoint, Frozen, FreezeRefused, Dequeued, Exited, AssignedClass, AssignedPriority, ConversationBusy, NoConversation, Restarted, ColdStarted, Up, UnknownName, Bad}
 
 -- whether a code or a terminal is stopped
 abbrev pub state_text : Bool → List ℕ
@@ -49,6 +49,8 @@ answer_text (Frozen number) = codes "FROZEN " ++ decimal number
 answer_text (FreezeRefused region id) = codes "REFUSED FREEZE REGION " ++ decimal region ++ codes " MESSAGE " ++ decimal id
 answer_text (Dequeued count) = codes "DEQUEUED " ++ decimal count
 answer_text (Exited terminal) = codes "EXITED " ++ terminal
+answer_text (AssignedClass code class) = codes "ASSIGNED " ++ code ++ codes " CLASS " ++ decimal class
+answer_text (AssignedPriority code priority) = codes "ASSIGNED " ++ code ++ codes " PRIORITY " ++ decimal priority
 answer_text (ConversationBusy id) = codes "REFUSED CONVERSATION " ++ decimal id
 answer_text NoConversation = codes "REFUSED NONE"
 answer_text Restarted = codes "RESTARTED"

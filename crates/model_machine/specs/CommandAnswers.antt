@@ -1,14 +1,14 @@
 -- What an operator's commands are answered at a moment, and which of them last.
-use Rattle.std.specs.Prelude.{⊤, ℕ, suc, ◌-◌, Bool, if◌then◌else◌, Option, Some, None, Result, Ok, Err, List, [], ◌∷◌, length, take, slice_get}
+use Rattle.std.specs.Prelude.{⊤, ◌≤◌, ℕ, suc, ◌-◌, Bool, if◌then◌else◌, Option, Some, None, Result, Ok, Err, List, [], ◌∷◌, length, take, slice_get}
 use Rattle.std.specs.Option.{option_map, option_map_or, option_and_then, is_some}
 use Rattle.tm_types.specs.declared.command.LastingCommand.{LastingCommand}
 use Rattle.tm_types.specs.declared.command.LastingCommand.TheVariants as lasts
 use Rattle.tm_types.specs.declared.dbd.Dbd.{Dbd}
 use Rattle.tm_types.specs.declared.resource.Resource.{Resource}
 use Rattle.model_machine.specs.declared.command.Command.{Command}
-use Rattle.model_machine.specs.declared.command.Command.TheVariants.{StartTransaction, StopTransaction, StartTerminal, StopTerminal, DisplayTransaction, DisplayTerminal, DisplayActive, Checkpoint, Freeze, DequeueFirst, DequeueAll, Exit, EmergencyRestart, NormalRestart, ColdStart}
+use Rattle.model_machine.specs.declared.command.Command.TheVariants.{StartTransaction, StopTransaction, StartTerminal, StopTerminal, DisplayTransaction, DisplayTerminal, DisplayActive, Checkpoint, Freeze, DequeueFirst, DequeueAll, Exit, AssignClass, AssignPriority, EmergencyRestart, NormalRestart, ColdStart}
 use Rattle.model_machine.specs.declared.answer.Answer.{Answer}
-use Rattle.model_machine.specs.declared.answer.Answer.TheVariants.{Started, Stopped, Transaction as CodeShown, Terminal as TerminalShown, Active, Dequeued, Exited, Up}
+use Rattle.model_machine.specs.declared.answer.Answer.TheVariants.{Started, Stopped, Transaction as CodeShown, Terminal as TerminalShown, Active, Dequeued, Exited, AssignedClass, AssignedPriority, Up}
 use Rattle.model_machine.specs.declared.active.ActiveRegion.{ActiveRegion}
 use Rattle.model_machine.specs.declared.active.RegionWork.{RegionWork}
 use Rattle.model_machine.specs.declared.active.RegionWork.TheVariants.{Idle, Working, Waiting}
@@ -96,13 +96,16 @@ exited name None id = Err NoConversation
 
 -- ---- all of them
 
--- The commands that a control region does. A checkpoint is a call of its own, and a restart opens another life.
+-- The commands that a control region does. A checkpoint is a call of its own, and a restart opens another life. A class that is
+-- assigned is 1 to 255, and a priority 0 to 14.
 abbrev pub IsCommandServed : Command → Type 0
 IsCommandServed Checkpoint = ⊥
 IsCommandServed Freeze = ⊥
 IsCommandServed EmergencyRestart = ⊥
 IsCommandServed NormalRestart = ⊥
 IsCommandServed ColdStart = ⊥
+IsCommandServed (AssignClass code class) = (1 ≤ class) × (class ≤ 255)
+IsCommandServed (AssignPriority code priority) = priority ≤ 14
 IsCommandServed _ = ⊤
 
 -- the answer to a command; a system that is up isn't opened again
@@ -121,6 +124,8 @@ command_answer system moment (DequeueAll terminal) = all_dequeued terminal (outp
 command_answer system moment (Exit terminal) =
     of_terminal moment.lasting terminal
     (exited terminal (conversation_at terminal moment.lasting.conversations) (busy_id terminal moment.lasting.messages))
+command_answer system moment (AssignClass code class) = of_code system code (Ok (AssignedClass code class))
+command_answer system moment (AssignPriority code priority) = of_code system code (Ok (AssignedPriority code priority))
 command_answer system moment Checkpoint = Ok Up
 command_answer system moment Freeze = Ok Up
 command_answer system moment EmergencyRestart = Ok Up
@@ -136,6 +141,8 @@ lasting_command (StopTerminal terminal) = Some (lasts.StopTerminal terminal)
 lasting_command (DequeueFirst terminal) = Some (lasts.DequeueFirst terminal)
 lasting_command (DequeueAll terminal) = Some (lasts.DequeueAll terminal)
 lasting_command (Exit terminal) = Some (lasts.Exit terminal)
+lasting_command (AssignClass code class) = Some (lasts.AssignClass code class)
+lasting_command (AssignPriority code priority) = Some (lasts.AssignPriority code priority)
 lasting_command _ = None
 
 -- what was answered otherwise than by a refusal lasts, also where it changes nothing

@@ -1,13 +1,14 @@
 -- What a text commands, or the lowest rule that it breaks: 1 a first word that is no command, 2 a word that
 -- stands where the command has a keyword and is none of its keywords, 3 operands missing or too many,
--- 4 a word that is no name.
+-- 4 a word that is no name, 5 a word that is no number, or a number out of range.
 use Rattle.std.specs.Prelude.{ℕ, ◌==◌, nat_lt, if◌then◌else◌, Result, Ok, Err, List, codes}
 use Rattle.std.specs.List.{count_by}
 use Rattle.std.specs.Str.{bytes_eq}
 use Rattle.tm_types.specs.Words.{first_word, operands}
 use Rattle.text_rows.specs.Names.{is_name}
+use Rattle.text_rows.specs.Numbers.{number_between}
 use Rattle.model_machine.specs.declared.command.Command.{Command}
-use Rattle.model_machine.specs.declared.command.Command.TheVariants.{StartTransaction, StopTransaction, StartTerminal, StopTerminal, DisplayTransaction, DisplayTerminal, DisplayActive, Checkpoint, Freeze, DequeueFirst, DequeueAll, Exit, EmergencyRestart, NormalRestart, ColdStart}
+use Rattle.model_machine.specs.declared.command.Command.TheVariants.{StartTransaction, StopTransaction, StartTerminal, StopTerminal, DisplayTransaction, DisplayTerminal, DisplayActive, Checkpoint, Freeze, DequeueFirst, DequeueAll, Exit, AssignClass, AssignPriority, EmergencyRestart, NormalRestart, ColdStart}
 
 -- ---- words
 
@@ -24,6 +25,9 @@ second_operand text = first_word (operands (operands text))
 abbrev pub third_operand : List ℕ → List ℕ
 third_operand text = first_word (operands (operands (operands text)))
 
+abbrev pub fourth_operand : List ℕ → List ℕ
+fourth_operand text = first_word (operands (operands (operands (operands text))))
+
 -- the name that a word is
 unfoldable pub command_name_operand : List ℕ → Result (List ℕ) ℕ
 command_name_operand word = if is_name word then Ok word else Err 4
@@ -36,6 +40,20 @@ command_name_of count text = if command_operand_count text == count then command
 abbrev pub named_command : (List ℕ → Command) → Result (List ℕ) ℕ → Result Command ℕ
 named_command command (Ok name) = Ok (command name)
 named_command command (Err rule) = Err rule
+
+-- the number from low to high that a word spells in digits
+abbrev pub or_no_number : Result ℕ ℕ → Result ℕ ℕ
+or_no_number (Ok number) = Ok number
+or_no_number (Err rule) = Err 5
+
+unfoldable pub command_number_operand : ℕ → ℕ → List ℕ → Result ℕ ℕ
+command_number_operand low high word = or_no_number (number_between low high word)
+
+-- the command that a name and a number make
+abbrev pub numbered_command : (List ℕ → ℕ → Command) → Result (List ℕ) ℕ → Result ℕ ℕ → Result Command ℕ
+numbered_command command (Err rule) number = Err rule
+numbered_command command (Ok name) (Err rule) = Err rule
+numbered_command command (Ok name) (Ok number) = Ok (command name number)
 
 -- a command behind whose words nothing more stands
 abbrev pub command_alone : ℕ → Command → List ℕ → Result Command ℕ
@@ -94,6 +112,23 @@ unfoldable pub exit_command : List ℕ → Result Command ℕ
 exit_command text =
     if command_operand_count text == 1 then named_command (λ t. Exit t) (command_name_operand (first_operand text)) else Err 3
 
+-- /ASSIGN TRANSACTION c CLASS k with k from 1 to 255, /ASSIGN TRANSACTION c PRIORITY p with p from 0 to 14: the keyword behind
+-- the name counts before the name, and that before the number
+unfoldable pub assigned_command : List ℕ → Result Command ℕ
+assigned_command text =
+    if nat_lt (command_operand_count text) 3 then Err 3
+    else if bytes_eq (third_operand text) (codes "CLASS")
+    then numbered_command (λ c k. AssignClass c k) (command_name_of 4 text) (command_number_operand 1 255 (fourth_operand text))
+    else if bytes_eq (third_operand text) (codes "PRIORITY")
+    then numbered_command (λ c p. AssignPriority c p) (command_name_of 4 text) (command_number_operand 0 14 (fourth_operand text))
+    else Err 2
+
+unfoldable pub assign_command : List ℕ → Result Command ℕ
+assign_command text =
+    if command_operand_count text == 0 then Err 3
+    else if bytes_eq (first_operand text) (codes "TRANSACTION") then assigned_command text
+    else Err 2
+
 -- /NRESTART, /NRESTART CHECKPOINT 0: the 0 is a keyword
 unfoldable pub cold_command : List ℕ → Result Command ℕ
 cold_command text =
@@ -116,6 +151,7 @@ command_of text =
     else if bytes_eq (first_word text) (codes "/CHECKPOINT") then checkpoint_command text
     else if bytes_eq (first_word text) (codes "/DEQUEUE") then dequeue_command text
     else if bytes_eq (first_word text) (codes "/EXIT") then exit_command text
+    else if bytes_eq (first_word text) (codes "/ASSIGN") then assign_command text
     else if bytes_eq (first_word text) (codes "/ERESTART") then command_alone 0 EmergencyRestart text
     else if bytes_eq (first_word text) (codes "/NRESTART") then restart_command text
     else Err 1

@@ -1,9 +1,9 @@
 -- Whole lives: which histories are legal, and where they lead.
 use Rattle.std.specs.Prelude.{◌≡◌, ◌<◌, ⊤, ℕ, Bool, true, false, Ok, Err, Option, None, Some, List, [], ◌∷◌, ◌++◌, length}
 use Rattle.model_machine.specs.declared.entry.Entry.{Entry}
-use Rattle.model_machine.specs.declared.entry.Entry.TheVariants.{Accept, Show, Acked, Turn as TurnEntry, Commanded, Checked}
+use Rattle.model_machine.specs.declared.entry.Entry.TheVariants.{Accept, Show, Acked, Turn as TurnEntry, Commanded, Checked, Quiet}
 use Rattle.model_machine.specs.declared.entry.ControlCall.{ControlCall}
-use Rattle.model_machine.specs.declared.entry.ControlCall.TheVariants.{Input, Receive, Acknowledge, Turn, Command, Checkpoint}
+use Rattle.model_machine.specs.declared.entry.ControlCall.TheVariants.{Input, Receive, Acknowledge, Turn, Command, Checkpoint, AskQuiet}
 use Rattle.model_machine.specs.declared.entry.InputRefused.TheVariants.{Fault as InputFault}
 use Rattle.model_machine.specs.declared.entry.AckRefused.TheVariants.{Fault as AckFault}
 use Rattle.model_machine.specs.declared.entry.CommandRefused.TheVariants.{Fault as CommandFault}
@@ -14,7 +14,7 @@ use Rattle.model_machine.specs.declared.entry.Turned.TheVariants.{Backed}
 use Rattle.model_data.specs.declared.victim.Victim.{Victim}
 use Rattle.model_machine.specs.Requests.{BreaksRingsAt}
 use Rattle.model_machine.specs.CommandAnswers.{IsCommandServed, command_answer, checkpoint_answer}
-use Rattle.model_machine.specs.MachineCalls.{input_answer, show_answer, ack_answer, turn_answer, After}
+use Rattle.model_machine.specs.MachineCalls.{input_answer, show_answer, ack_answer, turn_answer, is_machine_quiet, After}
 
 -- the call that an entry answers
 abbrev pub call_of : Entry → ControlCall
@@ -24,6 +24,7 @@ call_of (Acked terminal number answer) = Acknowledge terminal number
 call_of (TurnEntry region answer) = Turn region
 call_of (Commanded command answer) = Command command
 call_of (Checked freeze answer) = Checkpoint freeze
+call_of (Quiet quiet) = AskQuiet
 
 -- the regions that gave way in the turn that an entry tells of
 abbrev pub victims_in : Entry → List Victim
@@ -44,6 +45,7 @@ entry_now system moment victims checkpoint (Acknowledge terminal number) = Acked
 entry_now system moment victims checkpoint (Turn region) = TurnEntry region (Ok (turn_answer system moment region victims))
 entry_now system moment victims checkpoint (Command command) = Commanded command (command_answer system moment command)
 entry_now system moment victims checkpoint (Checkpoint freeze) = Checked freeze (checkpoint_answer moment freeze checkpoint)
+entry_now system moment victims checkpoint AskQuiet = Quiet (is_machine_quiet system moment)
 
 -- the victims of a call are the right ones
 abbrev pub AreVictims : System → Moment → List Victim → ControlCall → Type 0
@@ -58,6 +60,7 @@ IsCall system (Acknowledge terminal number) = ⊤
 IsCall system (Turn region) = IsRegion system region
 IsCall system (Command command) = IsCommandServed command
 IsCall system (Checkpoint freeze) = ⊤
+IsCall system AskQuiet = ⊤
 
 -- the entry has the right answer at the moment
 pub record May (system : System) (moment : Moment) (entry : Entry) : Type 0 where

@@ -3,7 +3,7 @@ use Rattle.std.specs.Prelude.{ℕ, ◌+◌, ◌-◌, ◌==◌, Bool, filter, not
 use Rattle.std.specs.Option.{is_some, option_map}
 use Rattle.tm_types.specs.declared.abend.AbendCode.{AbendCode}
 use Rattle.tm_types.specs.declared.command.LastingCommand.{LastingCommand}
-use Rattle.tm_types.specs.declared.command.LastingCommand.TheVariants.{StartTransaction, StopTransaction, StartTerminal, StopTerminal, DequeueFirst, DequeueAll, Exit}
+use Rattle.tm_types.specs.declared.command.LastingCommand.TheVariants.{StartTransaction, StopTransaction, StartTerminal, StopTerminal, DequeueFirst, DequeueAll, Exit, AssignClass, AssignPriority}
 use Rattle.tm_types.specs.declared.message.Message.{Message}
 use Rattle.tm_types.specs.Words.{first_word, operands}
 use Rattle.tm_types.specs.Digits.{four_digits}
@@ -186,23 +186,32 @@ stopped_code stopped code = record code { stopped = stopped }
 abbrev pub stopped_terminal : Bool → TerminalState → TerminalState
 stopped_terminal stopped terminal = record terminal { stopped = stopped }
 
-abbrev pub with_stopped_code : Bool → List ℕ → LastingState → LastingState
-with_stopped_code stopped code lasting = record lasting { codes = change_at lasting.codes (setting_place lasting.codes code) (stopped_code stopped) }
-
 abbrev pub with_stopped_terminal : Bool → List ℕ → LastingState → LastingState
 with_stopped_terminal stopped terminal lasting =
     record lasting { terminals = change_at lasting.terminals (terminal_place lasting.terminals terminal) (stopped_terminal stopped) }
 
+-- a code with another class, and with another normal priority
+abbrev pub classed_code : ℕ → CodeSetting → CodeSetting
+classed_code class code = record code { class = class }
+
+abbrev pub ranked_code : ℕ → CodeSetting → CodeSetting
+ranked_code priority code = record code { priority = priority }
+
+abbrev pub with_code_changed : (CodeSetting → CodeSetting) → List ℕ → LastingState → LastingState
+with_code_changed change code lasting = record lasting { codes = change_at lasting.codes (setting_place lasting.codes code) change }
+
 -- What a command changes: whether a code or a terminal is stopped, the replies of a terminal, of which the first or
--- all go, or the conversation of a terminal, which ends.
+-- all go, the conversation of a terminal, which ends, or the class or the normal priority of a code.
 abbrev pub commanded : LastingCommand → LastingState → LastingState
-commanded (StartTransaction code) lasting = with_stopped_code false code lasting
-commanded (StopTransaction code) lasting = with_stopped_code true code lasting
+commanded (StartTransaction code) lasting = with_code_changed (stopped_code false) code lasting
+commanded (StopTransaction code) lasting = with_code_changed (stopped_code true) code lasting
 commanded (StartTerminal terminal) lasting = with_stopped_terminal false terminal lasting
 commanded (StopTerminal terminal) lasting = with_stopped_terminal true terminal lasting
 commanded (DequeueFirst terminal) lasting = acknowledged terminal lasting
 commanded (DequeueAll terminal) lasting = record lasting { outputs = with_terminal terminal without_replies lasting.outputs }
 commanded (Exit terminal) lasting = record lasting { conversations = with_conversing terminal None lasting.conversations }
+commanded (AssignClass code class) lasting = with_code_changed (classed_code class) code lasting
+commanded (AssignPriority code priority) lasting = with_code_changed (ranked_code priority) code lasting
 
 -- what a step changes
 abbrev pub changed : LastingStep → LastingState → LastingState

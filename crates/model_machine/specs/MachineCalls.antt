@@ -2,6 +2,7 @@
 use Rattle.std.specs.Prelude.{ℕ, suc, ◌+◌, ◌-◌, ◌*◌, ◌==◌, nat_lt, nat_le, Bool, true, false, not, ◌&&◌, ◌||◌, if◌then◌else◌, Option, Some, None, Result, Ok, Err, List, [], ◌∷◌, length, slice_get, slice_set}
 use Rattle.std.specs.Option.{option_map_or, option_and_then, option_or, unwrap_or, is_some}
 use Rattle.tm_types.specs.Segment.{counted_bytes}
+use Rattle.tm_types.specs.declared.message.Message.{Message}
 use Rattle.model_system.specs.declared.code_state.CodeState.{CodeState}
 use Rattle.model_system.specs.declared.code.Code.{Code}
 use Rattle.model_system.specs.declared.code.Transaction.{Transaction}
@@ -16,9 +17,9 @@ use Rattle.model_messages.specs.Terminals.{conversation_at}
 use Rattle.model_messages.specs.declared.replies.TerminalReplies.{TerminalReplies}
 use Rattle.model_messages.specs.Outputs.{first_number}
 use Rattle.model_messages.specs.Room.{input_needs, slot_needs, slot_room}
-use Rattle.model_messages.specs.Waiting.{first_waiting}
+use Rattle.model_messages.specs.Waiting.{first_waiting, any_worked_on}
 use Rattle.model_machine.specs.declared.entry.ControlCall.{ControlCall}
-use Rattle.model_machine.specs.declared.entry.ControlCall.TheVariants.{Input, Receive, Acknowledge, Turn, Command, Checkpoint}
+use Rattle.model_machine.specs.declared.entry.ControlCall.TheVariants.{Input, Receive, Acknowledge, Turn, Command, Checkpoint, AskQuiet}
 use Rattle.model_machine.specs.declared.entry.Taken.{Taken}
 use Rattle.model_machine.specs.declared.entry.Taken.TheVariants.{New, Already}
 use Rattle.model_machine.specs.declared.entry.InputRefused.{InputRefused}
@@ -39,7 +40,7 @@ use Rattle.model_machine.specs.CommandAnswers.{state_now, command_step}
 use Rattle.model_machine.specs.Machine.{LastingState, Moment, Slot, terminal_at, output_at, slot_at, is_held, busy_slots, content, states_of, moment_with}
 use Rattle.model_machine.specs.LastingSteps.{KeptInput, LastingStep, kept_input, applied}
 use Rattle.model_machine.specs.LastingSteps.LastingStep.{Accepts, Acknowledges, Completes, Discards}
-use Rattle.model_machine.specs.Pick.{Candidate, pick_of}
+use Rattle.model_machine.specs.Pick.{Candidate, offered_by, pick_of}
 use Rattle.model_machine.specs.WorkSoFar.{slot_trial}
 use Rattle.model_machine.specs.Requests.{blocked_now, asked_table, table_after, without_victims}
 use Rattle.model_data.specs.declared.request.Request.{Request}
@@ -159,8 +160,13 @@ ack_answer moment terminal number = ack_by (output_at moment.lasting.outputs ter
 
 -- ---- turns
 
+abbrev pub offered_among : List (Option Slot) → List Message → Code → Option ℕ
+offered_among slots messages code =
+    offered_by code.transaction (any_worked_on (is_held slots) code.transaction.code messages)
+    (first_waiting (is_held slots) code.transaction.code messages)
+
 abbrev pub pick_now : System → Moment → ℕ → Option Candidate
-pick_now system moment region = pick_of system region (states_of moment) (λ code. first_waiting (is_held moment.slots) code moment.lasting.messages)
+pick_now system moment region = pick_of system region (states_of moment) (offered_among moment.slots moment.lasting.messages)
 
 -- what one more region at work needs
 abbrev pub need_now : Moment → ℕ
@@ -272,6 +278,7 @@ lasting_step system moment (Turn region) =
     option_and_then (step_in_turn system moment region) (slot_at moment region)
 lasting_step system moment (Command command) = command_step system moment command
 lasting_step system moment (Checkpoint freeze) = None
+lasting_step system moment AskQuiet = None
 
 abbrev pub lasting_after : System → Moment → ControlCall → LastingState
 lasting_after system moment call = option_map_or (λ step. applied step moment.lasting) (lasting_step system moment call) moment.lasting

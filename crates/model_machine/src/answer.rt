@@ -45,6 +45,10 @@ pub enum Answer {
     Dequeued(u64),
     /// The conversation of this terminal ended.
     Exited(Name),
+    /// This code has this class.
+    AssignedClass(Name, u8),
+    /// This code has this normal priority.
+    AssignedPriority(Name, u8),
     /// The conversation doesn't end, since its message of this id is queued or worked on.
     ConversationBusy(u64),
     /// The terminal has no conversation.

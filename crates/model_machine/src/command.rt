@@ -1,7 +1,7 @@
 //! Commands of an operator.
 use tm_types::Name;
 
-/// A command of an operator: one variant for each form, with its names.
+/// A command of an operator: one variant for each form, with its names and numbers.
 #[derive(Clone, Copy, Debug, PartialEq, Eq)]
 pub enum Command {
     /// `/START TRANSACTION c`: messages of this code are taken and scheduled again.
@@ -28,6 +28,10 @@ pub enum Command {
     DequeueAll(Name),
     /// `/EXIT t`: the conversation of this terminal ends.
     Exit(Name),
+    /// `/ASSIGN TRANSACTION c CLASS k`: this code has the class k, 1 to 255.
+    AssignClass(Name, u8),
+    /// `/ASSIGN TRANSACTION c PRIORITY p`: this code has the normal priority p, 0 to 14.
+    AssignPriority(Name, u8),
     /// `/ERESTART`: the system that is down is opened again.
     EmergencyRestart,
     /// `/NRESTART`: the same.

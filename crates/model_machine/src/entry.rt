@@ -21,6 +21,8 @@ pub enum ControlCall {
     Command(Command),
     /// Take a checkpoint, and with the flag end the life with it.
     Checkpoint(bool),
+    /// Tell whether nothing is left to do.
+    AskQuiet,
 }
 
 /// Why a call could not be done.
@@ -168,4 +170,6 @@ pub enum Entry {
     Commanded(Command, Result<Answer, CommandRefused>),
     /// A checkpoint was asked for, with the flag one behind which the life ends. It got this number.
     Checked(bool, Result<u64, CheckpointRefused>),
+    /// It was asked whether nothing is left to do.
+    Quiet(bool),
 }

@@ -1,7 +1,7 @@
 -- The queues: all messages in the order of their ids, each with the region that has it.
 use Rattle.std.specs.Prelude.{ℕ, ◌<◌, ◌==◌, Bool, not, ◌&&◌, if◌then◌else◌, List, ◌∷◌, [], ◌++◌, Option, None, map, filter, find, count_by}
-use Rattle.std.specs.Option.{option_map, is_none}
-use Rattle.std.specs.List.{AllByRecursion}
+use Rattle.std.specs.Option.{option_map, is_none, is_some}
+use Rattle.std.specs.List.{AllByRecursion, list_any}
 use Rattle.std.specs.List.Sorted.{IsStrictlySortedBy}
 use Rattle.std.specs.Ordering.{nat_cmp}
 use Rattle.std.specs.Str.{bytes_eq}
@@ -61,3 +61,7 @@ first_free code queued = option_map (λ q. q.message.id) (find (is_free_of code)
 -- how many messages of the code no region has
 abbrev pub free_count : List ℕ → List Queued → ℕ
 free_count code queued = count_by (is_free_of code) queued
+
+-- a region has a message of the code
+abbrev pub any_held : List ℕ → List Queued → Bool
+any_held code queued = list_any (λ q. bytes_eq q.message.code code && is_some q.holder) queued

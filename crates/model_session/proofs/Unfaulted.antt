@@ -3,7 +3,7 @@ use Rattle.std.proofs.Common.{◌≡◌, ℕ, ◌+◌, Bool, true, false, ◌&&�
 use Rattle.std.specs.Prelude.{Option, Some, None, Result, Ok, Err, if◌then◌else◌, nat_le, nat_lt, ◌==◌, slice_get}
 use Rattle.std.specs.Option.{is_some, option_map_or, option_and_then, option_or, unwrap_or}
 use Rattle.model_machine.specs.declared.command.Command.{Command}
-use Rattle.model_machine.specs.declared.command.Command.TheVariants.{StartTransaction, StopTransaction, StartTerminal, StopTerminal, DisplayTransaction, DisplayTerminal, DisplayActive, Checkpoint as TakeCheckpoint, Freeze, DequeueFirst, DequeueAll, Exit, EmergencyRestart, NormalRestart, ColdStart}
+use Rattle.model_machine.specs.declared.command.Command.TheVariants.{StartTransaction, StopTransaction, StartTerminal, StopTerminal, DisplayTransaction, DisplayTerminal, DisplayActive, Checkpoint as TakeCheckpoint, Freeze, DequeueFirst, DequeueAll, Exit, AssignClass, AssignPriority, EmergencyRestart, NormalRestart, ColdStart}
 use Rattle.model_system.specs.declared.code.Code.{Code}
 use Rattle.model_system.specs.declared.code_state.CodeState.{CodeState}
 use Rattle.model_system.specs.Codes.{code_at}
@@ -19,7 +19,7 @@ use Rattle.model_machine.specs.declared.entry.AckRefused.{AckRefused}
 use Rattle.model_machine.specs.declared.entry.Acked.{Acked}
 use Rattle.model_machine.specs.declared.entry.CommandRefused.TheVariants.{UnknownName}
 use Rattle.model_machine.specs.declared.entry.ControlCall.{ControlCall}
-use Rattle.model_machine.specs.declared.entry.ControlCall.TheVariants.{Input, Receive, Acknowledge, Turn, Command as CommandCall, Checkpoint}
+use Rattle.model_machine.specs.declared.entry.ControlCall.TheVariants.{Input, Receive, Acknowledge, Turn, Command as CommandCall, Checkpoint, AskQuiet}
 use Rattle.model_machine.specs.declared.entry.Entry.{Entry}
 use Rattle.model_machine.specs.declared.entry.Entry.TheVariants.{Accept, Acked as AckedEntry, Commanded, Checked}
 use Rattle.model_machine.specs.declared.entry.InputRefused.TheVariants.{Terminal as NoTerminal, StoppedTerminal, Expected, Code as NoCode, StoppedCode, SegmentsOver, QueueFull}
@@ -146,6 +146,8 @@ command_fine system moment (DequeueAll terminal) = all_fine (DequeueAll terminal
 command_fine system moment (Exit terminal) =
     named_fine (Exit terminal) (is_some (terminal_at moment.lasting.terminals terminal)) terminal _
     (exit_fine (Exit terminal) terminal (conversation_at terminal moment.lasting.conversations) (busy_id terminal moment.lasting.messages))
+command_fine system moment (AssignClass code class) = named_fine (AssignClass code class) (is_some (code_at system.codes code)) code _ refl
+command_fine system moment (AssignPriority code priority) = named_fine (AssignPriority code priority) (is_some (code_at system.codes code)) code _ refl
 command_fine system moment TakeCheckpoint = refl
 command_fine system moment Freeze = refl
 command_fine system moment EmergencyRestart = refl
@@ -171,6 +173,7 @@ entry_fine system moment victims number (Acknowledge terminal n) = ack_fine term
 entry_fine system moment victims number (Turn region) = refl
 entry_fine system moment victims number (CommandCall command) = command_fine system moment command
 entry_fine system moment victims number (Checkpoint freeze) = checkpoint_fine moment freeze number
+entry_fine system moment victims number AskQuiet = refl
 
 pub unfaulted : (system : System) (moment : Moment) (entry : Entry) → May system moment entry → is_fault entry ≡ false
 unfaulted system moment entry may = ap is_fault may.answer ∙ entry_fine system moment (victims_in entry) (checkpoint_number_in entry) (call_of entry)

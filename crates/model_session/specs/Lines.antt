@@ -9,7 +9,7 @@ use Rattle.text_rows.specs.LowestRule.{both, also}
 use Rattle.tm_types.specs.Segment.{are_printable}
 use Rattle.tm_types.specs.Words.{first_word, operands}
 use Rattle.model_machine.specs.CommandAnswers.{IsCommandServed}
-use Rattle.model_machine.specs.declared.entry.ControlCall.TheVariants.{Input, Receive, Acknowledge, Turn, Command, Checkpoint}
+use Rattle.model_machine.specs.declared.entry.ControlCall.TheVariants.{Input, Receive, Acknowledge, Turn, Command, Checkpoint, AskQuiet}
 use Rattle.model_system.specs.declared.fields.FieldValue.{FieldValue}
 use Rattle.model_system.specs.ScreenInput.{entered}
 use Rattle.model_system.specs.FormatLines.{FormatLines}
@@ -208,7 +208,7 @@ asked_of system block =
     else asked_by system block (block_form (length system.regions) block)
 
 -- What is asked can be asked of a system with so many regions: an input has a segment, and the region
--- is there.
+-- is there. No block asks whether nothing is left to do: `QUIET` asks for turns.
 abbrev pub CanAsk : ℕ → Asked → Type 0
 CanAsk regions (Call (Input terminal number segments)) = 0 < length segments
 CanAsk regions (Call (Turn region)) = (1 ≤ region) × (region ≤ regions)
@@ -216,6 +216,7 @@ CanAsk regions (Call (Receive terminal)) = ⊤
 CanAsk regions (Call (Acknowledge terminal number)) = ⊤
 CanAsk regions (Call (Command command)) = IsCommandServed command
 CanAsk regions (Call (Checkpoint freeze)) = ⊤
+CanAsk regions (Call AskQuiet) = ⊥
 CanAsk regions (Quiet most) = ⊤
 CanAsk regions (Stopped terminal number reason) = ⊤
 CanAsk regions (Bad rule) = ⊤

@@ -17,7 +17,7 @@ use Rattle.model_system.specs.SystemFormats.{format_of}
 use Rattle.model_system.specs.System.{System}
 use Rattle.model_messages.specs.MessageCalls.{without_blanks}
 use Rattle.model_machine.specs.declared.entry.Entry.{Entry}
-use Rattle.model_machine.specs.declared.entry.Entry.TheVariants.{Accept, Show, Acked as AckedEntry, Turn, Commanded, Checked}
+use Rattle.model_machine.specs.declared.entry.Entry.TheVariants.{Accept, Show, Acked as AckedEntry, Turn, Commanded, Checked, Quiet}
 use Rattle.model_machine.specs.declared.entry.ControlFault.{ControlFault}
 use Rattle.model_machine.specs.declared.entry.Taken.{Taken}
 use Rattle.model_machine.specs.declared.entry.Taken.TheVariants.{New, Already}
@@ -210,6 +210,11 @@ checkpoint_text freeze (Ok number) = if freeze then command_line (answers.Frozen
 checkpoint_text freeze (Err (BusyRegion region id)) = command_line (answers.FreezeRefused region id)
 checkpoint_text freeze (Err (CheckpointFault fault)) = []
 
+-- it is told that nothing is left to do
+abbrev pub quiet_line : Bool → List ℕ
+quiet_line true = codes "QUIET" ++ line_end
+quiet_line false = []
+
 abbrev pub entry_text : System → Moment → Entry → List ℕ
 entry_text system moment (Accept terminal number segments answer) = input_text terminal number (shown_word (code_word segments)) answer
 entry_text system moment (Show terminal answer) = show_text system moment terminal answer
@@ -217,6 +222,7 @@ entry_text system moment (AckedEntry terminal number answer) = ack_text terminal
 entry_text system moment (Turn region answer) = turn_text system.databases region answer
 entry_text system moment (Commanded command answer) = command_text answer
 entry_text system moment (Checked freeze answer) = checkpoint_text freeze answer
+entry_text system moment (Quiet quiet) = quiet_line quiet
 
 -- what is printed for a block that breaks a rule
 abbrev pub bad_line_text : ℕ → List ℕ

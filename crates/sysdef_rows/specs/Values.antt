@@ -17,7 +17,7 @@ unfoldable pub response_of : List ℕ → Result (Unit {0}) ℕ
 response_of word = if bytes_eq word (codes "NONRESPONSE") then Ok tt else Err 9
 
 unfoldable pub serial_of : List ℕ → Result Bool ℕ
-serial_of word = if bytes_eq word (codes "NO") then Ok false else Err 9
+serial_of word = if bytes_eq word (codes "NO") then Ok false else if bytes_eq word (codes "YES") then Ok true else Err 9
 
 -- PARENT: 0 alone is the root's, and no name
 abbrev pub parent_name : Result (List ℕ) ℕ → Result (Option (List ℕ)) ℕ

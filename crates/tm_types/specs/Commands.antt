@@ -37,6 +37,10 @@ IsAssigned (AssignClass code class) = (1 ≤ class) × (class ≤ 255)
 IsAssigned (AssignPriority code priority) = priority ≤ 14
 IsAssigned _ = ⊤
 
+-- what it names is a name, and what it assigns may be
+abbrev pub IsSpellable : LastingCommand → Type 0
+IsSpellable command = IsName (name_in command) × IsAssigned command
+
 -- the text is the command's spelling, what it names is a name, and what it assigns may be
 pub record SpellsCommand (text : List ℕ) (command : LastingCommand) : Type 0 where
   pub spelled : text ≡ command_spelling command
