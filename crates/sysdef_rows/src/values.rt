@@ -64,13 +64,15 @@ fn capped(rule: u8) -> Result<u16, u8>
     }
 }
 
-/// SERIAL: only NO is there.
+/// SERIAL: YES or NO.
 #[tactic(auto, unfolding(crate::specs::Values::serial_of))]
 pub(crate) fn serial_of(word: &[u8]) -> Result<bool, u8>
     ensures { result ≡ spec.serial_of word.now }
 {
     if is_word(word, b"NO") {
         Ok(false)
+    } else if is_word(word, b"YES") {
+        Ok(true)
     } else {
         Err(WRONG_WORD)
     }
