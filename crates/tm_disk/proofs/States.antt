@@ -2,7 +2,7 @@
 use Rattle.std.proofs.Common.{◌≡◌, ℕ, ◌+◌, ◌<◌, ◌≤◌, List, [], ◌∷◌, ◌++◌, length, drop, refl, sym, ◌∙◌, ap, subst, inl, inr, ⊎_elim, arith, length-append, Option, None}
 use Rattle.std.specs.Prelude.{Result, Ok, Err, is_err, OnOk, false}
 use Rattle.std.proofs.lemmas.Bool.Decides.{nat_tests}
-use Rattle.tm_disk.specs.Disk.{Image, Elapses, Keeps, MayHaveWritten, HasWritten, IsCut, one_less}
+use Rattle.tm_disk.specs.Disk.{Image, Elapses, Keeps, MayHaveWritten, HasWritten, IsCut, Cuts, cut_once, one_less}
 use Rattle.tm_disk.proofs.Words.{keeps_same, lessens_one, lessens_same}
 use Rattle.tm_disk.specs.Count.{raised}
 use Rattle.tm_disk.specs.Contents.{contents_now, past_of, ContentsGoOn, HasSettled, Settles}
@@ -23,8 +23,8 @@ raised_more n = grind (arith, nat_tests)
 pub raised_within : (n : ℕ) → raised n ≤ n + 1
 raised_within n = grind (arith, nat_tests)
 
-mem_elapses : (now next : DiskMoment) (past grown : List DiskMoment) (f f' w w' : ℕ) (s s' : Option ℕ) → grown ≡ past ++ now ∷ [] → Elapses (mem_state now past f w s) (mem_state next grown f' w' s')
-mem_elapses now next past grown f f' w w' s s' is = record {
+mem_elapses : (now next : DiskMoment) (past grown : List DiskMoment) (f f' w w' : ℕ) (s s' : Option ℕ) (c c' : Cuts) → grown ≡ past ++ now ∷ [] → Elapses (mem_state now past f w s c) (mem_state next grown f' w' s' c')
+mem_elapses now next past grown f f' w w' s s' c c' is = record {
   later = omega (arith, ap (length {A = DiskMoment}) is, length-append past (now ∷ []));
   nothing_else = λ time image early left.
       ⊎_elim (λ (l : IsImageLeft next image). inr l)
@@ -35,27 +35,27 @@ mem_elapses now next past grown f f' w w' s s' is = record {
 
 -- a sync
 
-keeps_synced : (now : DiskMoment) (past grown : List DiskMoment) (f w : ℕ) (s : Option ℕ) → grown ≡ past ++ now ∷ [] → Keeps (mem_state now past f w s) (mem_state (settled_by Synced now) grown f w s)
-keeps_synced now past grown f w s is = record {
-  stays = record { size = length-shown_of now.synced now.since; tells = refl; can_arm = refl; faults = omega arith; writes = omega arith; stop = lessens_same s };
-  elapses = mem_elapses now (settled_by Synced now) past grown f f w w s s is;
+keeps_synced : (now : DiskMoment) (past grown : List DiskMoment) (f w : ℕ) (s : Option ℕ) (c : Cuts) → grown ≡ past ++ now ∷ [] → Keeps (mem_state now past f w s c) (mem_state (settled_by Synced now) grown f w s c)
+keeps_synced now past grown f w s c is = record {
+  stays = record { size = length-shown_of now.synced now.since; tells = refl; can_arm = refl; faults = omega arith; writes = omega arith; stop = lessens_same s; cuts = refl };
+  elapses = mem_elapses now (settled_by Synced now) past grown f f w w s s c c is;
   no_more = λ image left. subst (IsImageLeft now) (sym (synced_alone (settled_by Synced now) image refl left)) (shown_is_left now);
   shown = refl;
   writes = refl;
 }
 
-keeps_here : (now next : DiskMoment) (past grown : List DiskMoment) (f w : ℕ) (s : Option ℕ) → next ≡ now → grown ≡ past → Keeps (mem_state now past f w s) (mem_state next grown f w s)
-keeps_here now next past grown f w s is same =
-    subst (λ (m : DiskMoment). Keeps (mem_state now past f w s) (mem_state m grown f w s)) (sym is)
-    (subst (λ (l : List DiskMoment). Keeps (mem_state now past f w s) (mem_state now l f w s)) (sym same) (keeps_same (mem_state now past f w s)))
+keeps_here : (now next : DiskMoment) (past grown : List DiskMoment) (f w : ℕ) (s : Option ℕ) (c : Cuts) → next ≡ now → grown ≡ past → Keeps (mem_state now past f w s c) (mem_state next grown f w s c)
+keeps_here now next past grown f w s c is same =
+    subst (λ (m : DiskMoment). Keeps (mem_state now past f w s c) (mem_state m grown f w s c)) (sym is)
+    (subst (λ (l : List DiskMoment). Keeps (mem_state now past f w s c) (mem_state now l f w s c)) (sym same) (keeps_same (mem_state now past f w s c)))
 
-pub sync_keeps : (old new : Contents) (f w : ℕ) (s : Option ℕ) → Settles Synced old new → Keeps (mem_state (contents_now old) (past_of old) f w s) (mem_state (contents_now new) (past_of new) f w s)
-sync_keeps old new f w s settles =
+pub sync_keeps : (old new : Contents) (f w : ℕ) (s : Option ℕ) (c : Cuts) → Settles Synced old new → Keeps (mem_state (contents_now old) (past_of old) f w s c) (mem_state (contents_now new) (past_of new) f w s c)
+sync_keeps old new f w s c settles =
     ⊎_elim
     (λ (goes : ContentsGoOn old new (settled_by Synced (contents_now old))).
-    subst (λ (m : DiskMoment). Keeps (mem_state (contents_now old) (past_of old) f w s) (mem_state m (past_of new) f w s)) (sym goes.now)
-    (keeps_synced (contents_now old) (past_of old) (past_of new) f w s goes.past))
-    (λ (settled : HasSettled old new). keeps_here (contents_now old) (contents_now new) (past_of old) (past_of new) f w s settled.same.now settled.same.past)
+    subst (λ (m : DiskMoment). Keeps (mem_state (contents_now old) (past_of old) f w s c) (mem_state m (past_of new) f w s c)) (sym goes.now)
+    (keeps_synced (contents_now old) (past_of old) (past_of new) f w s c goes.past))
+    (λ (settled : HasSettled old new). keeps_here (contents_now old) (contents_now new) (past_of old) (past_of new) f w s c settled.same.now settled.same.past)
     settles
 
 -- where nothing was written since, one image is left
@@ -71,12 +71,12 @@ sync_alone old new settles =
 
 -- a cut
 
-cut_settled : (now : DiskMoment) (past grown : List DiskMoment) (f w pick : ℕ) (s : Option ℕ) → grown ≡ past ++ now ∷ [] → IsCut pick (mem_state now past f w s) (mem_state (settled_by (Cut pick) now) grown f w None)
-cut_settled now past grown f w pick s is =
+cut_settled : (now : DiskMoment) (past grown : List DiskMoment) (f w pick : ℕ) (s : Option ℕ) (c : Cuts) → grown ≡ past ++ now ∷ [] → IsCut pick (mem_state now past f w s c) (mem_state (settled_by (Cut pick) now) grown f w None (cut_once pick c))
+cut_settled now past grown f w pick s c is =
     let next = settled_by (Cut pick) now in
     record {
       same = record { size = length-picked pick 0 now.since now.synced; tells = refl; can_arm = refl; faults = omega arith; writes = omega arith };
-      elapses = mem_elapses now next past grown f f w w s None is;
+      elapses = mem_elapses now next past grown f f w w s None c (cut_once pick c) is;
       no_more = λ image left. subst (IsImageLeft now) (sym (synced_alone next image refl left)) (picked_is_left now pick);
       left = λ tells. picked_is_left now pick;
       picked = λ tells. refl;
@@ -84,6 +84,7 @@ cut_settled now past grown f w pick s is =
       writes = refl;
       faults = refl;
       disarmed = refl;
+      cuts = refl;
     }
 
 cut_none : (pick : ℕ) (now : DiskMoment) → now.since ≡ [] → now ≡ settled_by (Cut pick) now
@@ -92,8 +93,8 @@ cut_none pick now none =
     ap (λ (l : List Written). record { synced = now.synced; since = l }) none
     ∙ ap bare (sym (picked_none pick 0 now.since now.synced (λ k le. ap (λ (l : List Written). writes_to k l) none)))
 
-cut_here : (now : DiskMoment) (past : List DiskMoment) (f w pick : ℕ) (s : Option ℕ) → now.since ≡ [] → IsCut pick (mem_state now past f w s) (mem_state now past f w None)
-cut_here now past f w pick s none = record {
+cut_here : (now : DiskMoment) (past : List DiskMoment) (f w pick : ℕ) (s : Option ℕ) (c : Cuts) → now.since ≡ [] → IsCut pick (mem_state now past f w s c) (mem_state now past f w None (cut_once pick c))
+cut_here now past f w pick s c none = record {
   same = record { size = refl; tells = refl; can_arm = refl; faults = omega arith; writes = omega arith };
   elapses = record { later = omega arith; nothing_else = λ time image early left. inl left; keeps = λ time image early left. left };
   no_more = λ image left. left;
@@ -103,48 +104,49 @@ cut_here now past f w pick s none = record {
   writes = refl;
   faults = refl;
   disarmed = refl;
+  cuts = refl;
 }
 
-pub cut_cuts : (old new : Contents) (f w pick : ℕ) (s : Option ℕ) → Settles (Cut pick) old new → IsCut pick (mem_state (contents_now old) (past_of old) f w s) (mem_state (contents_now new) (past_of new) f w None)
-cut_cuts old new f w pick s settles =
+pub cut_cuts : (old new : Contents) (f w pick : ℕ) (s : Option ℕ) (c : Cuts) → Settles (Cut pick) old new → IsCut pick (mem_state (contents_now old) (past_of old) f w s c) (mem_state (contents_now new) (past_of new) f w None (cut_once pick c))
+cut_cuts old new f w pick s c settles =
     ⊎_elim
     (λ (goes : ContentsGoOn old new (settled_by (Cut pick) (contents_now old))).
-    subst (λ (m : DiskMoment). IsCut pick (mem_state (contents_now old) (past_of old) f w s) (mem_state m (past_of new) f w None)) (sym goes.now)
-    (cut_settled (contents_now old) (past_of old) (past_of new) f w pick s goes.past))
+    subst (λ (m : DiskMoment). IsCut pick (mem_state (contents_now old) (past_of old) f w s c) (mem_state m (past_of new) f w None (cut_once pick c))) (sym goes.now)
+    (cut_settled (contents_now old) (past_of old) (past_of new) f w pick s c goes.past))
     (λ (settled : HasSettled old new).
-    subst (λ (m : DiskMoment). IsCut pick (mem_state (contents_now old) (past_of old) f w s) (mem_state m (past_of new) f w None)) (sym settled.same.now)
-    (subst (λ (l : List DiskMoment). IsCut pick (mem_state (contents_now old) (past_of old) f w s) (mem_state (contents_now old) l f w None)) (sym settled.same.past)
-    (cut_here (contents_now old) (past_of old) f w pick s settled.none)))
+    subst (λ (m : DiskMoment). IsCut pick (mem_state (contents_now old) (past_of old) f w s c) (mem_state m (past_of new) f w None (cut_once pick c))) (sym settled.same.now)
+    (subst (λ (l : List DiskMoment). IsCut pick (mem_state (contents_now old) (past_of old) f w s c) (mem_state (contents_now old) l f w None (cut_once pick c))) (sym settled.same.past)
+    (cut_here (contents_now old) (past_of old) f w pick s c settled.none)))
     settles
 
 -- a write
 
-tries_write : (now : DiskMoment) (past grown : List DiskMoment) (write : Written) (f f' w : ℕ) (s : Option ℕ) → f ≤ f' → grown ≡ past ++ now ∷ [] → MayHaveWritten write.at write.content (mem_state now past f w s) (mem_state (after_write write now) grown f' (raised w) (one_less s))
-tries_write now past grown write f f' w s le is = record {
-  stays = record { size = refl; tells = refl; can_arm = refl; faults = le; writes = raised_more w; stop = lessens_one s };
-  elapses = mem_elapses now (after_write write now) past grown f f' w (raised w) s (one_less s) is;
+tries_write : (now : DiskMoment) (past grown : List DiskMoment) (write : Written) (f f' w : ℕ) (s : Option ℕ) (c : Cuts) → f ≤ f' → grown ≡ past ++ now ∷ [] → MayHaveWritten write.at write.content (mem_state now past f w s c) (mem_state (after_write write now) grown f' (raised w) (one_less s) c)
+tries_write now past grown write f f' w s c le is = record {
+  stays = record { size = refl; tells = refl; can_arm = refl; faults = le; writes = raised_more w; stop = lessens_one s; cuts = refl };
+  elapses = mem_elapses now (after_write write now) past grown f f' w (raised w) s (one_less s) c c is;
   follows = record { from = λ image left. let b = write_comes now write image left in record { before = b.before; left = b.left; by = b.by } };
   shown = λ tells. inr (shown_of-push now.synced now.since write);
   writes = raised_within w;
   until_stop = refl;
 }
 
-does_write : (now : DiskMoment) (past grown : List DiskMoment) (write : Written) (f f' w : ℕ) (s s' : Option ℕ) → write.at < length now.synced → HasWritten write.at write.content (mem_state now past f w s) (mem_state (after_write write now) grown f' (raised w) s')
-does_write now past grown write f f' w s s' lt = record {
+does_write : (now : DiskMoment) (past grown : List DiskMoment) (write : Written) (f f' w : ℕ) (s s' : Option ℕ) (c : Cuts) → write.at < length now.synced → HasWritten write.at write.content (mem_state now past f w s c) (mem_state (after_write write now) grown f' (raised w) s' c)
+does_write now past grown write f f' w s s' c lt = record {
   shown = λ tells. shown_of-push now.synced now.since write;
   without = λ image left. write_without now write image left;
   written = λ image left. write_with now write image lt left;
 }
 
-pub write_tries : (old new : Contents) (write : Written) (f f' w : ℕ) (s : Option ℕ) → f ≤ f' → ContentsGoOn old new (after_write write (contents_now old)) → MayHaveWritten write.at write.content (mem_state (contents_now old) (past_of old) f w s) (mem_state (contents_now new) (past_of new) f' (raised w) (one_less s))
-write_tries old new write f f' w s le goes =
-    subst (λ (m : DiskMoment). MayHaveWritten write.at write.content (mem_state (contents_now old) (past_of old) f w s) (mem_state m (past_of new) f' (raised w) (one_less s))) (sym goes.now)
-    (tries_write (contents_now old) (past_of old) (past_of new) write f f' w s le goes.past)
+pub write_tries : (old new : Contents) (write : Written) (f f' w : ℕ) (s : Option ℕ) (c : Cuts) → f ≤ f' → ContentsGoOn old new (after_write write (contents_now old)) → MayHaveWritten write.at write.content (mem_state (contents_now old) (past_of old) f w s c) (mem_state (contents_now new) (past_of new) f' (raised w) (one_less s) c)
+write_tries old new write f f' w s c le goes =
+    subst (λ (m : DiskMoment). MayHaveWritten write.at write.content (mem_state (contents_now old) (past_of old) f w s c) (mem_state m (past_of new) f' (raised w) (one_less s) c)) (sym goes.now)
+    (tries_write (contents_now old) (past_of old) (past_of new) write f f' w s c le goes.past)
 
-pub write_does : (old new : Contents) (write : Written) (f f' w : ℕ) (s s' : Option ℕ) → write.at < length (contents_now old).synced → ContentsGoOn old new (after_write write (contents_now old)) → HasWritten write.at write.content (mem_state (contents_now old) (past_of old) f w s) (mem_state (contents_now new) (past_of new) f' (raised w) s')
-write_does old new write f f' w s s' lt goes =
-    subst (λ (m : DiskMoment). HasWritten write.at write.content (mem_state (contents_now old) (past_of old) f w s) (mem_state m (past_of new) f' (raised w) s')) (sym goes.now)
-    (does_write (contents_now old) (past_of old) (past_of new) write f f' w s s' lt)
+pub write_does : (old new : Contents) (write : Written) (f f' w : ℕ) (s s' : Option ℕ) (c : Cuts) → write.at < length (contents_now old).synced → ContentsGoOn old new (after_write write (contents_now old)) → HasWritten write.at write.content (mem_state (contents_now old) (past_of old) f w s c) (mem_state (contents_now new) (past_of new) f' (raised w) s' c)
+write_does old new write f f' w s s' c lt goes =
+    subst (λ (m : DiskMoment). HasWritten write.at write.content (mem_state (contents_now old) (past_of old) f w s c) (mem_state m (past_of new) f' (raised w) s' c)) (sym goes.now)
+    (does_write (contents_now old) (past_of old) (past_of new) write f f' w s s' c lt)
 
 -- a sync and a cut as they are said of the moments
 

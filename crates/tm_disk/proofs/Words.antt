@@ -37,7 +37,7 @@ pub stays_is_same : (old new : DiskState) → Stays old new → IsSameDisk old n
 stays_is_same old new stays = record { size = stays.size; tells = stays.tells; can_arm = stays.can_arm; faults = stays.faults; writes = stays.writes }
 
 pub stays_same : (old : DiskState) → Stays old old
-stays_same old = record { size = refl; tells = refl; can_arm = refl; faults = omega arith; writes = omega arith; stop = lessens_same old.until_stop }
+stays_same old = record { size = refl; tells = refl; can_arm = refl; faults = omega arith; writes = omega arith; stop = lessens_same old.until_stop; cuts = refl }
 
 pub stays_on : (old mid new : DiskState) → Stays old mid → Stays mid new → Stays old new
 stays_on old mid new a b = record {
@@ -47,6 +47,7 @@ stays_on old mid new a b = record {
   faults = omega arith;
   writes = omega arith;
   stop = lessens_on old.until_stop mid.until_stop new.until_stop a.stop b.stop;
+  cuts = b.cuts ∙ a.cuts;
 }
 
 -- before the first call

@@ -1,5 +1,6 @@
 -- A disk of sectors, and what a crash of it may leave.
 use Rattle.std.specs.Prelude.{◌≡◌, ◌⊎◌, ℕ, suc, zero, ◌+◌, ◌<◌, ◌≤◌, ◌^◌, Bool, true, false, List, [], length, IsTrue, IsFalse, Option, Some, None, slice_index_or, slice_set}
+use Rattle.tm_disk.specs.Count.{raised}
 
 -- what stands on a disk: its sectors, each a list of bytes
 abbrev pub Image : Type 0
@@ -18,6 +19,15 @@ pub record ChangesOnly (at count : ℕ) (before after : Image) : Type 0 where
 -- the image with another sector at a place
 abbrev pub with_sector : Image → ℕ → List ℕ → Image
 with_sector image at sector = slice_set image at sector
+
+-- How often a disk was cut, as far as a count goes, and with which pick at last.
+pub record Cuts : Type 0 where
+  pub count : ℕ
+  pub pick : ℕ
+
+-- after one cut more
+abbrev pub cut_once : ℕ → Cuts → Cuts
+cut_once pick cuts = record { count = raised cuts.count; pick = pick }
 
 -- A disk at one moment. One that doesn't tell its contents says of no image that a crash may leave it,
 -- so that what is said of each image holds of it too.
@@ -44,6 +54,8 @@ pub record DiskState : Type 1 where
   pub can_arm : Bool
   -- where it was told so, the writes left until it stops: none once it has stopped
   pub until_stop : Option ℕ
+  -- how often it was cut, and with which pick at last
+  pub cuts : Cuts
 
 -- What holds of each disk at each moment.
 pub record IsDisk (disk : DiskState) : Type 0 where
@@ -86,7 +98,7 @@ Lessens None after = after ≡ None
 Lessens (Some left) None = ⊥
 Lessens (Some left) (Some after) = after ≤ left
 
--- It is the same disk: one that wasn't told to stop isn't told so, and a stop to come may be nearer and isn't put off.
+-- It is the same disk: one that wasn't told to stop isn't told so, and a stop to come may be nearer and isn't put off. It wasn't cut.
 pub record Stays (old new : DiskState) : Type 0 where
   pub size : new.size ≡ old.size
   pub tells : new.tells ≡ old.tells
@@ -94,6 +106,7 @@ pub record Stays (old new : DiskState) : Type 0 where
   pub faults : old.faults ≤ new.faults
   pub writes : old.writes ≤ new.writes
   pub stop : Lessens old.until_stop new.until_stop
+  pub cuts : new.cuts ≡ old.cuts
 
 -- Time goes on: a crash since a time might have left what it might have left before, or what it may leave now.
 pub record Elapses (old new : DiskState) : Type 0 where
@@ -169,6 +182,7 @@ pub record IsToldToStop (old new : DiskState) : Type 0 where
   pub no_more : NoMore old new
   pub shown : new.shown ≡ old.shown
   pub writes : new.writes ≡ old.writes
+  pub cuts : new.cuts ≡ old.cuts
 
 -- The disk was told to write a sector: it did, or failed and may have done so or not.
 pub record MayHaveWritten (at : ℕ) (sector : List ℕ) (old new : DiskState) : Type 0 where
@@ -186,7 +200,7 @@ pub record HasWritten (at : ℕ) (sector : List ℕ) (old new : DiskState) : Typ
   pub written : (image : Image) → old.may_leave image → new.may_leave (with_sector image at sector)
 
 -- The disk was cut off with a pick: of the images that a crash might have left the one that the pick chooses is shown and synced.
--- It did not fail.
+-- It did not fail. The cut is counted, and its pick noted.
 pub record IsCut (pick : ℕ) (old new : DiskState) : Type 0 where
   pub same : IsSameDisk old new
   pub elapses : Elapses old new
@@ -197,3 +211,4 @@ pub record IsCut (pick : ℕ) (old new : DiskState) : Type 0 where
   pub writes : new.writes ≡ old.writes
   pub faults : new.faults ≡ old.faults
   pub disarmed : new.until_stop ≡ None
+  pub cuts : new.cuts ≡ cut_once pick old.cuts

@@ -10,7 +10,7 @@ use Rattle.tm_disk.specs.Count.{raised}
 use Rattle.tm_disk.specs.declared.record.Before.{Before}
 use Rattle.tm_disk.specs.MomentLaws.{size-moments_past}
 use Rattle.tm_disk.specs.Contents.{contents_now, past_of}
-use Rattle.tm_disk.specs.Plan.{IsListed}
+use Rattle.tm_disk.specs.Plan.{IsListed, plan_cuts}
 use Rattle.tm_disk.specs.Record.{HasNoRoom}
 use Rattle.tm_disk.specs.MemState.{mem_state, mem_is_disk}
 use Rattle.tm_disk.specs.declared.mem_disk.MemDisk.{MemDisk}
@@ -20,7 +20,7 @@ abbrev pub disk_moment_of : MemDisk → DiskMoment
 disk_moment_of disk = contents_now disk.contents
 
 abbrev pub mem_disk_state : MemDisk → DiskState
-mem_disk_state disk = mem_state (contents_now disk.contents) (past_of disk.contents) disk.plan.faults disk.plan.writes disk.plan.until_stop
+mem_disk_state disk = mem_state (contents_now disk.contents) (past_of disk.contents) disk.plan.faults disk.plan.writes disk.plan.until_stop (plan_cuts disk.plan)
 
 -- the calls that fail, and how many calls there were
 abbrev pub fails_at : MemDisk → List ℕ
@@ -89,5 +89,5 @@ pub record OnlyArms (old new : MemDisk) : Type 0 where
 pub disk_law : (disk : MemDisk) → IsDisk (mem_disk_state disk)
 disk_law disk =
     let c = disk.contents in
-    mem_is_disk (contents_now c) (past_of c) disk.plan.faults disk.plan.writes disk.plan.until_stop c.sound.size_fits
+    mem_is_disk (contents_now c) (past_of c) disk.plan.faults disk.plan.writes disk.plan.until_stop (plan_cuts disk.plan) c.sound.size_fits
     (λ image left. size-moments_past (zero_disk (length c.synced.items)) c.writes.items c.pending image left ∙ length-replicate (length c.synced.items) blank ∙ sym (length-map c.synced.items (made_by c.writes.items)))

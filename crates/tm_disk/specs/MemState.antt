@@ -2,13 +2,13 @@
 use Rattle.std.specs.Prelude.{◌≡◌, ◌⊎◌, ℕ, ◌<◌, ◌^◌, true, List, length, drop, Option}
 use Rattle.std.proofs.Common.{⊎_elim, inl}
 use Rattle.std.proofs.lemmas.Bool.{true≢false}
-use Rattle.tm_disk.specs.Disk.{Image, DiskState, IsDisk}
+use Rattle.tm_disk.specs.Disk.{Image, DiskState, IsDisk, Cuts}
 use Rattle.tm_disk.specs.Moments.{DiskMoment, shown_of, picked, IsImageLeft, WasLeft}
 use Rattle.tm_disk.specs.MomentLaws.{length-shown_of, shown_is_left, none_left, WasLeft-drop}
 
 -- It tells its contents, and can be armed. Time counts the moments past.
-abbrev pub mem_state : DiskMoment → List DiskMoment → ℕ → ℕ → Option ℕ → DiskState
-mem_state now past faults writes until_stop = record {
+abbrev pub mem_state : DiskMoment → List DiskMoment → ℕ → ℕ → Option ℕ → Cuts → DiskState
+mem_state now past faults writes until_stop cuts = record {
   size = length now.synced;
   tells = true;
   shown = shown_of now.synced now.since;
@@ -20,10 +20,11 @@ mem_state now past faults writes until_stop = record {
   writes = writes;
   can_arm = true;
   until_stop = until_stop;
+  cuts = cuts;
 }
 
-pub mem_is_disk : (now : DiskMoment) (past : List DiskMoment) (faults writes : ℕ) (until_stop : Option ℕ) → length now.synced < 2 ^ 32 → ((image : Image) → WasLeft past image → length image ≡ length now.synced) → IsDisk (mem_state now past faults writes until_stop)
-mem_is_disk now past faults writes until_stop fits size = record {
+pub mem_is_disk : (now : DiskMoment) (past : List DiskMoment) (faults writes : ℕ) (until_stop : Option ℕ) (cuts : Cuts) → length now.synced < 2 ^ 32 → ((image : Image) → WasLeft past image → length image ≡ length now.synced) → IsDisk (mem_state now past faults writes until_stop cuts)
+mem_is_disk now past faults writes until_stop cuts fits size = record {
   size_fits = fits;
   shown_size = length-shown_of now.synced now.since;
   image_size = λ time image left. ⊎_elim (λ (l : IsImageLeft now image). l.size) (λ (w : WasLeft (drop time past) image). size image (WasLeft-drop time past image w)) left;

@@ -15,6 +15,9 @@ pub struct FileDisk {
     size: u32,
     faults: u64,
     writes: u64,
+    // How often it was cut, and with which pick at last. A cut does nothing to the file.
+    cuts: u64,
+    last_pick: u64,
     ghost size_fits: { size < 2 ^ 32 },
 }
 
@@ -71,6 +74,7 @@ impl FileDisk {
     pub fn open<R: Files<File = File>>(rt: &R, path: &str, sectors: u32) -> FileDisk
         ensures faults { (file_disk_state result).faults ≡ 0 }
         ensures writes { (file_disk_state result).writes ≡ 0 }
+        ensures not_cut { (file_disk_state result).cuts ≡ record { count = 0; pick = 0 } }
     {
         let (file, length) = match open_or_make(rt, path, sectors) {
             Ok((file, length)) => (Some(file), length),
@@ -81,6 +85,8 @@ impl FileDisk {
             size: u32::try_from(length / SECTOR_BYTES as u64).unwrap_or(u32::MAX),
             faults: 0,
             writes: 0,
+            cuts: 0,
+            last_pick: 0,
         }
     }
 }
@@ -136,5 +142,8 @@ impl Disk for FileDisk {
         false
     }
 
-    fn cut(&mut self, _pick: u64) {}
+    fn cut(&mut self, pick: u64) {
+        self.cuts = raise(self.cuts);
+        self.last_pick = pick;
+    }
 }

@@ -30,6 +30,7 @@ impl MemDisk {
         ensures calls { IfOk result (λ disk. calls_of disk ≡ 0) }
         ensures counts { IfOk result (λ disk. ((mem_disk_state disk).faults ≡ 0) × ((mem_disk_state disk).writes ≡ 0) × (starved_of disk ≡ 0) × (recorded disk ≡ 0)) }
         ensures not_armed { IfOk result (λ disk. (mem_disk_state disk).until_stop ≡ None) }
+        ensures not_cut { IfOk result (λ disk. (mem_disk_state disk).cuts ≡ record { count = 0; pick = 0 }) }
     {
         Ok(MemDisk {
             contents: Contents::new(alloc, sectors)?,
@@ -40,6 +41,8 @@ impl MemDisk {
                 writes: 0,
                 starved: 0,
                 until_stop: None,
+                cuts: 0,
+                last_pick: 0,
             },
         })
     }
@@ -178,6 +181,6 @@ impl Disk for MemDisk {
         ensures faults { (mem_disk_state self.new).faults ≡ (mem_disk_state self.old).faults }
     {
         self.contents.cut(pick);
-        self.plan.disarm();
+        self.plan.cut_off(pick);
     }
 }

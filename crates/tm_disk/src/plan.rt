@@ -1,5 +1,5 @@
 //! What a disk in memory counts, and the calls at which it is to fail.
-ghost use Rattle.std.specs.Prelude.{◌≡◌, ◌⊎◌, ◌↔◌, IsTrue, None};
+ghost use Rattle.std.specs.Prelude.{◌≡◌, ◌⊎◌, ◌↔◌, IsTrue};
 ghost use Rattle.tm_disk.specs.Disk.{is_disk_stopped, is_stop_due, one_less, armed};
 ghost use Rattle.tm_disk.specs.Count.{raised};
 
@@ -14,6 +14,9 @@ pub struct Plan {
     pub starved: u64,
     // The writes left until the disk stops.
     pub until_stop: Option<u64>,
+    // How often it was cut, and with which pick at last.
+    pub cuts: u64,
+    pub last_pick: u64,
 }
 
 /// One more, as far as a count goes.
@@ -66,7 +69,7 @@ fn arm_for(until_stop: Option<u64>, n: u64) -> Option<u64>
 }
 
 impl Plan {
-    ghost use Rattle.tm_disk.specs.Plan.{IsListed, plan_called, told_to_write, faulted, starved};
+    ghost use Rattle.tm_disk.specs.Plan.{IsListed, plan_called, told_to_write, faulted, starved, cut_off};
 
     // A read or a sync begins: whether it fails.
     pub fn call(&mut self) -> bool
@@ -114,9 +117,12 @@ impl Plan {
         self.until_stop = arm_for(self.until_stop, n);
     }
 
-    pub fn disarm(&mut self)
-        ensures { self.new ≡ record self.old { until_stop = None } }
+    // The disk is cut, which disarms it.
+    pub fn cut_off(&mut self, pick: u64)
+        ensures { self.new ≡ cut_off pick self.old }
     {
         self.until_stop = None;
+        self.cuts = raise(self.cuts);
+        self.last_pick = pick;
     }
 }

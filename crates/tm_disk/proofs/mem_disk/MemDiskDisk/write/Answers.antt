@@ -3,7 +3,7 @@ use Rattle.tm_disk.specs.Disk.{MayHaveWritten, HasWritten, one_less}
 use Rattle.tm_disk.specs.Contents.{contents_now, past_of, ContentsGoOn}
 use Rattle.tm_disk.specs.Moments.{after_write}
 use Rattle.tm_disk.specs.Count.{raised}
-use Rattle.tm_disk.specs.Plan.{faulted}
+use Rattle.tm_disk.specs.Plan.{faulted, plan_cuts}
 use Rattle.tm_disk.specs.MemState.{mem_state}
 use Rattle.tm_disk.specs.Written.{Written}
 use Rattle.tm_disk.specs.declared.plan.Plan.{Plan}
@@ -15,24 +15,24 @@ returns-then-fails-clause-tried c =
     let old = c.args.self.now in
     let write : Written = record { at = c.args.at; content = c.args.from.now; before = old.contents.pending } in
     let goes = at_ok c.write.result (ContentsGoOn old.contents c.write.new.self (after_write write (contents_now old.contents))) (sym c.is_err.ensures.value ∙ c.if-is_err.false) c.write.ensures.ok in
-    let K : Plan → Type 0 = λ p. MayHaveWritten c.args.at c.args.from.now (mem_state (contents_now old.contents) (past_of old.contents) old.plan.faults old.plan.writes old.plan.until_stop) (mem_state (contents_now c.write.new.self) (past_of c.write.new.self) p.faults p.writes p.until_stop) in
+    let K : Plan → Type 0 = λ p. MayHaveWritten c.args.at c.args.from.now (mem_state (contents_now old.contents) (past_of old.contents) old.plan.faults old.plan.writes old.plan.until_stop (plan_cuts old.plan)) (mem_state (contents_now c.write.new.self) (past_of c.write.new.self) p.faults p.writes p.until_stop (plan_cuts p)) in
     subst K (sym (c.fault-then-fails.ensures ∙ ap faulted c.tell-fails.ensures.counted))
-    (write_tries old.contents c.write.new.self write old.plan.faults (raised old.plan.faults) old.plan.writes old.plan.until_stop (raised_more old.plan.faults) goes)
+    (write_tries old.contents c.write.new.self write old.plan.faults (raised old.plan.faults) old.plan.writes old.plan.until_stop (plan_cuts old.plan) (raised_more old.plan.faults) goes)
 
 pub returns-clause-tried : goal.returns-clause-tried
 returns-clause-tried c =
     let old = c.args.self.now in
     let write : Written = record { at = c.args.at; content = c.args.from.now; before = old.contents.pending } in
     let goes = at_ok c.write.result (ContentsGoOn old.contents c.write.new.self (after_write write (contents_now old.contents))) (sym c.is_err.ensures.value ∙ c.if-is_err.false) c.write.ensures.ok in
-    let K : Plan → Type 0 = λ p. MayHaveWritten c.args.at c.args.from.now (mem_state (contents_now old.contents) (past_of old.contents) old.plan.faults old.plan.writes old.plan.until_stop) (mem_state (contents_now c.write.new.self) (past_of c.write.new.self) p.faults p.writes p.until_stop) in
+    let K : Plan → Type 0 = λ p. MayHaveWritten c.args.at c.args.from.now (mem_state (contents_now old.contents) (past_of old.contents) old.plan.faults old.plan.writes old.plan.until_stop (plan_cuts old.plan)) (mem_state (contents_now c.write.new.self) (past_of c.write.new.self) p.faults p.writes p.until_stop (plan_cuts p)) in
     subst K (sym c.tell-fails.ensures.counted)
-    (write_tries old.contents c.write.new.self write old.plan.faults old.plan.faults old.plan.writes old.plan.until_stop (omega arith) goes)
+    (write_tries old.contents c.write.new.self write old.plan.faults old.plan.faults old.plan.writes old.plan.until_stop (plan_cuts old.plan) (omega arith) goes)
 
 pub returns-clause-done : goal.returns-clause-done
 returns-clause-done c =
     let old = c.args.self.now in
     let write : Written = record { at = c.args.at; content = c.args.from.now; before = old.contents.pending } in
     let goes = at_ok c.write.result (ContentsGoOn old.contents c.write.new.self (after_write write (contents_now old.contents))) (sym c.is_err.ensures.value ∙ c.if-is_err.false) c.write.ensures.ok in
-    let K : Plan → Type 0 = λ p. HasWritten c.args.at c.args.from.now (mem_state (contents_now old.contents) (past_of old.contents) old.plan.faults old.plan.writes old.plan.until_stop) (mem_state (contents_now c.write.new.self) (past_of c.write.new.self) p.faults p.writes p.until_stop) in
+    let K : Plan → Type 0 = λ p. HasWritten c.args.at c.args.from.now (mem_state (contents_now old.contents) (past_of old.contents) old.plan.faults old.plan.writes old.plan.until_stop (plan_cuts old.plan)) (mem_state (contents_now c.write.new.self) (past_of c.write.new.self) p.faults p.writes p.until_stop (plan_cuts p)) in
     subst K (sym c.tell-fails.ensures.counted)
-    (write_does old.contents c.write.new.self write old.plan.faults old.plan.faults old.plan.writes old.plan.until_stop (one_less old.plan.until_stop) c.requires goes)
+    (write_does old.contents c.write.new.self write old.plan.faults old.plan.faults old.plan.writes old.plan.until_stop (one_less old.plan.until_stop) (plan_cuts old.plan) c.requires goes)
