@@ -106,7 +106,7 @@ padded_cmp (x ∷ xs) (y ∷ ys) (suc n) (suc m) size ln lm zx zy =
     (ap (ordering_then (slice_cmp nat_cmp xs ys)) (one_less n m)
     ∙ padded_cmp xs ys n m (omega (arith, size)) (omega (arith, ln)) (omega (arith, lm)) (λ i le. zx (suc i) (omega (arith, le))) (λ i le. zy (suc i) (omega (arith, le))))
 
-get_or_zeros : (i n : ℕ) → get_or {A = ℕ} (replicate n 0) i 0 ≡ 0
+pub get_or_zeros : (i n : ℕ) → get_or {A = ℕ} (replicate n 0) i 0 ≡ 0
 get_or_zeros i zero = refl
 get_or_zeros zero (suc n) = refl
 get_or_zeros (suc i) (suc n) = get_or_zeros i n

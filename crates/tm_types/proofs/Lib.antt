@@ -6,6 +6,7 @@ pub mod DigitSteps
 pub mod KeyOrder
 pub mod Parted
 pub mod Positions
+pub mod NameOrder
 pub mod Ordered
 pub mod Truths
 pub mod CappedNumber

@@ -1,5 +1,5 @@
 //! The names of the system.
-ghost use Rattle.std.specs.Prelude.{◌≡◌, ◌↔◌, Some, IsTrue, IsSome, IfSome, nat_eq, refl};
+ghost use Rattle.std.specs.Prelude.{◌≡◌, ◌<◌, ℕ, slice_index, ◌↔◌, Some, IsTrue, IsSome, IfSome, nat_eq, refl};
 ghost use Rattle.std.specs.Ordering.{nat_cmp};
 ghost use Rattle.std.specs.Cmp.{partial_equiv_from_equiv};
 ghost use Rattle.std.specs.Cmp.Rules.{hashing};
@@ -7,6 +7,7 @@ ghost use Rattle.std.specs.Hash as fed;
 ghost use Rattle.std.proofs.Common.{rules};
 ghost use Rattle.std.specs.Cmp.Lexicographic.{pointwise, slice_cmp, nat_list_eq_equiv, nat_list_cmp_total, texts_po, texts_ties};
 ghost use Rattle.std.specs.List.{list_all};
+ghost use Rattle.tm_types.specs.Key.{spelled};
 ghost use Rattle.tm_types.specs.Name.{IsName, is_name_byte};
 
 use std::cmp::Ordering;
@@ -41,6 +42,16 @@ impl Model for Name {
     ghost inverse = { λ bytes. record { len = length bytes; bytes = bytes ++ drop (length bytes) name_padding } };
 
     ghost inverse_ok = { λ n h i. let fields = padded_name n.len n.bytes h.1 h.0 h.3 in record { len = fields.0 i; bytes = fields.1 i } };
+}
+
+// The eight bytes as a number, the first counting most.
+fn word(bytes: &[u8; 8]) -> u64
+    ensures value { result ≡ spelled bytes.now 0 0 0 8 }
+    ensures bytes { (i : ℕ) → slice_index bytes.now i < 256 }
+{
+    u64::from_be_bytes([
+        bytes[0], bytes[1], bytes[2], bytes[3], bytes[4], bytes[5], bytes[6], bytes[7],
+    ])
 }
 
 impl Name {
@@ -78,7 +89,9 @@ impl PartialEq for Name {
         ensures eq { result ≡ pointwise nat_eq self.now other.now }
         ensures same { IsTrue result ↔ (self.now ≡ other.now) }
     {
-        self.as_bytes() == other.as_bytes()
+        let mine = word(&self.bytes);
+        let theirs = word(&other.bytes);
+        mine == theirs && self.len == other.len
     }
 }
 
@@ -105,8 +118,14 @@ impl Ord for Name {
 
     ghost matches_eq = { texts_ties };
 
+    // Eight bytes at once; those behind a name are zeros, and come before all others.
     fn cmp(&self, other: &Name) -> Ordering {
-        self.as_bytes().cmp(&other.as_bytes())
+        let mine = word(&self.bytes);
+        let theirs = word(&other.bytes);
+        if mine != theirs {
+            return mine.cmp(&theirs);
+        }
+        self.len.cmp(&other.len)
     }
 }
 
