@@ -2,3 +2,4 @@ pub mod Histories
 pub mod Picks
 pub mod Flags
 pub mod Rising
+pub mod Served
