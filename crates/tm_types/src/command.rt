@@ -220,12 +220,7 @@ fn write_assignment(
 }
 
 /// Adds the spelling of an assignment. Where there is no memory a part of it may stand there.
-fn write_numbered(
-    out: &mut Vec<u8>,
-    code: &Name,
-    keyword: &[u8],
-    number: u8,
-) -> Result<(), Memory>
+fn write_numbered(out: &mut Vec<u8>, code: &Name, keyword: &[u8], number: u8) -> Result<(), Memory>
     ensures written { OnOk result (out.new.items ≡ out.old.items ++ (codes "/ASSIGN TRANSACTION " ++ (code.now ++ (keyword.now ++ decimal number)))) }
     ensures kept { OnErr result (take (length out.old.items) out.new.items ≡ out.old.items) }
 {
