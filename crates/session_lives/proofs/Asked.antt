@@ -4,7 +4,7 @@ use Rattle.std.specs.Prelude.{◌↔◌, IfOk, IsTrue, Option, Some, None, Resul
 use Rattle.tm_disk.specs.Disk.{DiskState, Only}
 use Rattle.tm_disk.proofs.Words.{stays_same, stays_on}
 use Rattle.model_machine.specs.declared.entry.Entry.{Entry}
-use Rattle.model_machine.specs.declared.entry.Entry.TheVariants.{Accept, Show, Acked, Turn, Commanded, Checked}
+use Rattle.model_machine.specs.declared.entry.Entry.TheVariants.{Accept, Show, Acked, Turn, Commanded, Checked, Quiet}
 use Rattle.model_machine.specs.declared.entry.ControlCall.TheVariants.{Command as CommandCall, Checkpoint as CheckpointCall}
 use Rattle.model_machine.specs.declared.entry.ControlFault.{ControlFault}
 use Rattle.model_machine.specs.declared.entry.ControlFault.TheVariants.{Memory as NoMemory, Disk, Spent as SpentCounter}
@@ -55,6 +55,7 @@ fault_is (Commanded command (Err NoConversation)) fault e = cc
 fault_is (Checked freeze (Err (CheckpointFault met))) fault e = refl
 fault_is (Checked freeze (Ok number)) fault e = cc
 fault_is (Checked freeze (Err (BusyRegion region id))) fault e = cc
+fault_is (Quiet quiet) fault e = cc
 
 -- an entry with the fault of the disk
 pub disk_fault_is : (entry : Entry) → fault_in entry ≡ Some Disk → is_disk_fault entry ≡ true
@@ -93,6 +94,7 @@ disk_fault_is (Checked freeze (Err (CheckpointFault NoMemory))) e = cc
 disk_fault_is (Checked freeze (Err (CheckpointFault (SpentCounter counter)))) e = cc
 disk_fault_is (Checked freeze (Ok number)) e = cc
 disk_fault_is (Checked freeze (Err (BusyRegion region id))) e = cc
+disk_fault_is (Quiet quiet) e = cc
 
 -- ---- counters
 
@@ -104,6 +106,7 @@ fault_looks (Acked terminal number answer) fault e = tt
 fault_looks (Turn region answer) fault e = tt
 fault_looks (Commanded command answer) fault e = tt
 fault_looks (Checked freeze answer) fault e = tt
+fault_looks (Quiet quiet) fault e = cc
 
 module _ {D : Type 0} (old new : ControlOnDisk D) where
   spent_of : (counter : Counter) (was : Option Counter) → control_spent_now old ≡ was → TellsSpent was (Some (SpentCounter counter)) → IsSpentUp old

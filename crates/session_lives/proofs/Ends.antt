@@ -7,7 +7,7 @@ use Rattle.tm_disk.specs.Disk.{Image, DiskState, IsSameDisk, Only, Rose}
 use Rattle.tm_disk.proofs.Words.{same_on}
 use Rattle.model_system.specs.System.{System}
 use Rattle.model_machine.specs.declared.entry.Entry.{Entry}
-use Rattle.model_machine.specs.declared.entry.Entry.TheVariants.{Accept, Show, Acked, Turn, Commanded, Checked}
+use Rattle.model_machine.specs.declared.entry.Entry.TheVariants.{Accept, Show, Acked, Turn, Commanded, Checked, Quiet}
 use Rattle.model_machine.specs.declared.entry.ControlFault.TheVariants.{Disk}
 use Rattle.model_machine.specs.Machine.{LastingState, start_of}
 use Rattle.model_machine.specs.History.{AscendAbove, ControlState, IsLegal, is_fault, moment_after, control_moment}
@@ -164,6 +164,7 @@ same_number number (Show terminal answer ∷ entries) = same_number number entri
 same_number number (Acked terminal shown answer ∷ entries) = same_number number entries
 same_number number (Turn region answer ∷ entries) = same_number number entries
 same_number number (Commanded command answer ∷ entries) = same_number number entries
+same_number number (Quiet quiet ∷ entries) = same_number number entries
 
 numbered_in : (system : System) (number : ℕ) (entries : List Entry) (image : Image) → IsNumberedFrom system (last_checked number entries) image → IsNumberedFrom system (last_told number entries) image
 numbered_in system number entries image h = subst (λ n. IsNumberedFrom system n image) (same_number number entries) h

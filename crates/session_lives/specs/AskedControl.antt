@@ -3,7 +3,7 @@ use Rattle.std.specs.Prelude.{◌≡◌, ◌⊎◌, ℕ, ◌++◌, Bool, true, f
 use Rattle.tm_disk.specs.Disk.{DiskState, FailedSince, Only}
 use Rattle.model_machine.specs.declared.entry.Entry.{Entry}
 use Rattle.model_machine.specs.declared.entry.ControlCall.{ControlCall}
-use Rattle.model_machine.specs.declared.entry.ControlCall.TheVariants.{Turn, Receive}
+use Rattle.model_machine.specs.declared.entry.ControlCall.TheVariants.{Turn, Receive, AskQuiet}
 use Rattle.model_machine.specs.declared.entry.ControlFault.{ControlFault}
 use Rattle.model_machine.specs.declared.entry.ControlFault.TheVariants.{Memory as NoMemory, Disk, Spent as SpentCounter}
 use Rattle.model_machine.specs.History.{ControlState, AreSteps, IsCall, call_of, control_moment}
@@ -144,6 +144,7 @@ pub record IsSpentUp {D : Type 0} (control : ControlOnDisk D) : Type 0 where
 -- A call looks at counters, but the showing of a reply doesn't; and so does each turn of a QUIET.
 abbrev pub CallLooks : ControlCall → Type 0
 CallLooks (Receive terminal) = ⊥
+CallLooks AskQuiet = ⊥
 CallLooks _ = Unit {0}
 
 abbrev pub LooksAtCounters : Asked → Type 0

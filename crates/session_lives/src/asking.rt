@@ -172,6 +172,7 @@ fn answer<D: Disk>(
         ControlCall::Turn(region) => answer_turn(control, printed, region),
         ControlCall::Checkpoint(freeze) => answer_checkpoint(control, printed, freeze),
         ControlCall::Command(command) => answer_command(alloc, control, printed, &command),
+        ControlCall::AskQuiet => unreachable!(),
     }
 }
 
