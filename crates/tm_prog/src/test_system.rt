@@ -1,20 +1,31 @@
 //! The system of the worked rows.
 
 /// A line for its queues and logs; then codes, terminals, regions, a database, a screen and the programs.
-pub const SYSTEM: &[&[u8]] = &[QUEUES, MACROS, SCREEN, PROGRAMS];
+pub const SYSTEM: &[&[u8]] = &[QUEUES, DATABASE, ECHO, MACROS, SCREEN, PROGRAMS];
 
 /// The same behind another first line.
-pub const BEHIND_QUEUES: &[&[u8]] = &[MACROS, SCREEN, PROGRAMS];
+pub const BEHIND_QUEUES: &[&[u8]] = &[DATABASE, ECHO, MACROS, SCREEN, PROGRAMS];
+
+/// The same where a code is serial.
+pub const SERIAL_SYSTEM: &[&[u8]] = &[QUEUES, DATABASE, SERIAL_ECHO, MACROS, SCREEN, PROGRAMS];
 
 const QUEUES: &[u8] = b"IMSCTRL QBYTES=1048576,LOGS=256\n";
 
-/// The macros up to the regions.
-const MACROS: &[u8] = b"DBD NAME=ACC,ROOTS=100
+const DATABASE: &[u8] = b"DBD NAME=ACC,ROOTS=100
 SEGM NAME=ACCT,PARENT=0,KEY=4,BYTES=12
 SEGM NAME=MOVE,PARENT=ACCT,KEY=4,BYTES=12
-APPLCTN PSB=ECHOP
+";
+
+const ECHO: &[u8] = b"APPLCTN PSB=ECHOP
 TRANSACT CODE=ECHO,PRTY=(5,9,3)
-APPLCTN PSB=SEGSP
+";
+
+const SERIAL_ECHO: &[u8] = b"APPLCTN PSB=ECHOP
+TRANSACT CODE=ECHO,PRTY=(5,9,3),SERIAL=YES
+";
+
+/// The other macros up to the regions.
+const MACROS: &[u8] = b"APPLCTN PSB=SEGSP
 TRANSACT CODE=SEGS,PRTY=(7,7,65535)
 APPLCTN PSB=LOOPP
 TRANSACT CODE=LOOP,MSGTYPE=(MULTSEG,NONRESPONSE,2),PRTY=(9,9,65535),PROCLIM=(1,1000)

@@ -5,10 +5,10 @@ use crate::test_faults::{
     TURNS_PRINTED,
 };
 use crate::test_runs::{DRILL, compare, disk_of, expect, joined, told, told_new};
-use crate::test_system::{BEHIND_QUEUES, SYSTEM};
+use crate::test_system::{BEHIND_QUEUES, SERIAL_SYSTEM, SYSTEM};
 use crate::worked_rows::{
     ACCOUNT_ROWS, BROKEN_COLD, COLD_STARTS, HALF, HALF_PRINTED, ONE_ECHO, OPENED, OPENED_PRINTED,
-    ROWS, TAKEN_BACK, TAKEN_BACK_PRINTED, WORDS,
+    ROWS, SERIAL, SERIAL_PRINTED, TAKEN_BACK, TAKEN_BACK_PRINTED, WORDS,
 };
 use std::alloc::{AllocError, Global};
 use std::test::Fail;
@@ -28,6 +28,11 @@ fn worked_rows(rt: HostRuntime) -> Result<(), Fail> {
             (0, &[OPENED_PRINTED, printed]),
         )?;
     }
+    let system = joined(alloc, SERIAL_SYSTEM)?;
+    let source = joined(alloc, &[&system, SERIAL])?;
+    let disk = disk_of(alloc, 1517, &[])?;
+    let report = told(alloc, DRILL, &source, (&[], &[]), disk)?;
+    compare("a serial code", &report, (0, SERIAL_PRINTED))?;
     for (words, printed) in WORDS {
         let disk = disk_of(alloc, 0, &[])?;
         let report = told(alloc, words, b"", (&[1], &[]), disk)?;

@@ -64,6 +64,16 @@ pub const ROWS: &[(&str, &[u8], &[u8])] = &[
         b"TRANSACTION ECHO CLASS 1 PRIORITY 5 QUEUED 0 STARTED\nSTOPPED ECHO\nREFUSED T1 1 STOPPED ECHO\nREFUSED NAME X\n",
     ),
     (
+        "a priority that is assigned, behind a stop",
+        b"/ASSIGN TRANSACTION ECHO PRIORITY 12\nPOWER 0\n/ERESTART\nIN T1 1 SEGS X\nIN T2 1 ECHO A\nTURN 1\n",
+        b"ASSIGNED ECHO PRIORITY 12\nPOWER\nRESTARTED\nACK T1 1\nACK T2 1\nR1 SCHEDULED ECHO 2\n",
+    ),
+    (
+        "a class out of range",
+        b"/ASSIGN TRANSACTION ECHO CLASS 0\n",
+        b"BAD COMMAND 5\n",
+    ),
+    (
         "a script at its limit of statements",
         b"IN T1 1 SPIN\nTURN 1\nTURN 1\n",
         b"ACK T1 1\nR1 SCHEDULED SPIN 1\nR1 ABENDED SPIN 1 U0240\n",
@@ -74,6 +84,14 @@ pub const ROWS: &[(&str, &[u8], &[u8])] = &[
         b"ACK T1 1\nPOWER\nDOWN\nRESTARTED\nALREADY T1 1\nQUIET 7\nOUT T1 1 ECHO HELLO\n",
     ),
 ];
+
+/// Two messages of a serial code: a region takes the second one once the first is done.
+pub const SERIAL: &[u8] =
+    b"IN T1 1 ECHO A\nIN T2 1 ECHO B\nTURN 1\nTURN 2\nTURN 1\nTURN 1\nTURN 1\nTURN 2\n";
+
+/// What is printed for it.
+pub const SERIAL_PRINTED: &[u8] =
+    b"ACK T1 1\nACK T2 1\nR1 SCHEDULED ECHO 1\nR2 IDLE\nR1 GU 0 OK\nR1 ISRT 0 OK\nR1 DONE ECHO 1\nR2 SCHEDULED ECHO 2\n";
 
 /// Accounts 0001 and 0002 are opened with 1000 each.
 pub const OPENED: &[u8] = b"IN T9 1 OPEN 0001 1000\nIN T9 2 OPEN 0002 1000\nQUIET 100\n";
