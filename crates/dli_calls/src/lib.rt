@@ -26,9 +26,9 @@ mod need_list;
 mod needed;
 mod planned;
 
-pub use calls::{perform, plan, would_change};
+pub use calls::{perform, would_change};
 pub use footprint::needs;
 pub use model_data::{DbCall, Need, Performed, Position};
 pub use need_list::Needs;
-pub use needed::{NeededPlan, plan_needed};
+pub use needed::plan_needed;
 pub use planned::{Edit, Planned};

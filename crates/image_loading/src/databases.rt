@@ -9,7 +9,8 @@ ghost use Rattle.image_loading.specs.LoadedStore.{image_slots_in, LoadCause};
 ghost use Rattle.image_loading.specs.Databases.{slots_of_databases, lowest_fault, AreImages};
 ghost use Rattle.image_loading.specs.LoadedStores.{AreAllMade, AreSlotted, TellsLoaded, StopCause};
 
-use crate::{LoadFault, Slots, data_first, load_store};
+use crate::loading::load_store;
+use crate::{LoadFault, Slots, data_first};
 use seg_store::Store;
 use std::alloc::Global;
 use std::marker::Model;

@@ -27,8 +27,8 @@ ghost use Rattle.model_image.specs.Areas as areas;
 
 pub use databases::{Loaded, load_all};
 pub use fault::LoadFault;
-pub use judging::{bytes_in, image_of};
-pub use loading::{load, load_store};
+pub use judging::image_of;
+pub use loading::load;
 pub use slots::Slots;
 use system_types::System;
 use tm_types::Dbd;

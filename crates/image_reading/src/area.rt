@@ -3,7 +3,7 @@ ghost use Rattle.std.specs.Prelude.{◌≡◌, ◌+◌, ◌<◌, ◌≤◌, ◌^
 ghost use Rattle.tm_disk.specs.Disk.{Keeps};
 ghost use Rattle.image_reading.specs.ReadLog.{IsAreaOf, LogCause};
 
-use crate::first_later_from;
+use crate::later::first_later_from;
 use crate::reading::LogFault;
 use log_sectors::{ChainFault, read_chain_by};
 use std::alloc::Global;

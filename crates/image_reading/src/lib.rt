@@ -25,11 +25,9 @@ mod rest;
 mod snapshot;
 mod text;
 
-pub use area::{LogArea, read_area};
 pub use fault::ReadFault;
 pub use giving::given_of;
-pub use later::{first_later, first_later_from};
-pub use reading::{LogFault, ReadLog, read_log};
-pub use rest::is_cut_off;
+pub use later::first_later;
+pub use reading::{LogFault, read_log};
 pub use snapshot::read_told;
 pub use text::text_difference;

@@ -8,7 +8,7 @@ ghost use Rattle.model_image.specs.CutRecords.{cut_of, IsRecordCutOff};
 ghost use Rattle.image_reading.specs.ReadLog.{ComesFromBytes, IsLogOf, LogCause};
 
 use crate::area::read_area;
-use crate::is_cut_off;
+use crate::rest::is_cut_off;
 use image_loading::log_first;
 use image_records::{Record, cut};
 use restart_data::RestartSector;

@@ -9,9 +9,12 @@ ghost use Rattle.image_records.specs.SnapshotRules.{AreRecordRules, IsToldByReco
 
 use crate::cutting::cut;
 use crate::fault::RecordsFault;
+use crate::images::are_images_of;
 use crate::snapshot::Snapshot;
 use crate::tables::tables_of;
-use crate::{Told, are_images_of, is_over_full, judging, rules, tell_all};
+use crate::telling::{Told, tell_all};
+use crate::weighing::is_over_full;
+use crate::{judging, rules};
 use log_records::Record;
 use model_machine::Lasting;
 use std::alloc::Global;

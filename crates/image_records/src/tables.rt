@@ -8,7 +8,7 @@ ghost use Rattle.model_image.specs.States.{ascend_below, breaks_a_rule, run_up_t
 ghost use Rattle.image_records.specs.KeptState.{KeepsState, free_message};
 
 use crate::kept::Kept;
-use crate::replies_content;
+use crate::weighing::replies_content;
 use conversation::Conversations;
 use model_machine::Lasting;
 use model_messages::TerminalReplies;

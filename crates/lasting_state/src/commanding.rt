@@ -6,8 +6,8 @@ ghost use Rattle.lasting_state.specs.DoneCommands.{AppliesCommand, command_done,
 ghost use Rattle.lasting_state.specs.ToldSteps.{AreRecordsLonger, TellsStep};
 
 use crate::limits::COUNT_LIMIT;
+use crate::step_records::tell_command;
 use crate::tables::Tables;
-use crate::tell_command;
 use lasting_changes::{change_pad, dequeue_all, dequeue_first, stop_terminal};
 use log_records::Untold;
 use model_messages::PadChange;

@@ -32,7 +32,4 @@ pub use conversing::{KeptInput, kept_first};
 pub use limits::COUNT_LIMIT;
 pub use log_records::Untold;
 pub use shown::Shown;
-pub use step_records::{
-    tell_acknowledged, tell_command, tell_completion, tell_discarded, tell_input,
-};
 pub use tables::{Enqueued, Tables};

@@ -20,8 +20,8 @@ ghost use Rattle.lasting_state.specs.ToldSteps.{AreRecordsLonger, IsInputRefused
 
 use crate::conversing::KeptInput;
 use crate::limits::COUNT_LIMIT;
+use crate::step_records::{tell_acknowledged, tell_completion, tell_discarded, tell_input};
 use crate::tables::{Enqueued, Tables};
-use crate::{tell_acknowledged, tell_completion, tell_discarded, tell_input};
 use lasting_changes::bytes_of;
 use log_records::Untold;
 use model_machine::{AckRefused, Acked};

@@ -31,7 +31,4 @@ mod waiting;
 mod whole_log;
 mod working;
 
-pub use naming::named_slots;
-pub use replaying::replay_record;
 pub use whole_log::replay_log;
-pub use working::Working;

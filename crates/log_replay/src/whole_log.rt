@@ -9,8 +9,10 @@ ghost use Rattle.image_records.specs.RecordAnswers.{IsSnapshotStateOf, TellsLog}
 ghost use Rattle.log_replay.specs.ReplayRules.{AreSound, lasting_in};
 ghost use Rattle.log_replay.specs.ReplayedLog.{ReplayEnds};
 
+use crate::naming::named_slots;
+use crate::replaying::replay_record;
 use crate::units::last_unit;
-use crate::{Working, named_slots, replay_record};
+use crate::working::Working;
 use image_records::{Kept, Record, RecordsFault, Replayed, Snapshot};
 use std::alloc::Global;
 use system_types::System;

@@ -3,7 +3,7 @@ ghost use Rattle.std.specs.Prelude.{◌≡◌, ◌+◌, ◌<◌, ◌≤◌, ◌^
 ghost use Rattle.tm_disk.specs.Disk.{sector_at, Keeps, FailedSince};
 ghost use Rattle.log_sectors.specs.Chain.{chain, joined_payloads};
 
-use crate::unseal;
+use crate::log_sector::unseal;
 use std::alloc::Global;
 use thiserror::Error;
 use tm_disk::{Disk, Sector};

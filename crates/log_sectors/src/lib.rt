@@ -8,4 +8,4 @@ mod chain;
 mod log_sector;
 
 pub use chain::{Chain, ChainFault, read_chain, read_chain_by};
-pub use log_sector::{PAYLOAD_BYTES, reseal, seal, unseal};
+pub use log_sector::{PAYLOAD_BYTES, reseal, seal};

@@ -12,8 +12,10 @@ ghost use Rattle.logged_machine.specs.UntakenCheckpoint.{IsSnapshot, Untaken, ch
 ghost use Rattle.logged_machine.specs.ToldCalls.{DoesCall, may_change, own_records};
 ghost use Rattle.logged_machine.specs.ToldCheckpoint.{HasBehindDue, CountsWithin, IsEmptyLog, KeepsOnDisk};
 
+use crate::rooms::all_room;
+use crate::telling::tell;
 use crate::told_checkpoints::{write_parts, write_told};
-use crate::{Acknowledgement, Call, Input, Turn, all_room, snapshot, tell};
+use crate::{Acknowledgement, Call, Input, Turn, snapshot};
 use journal::Journal;
 use model_machine::{Command, ControlFault};
 use std::alloc::Global;

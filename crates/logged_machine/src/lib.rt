@@ -65,14 +65,8 @@ mod writing;
 
 pub use call::Call;
 pub use calls::{Acknowledgement, Input, Turn};
-pub use due::DueCall;
-pub use log_records::Untold;
 pub use logged::LoggedMachine;
 pub use opening::open;
-pub use openings::{How, OpenError};
 pub use refused::OpenRefused;
-pub use rooms::{all_room, room_left};
 pub use snapshots::snapshot;
-pub use telling::tell;
-pub use units::{note_units, unit_of};
 pub use writing::checkpoint;

@@ -10,11 +10,11 @@ ghost use Rattle.logged_machine.specs.OpenedMachine.{OpensMachine};
 ghost use Rattle.openings.specs.LifeBeginning.{HandsBack};
 
 use crate::logged::LoggedMachine;
+use crate::open;
 use crate::refused::OpenRefused;
-use crate::{OpenError, open};
 use image_loading::sectors_needed;
 use model_machine::Lasting;
-use openings::How;
+use openings::{How, OpenError};
 use std::alloc::Global;
 use system_types::System;
 use tm_disk::Disk;

@@ -11,10 +11,13 @@ ghost use Rattle.logged_machine.specs.CallOutcome.{KeepsMachine, MachineGoesBy, 
 ghost use Rattle.logged_machine.specs.Attempts.{CountsSince, Done, DoneFrugally, Tried};
 ghost use Rattle.logged_machine.specs.CheckpointDue.{TakesCheckpointWhereDue, Raises};
 
+use crate::due::DueCall;
 use crate::forcing::force;
 use crate::logged::LoggedMachine;
 use crate::refreshing::is_memory;
-use crate::{DueCall, Untold, room_left, tell};
+use crate::rooms::room_left;
+use crate::telling::tell;
+use log_records::Untold;
 use model_machine::ControlFault;
 use tm_disk::Disk;
 

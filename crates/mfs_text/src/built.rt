@@ -4,7 +4,7 @@ ghost use Rattle.model_system.specs.ValidFormat.{IsFormat};
 ghost use Rattle.mfs_text.specs.BuiltFormat as spec;
 ghost use Rattle.mfs_text.specs.GoodLine.{is_good};
 
-use crate::{Direction, FormatLine, Section};
+use crate::lines::{Direction, FormatLine, Section};
 use model_system::{DeviceField, MessageFieldLine, MessageFields, SegmentLine};
 use std::alloc::Global;
 use tm_types::Memory;

@@ -8,9 +8,7 @@
 #![tactic(auto)]
 
 pub use breaks::broken_line;
-pub use built::Built;
-pub use kinds::Kind;
-pub use lines::{Direction, FormatLine, Section, or_lower, stray_rule};
+pub use lines::{or_lower, stray_rule};
 pub use model_system::Format;
 pub use reader::read_format;
 

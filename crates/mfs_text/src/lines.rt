@@ -3,8 +3,7 @@ ghost use Rattle.std.specs.Prelude.{◌≡◌, IfOk, OnOk, IsTrue};
 ghost use Rattle.mfs_text.specs.Lines as spec;
 ghost use Rattle.mfs_text.specs.GoodLine.{is_good};
 
-use crate::Kind;
-use crate::kinds::{kind_of, known};
+use crate::kinds::{Kind, kind_of, known};
 use crate::rows::row;
 use crate::rules::OUT_OF_PLACE;
 use model_system::{DeviceField, MessageFieldLine};

@@ -7,10 +7,9 @@ ghost use Rattle.mfs_text.specs.Formats as spec;
 ghost use Rattle.mfs_text.specs.GoodLine.{is_good};
 ghost use Rattle.mfs_text.specs.Lines as lines;
 
-use crate::built::add;
-use crate::lines::{format_line, section_after};
+use crate::built::{Built, add};
+use crate::lines::{FormatLine, Section, format_line, section_after};
 use crate::rules::END_MISSING;
-use crate::{Built, FormatLine, Section};
 use model_system::Format;
 use std::alloc::Global;
 use text_rows::LineRefused;

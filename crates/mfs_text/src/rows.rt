@@ -9,9 +9,9 @@ ghost use Rattle.mfs_text.specs.GoodLine.{is_good};
 ghost use Rattle.mfs_text.specs.Values as values;
 ghost use Rattle.mfs_text.specs.Rows as spec;
 
-use crate::kinds::is_literal;
+use crate::kinds::{Kind, is_literal};
+use crate::lines::{Direction, FormatLine};
 use crate::values::{direction_of, fill_of, justify_of, literal_of, place_of};
-use crate::{Direction, FormatLine, Kind};
 use model_system::{DeviceField, Justify, MessageField, MessageFieldLine, Source};
 use std::alloc::Global;
 use text_rows::rules::{OPERAND_MISSING, OUT_OF_RANGE};

@@ -4,7 +4,7 @@ ghost use Rattle.text_rows.specs.Lines.{split_at};
 ghost use Rattle.model_system.specs.ValidFormat.{is_fill, is_literal};
 ghost use Rattle.mfs_text.specs.Values as spec;
 
-use crate::Direction;
+use crate::lines::Direction;
 use model_system::Justify;
 use text_rows::rules::{NOT_PRINTABLE, WRONG_WORD};
 use text_rows::{both, byte_between, is_word, split_at, two_of};

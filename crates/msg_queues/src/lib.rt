@@ -8,7 +8,6 @@
 //! among all, whether a region has it or none. After a refusal nothing changed.
 #![tactic(auto)]
 
-pub use model_messages::Queued;
 pub use queues::{QueueRefused, Queues, SLOT_ROOM};
 
 mod entries;

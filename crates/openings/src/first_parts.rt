@@ -6,7 +6,9 @@ ghost use Rattle.system_types.specs.Codes.{first_state};
 ghost use Rattle.openings.specs.MadeParts.{IsFirstMade};
 ghost use Rattle.openings.specs.OpeningParts.{AreOpeningParts};
 
-use crate::{Parts, first_restart, first_snapshot};
+use crate::Parts;
+use crate::first_sector::first_restart;
+use crate::spelled::first_snapshot;
 use conversation::Conversations;
 use lasting_changes::{empty_lasting, fresh_states};
 use model_machine::Lasting;

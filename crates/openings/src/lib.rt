@@ -37,10 +37,8 @@ mod spelled;
 mod spending;
 mod writing;
 
-pub use codes::codes_of;
 pub use copies::lasting_of;
 pub use first_parts::{Made, make};
-pub use first_sector::first_restart;
 pub use how::How;
 pub use life::{History, Life};
 pub use making::parts_of;
@@ -48,6 +46,5 @@ pub use model_machine::Counter;
 pub use parts::Parts;
 pub use refusals::OpenError;
 pub use rows::rows_of;
-pub use spelled::first_snapshot;
 pub use spending::{Counts, spent_counter};
 pub use writing::write_image;

@@ -6,7 +6,6 @@
 //! last is taken back alone. After a refusal nothing changed.
 #![tactic(auto)]
 
-pub use model_messages::{Replies, TerminalReplies};
 pub use outputs::{AckAhead, Acked, Outputs};
 pub use table::fresh_terminals;
 

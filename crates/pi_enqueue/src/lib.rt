@@ -10,8 +10,8 @@
 //! its only holder.
 #![tactic(auto)]
 
-pub use model_data::{Asked, Holder, Request};
-pub use table::{Blocked, Table};
+pub use model_data::{Asked, Request};
+pub use table::Table;
 
 mod held;
 mod holds;

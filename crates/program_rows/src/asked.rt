@@ -8,7 +8,8 @@ ghost use Rattle.pi_enqueue.specs.KeptTable.{IsTableKept};
 ghost use Rattle.program_rows.specs.Isolation.{request_of};
 ghost use Rattle.program_rows.specs.PlannedChanges.{Reads, WaitsAt};
 
-use crate::{Answered, Blocked, DataAnswer};
+use crate::answer::Blocked;
+use crate::{Answered, DataAnswer};
 use dli_calls::Planned;
 use log_records::Untold;
 use model_data::Need;

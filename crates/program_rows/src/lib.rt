@@ -19,9 +19,9 @@
 //! memory: what counts as changed is then what they tell, and nothing else changes.
 #![tactic(auto)]
 
-pub use answer::{Answered, Blocked, DataAnswer};
+pub use answer::{Answered, DataAnswer};
 pub use databases::Databases;
-pub use model_data::{DbCall, Position};
+pub use model_data::Position;
 pub use telling::Telling;
 
 mod answer;

@@ -10,8 +10,8 @@ pub use asked::{
     Asked, asked_number, asked_root, data_length, fitted_bytes, fitted_key, number_named,
 };
 pub use search::{
-    LentRecord, first_after, first_in_record, first_row, first_row_below, is_there, is_within,
-    next_record, record_rows,
+    first_after, first_in_record, first_row, first_row_below, is_there, is_within, next_record,
+    record_rows,
 };
 
 mod asked;

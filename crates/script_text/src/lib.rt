@@ -8,7 +8,7 @@
 #![tactic(auto)]
 
 pub use lines::is_last;
-pub use model_system::{Program, ScriptLine, Statement, Variable};
+pub use model_system::Program;
 pub use reader::read_program;
 
 mod labels;

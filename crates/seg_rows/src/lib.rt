@@ -6,7 +6,7 @@
 #![tactic(auto)]
 
 pub use decode::{DecodeFault, decode_record};
-pub use encode::{EncodeRefused, encode_record, record_limit, rows_as_bytes};
+pub use encode::{EncodeRefused, encode_record, record_limit};
 pub use image::RecordImage;
 pub use model_data::{Path, Row};
 pub use plain::PlainRows;

@@ -13,7 +13,7 @@
 pub use called::{Opening, Served, Undone};
 pub use closing::{Over, close};
 pub use opening::open;
-pub use place::{Idle, Kept, Place, Session};
+pub use place::{Idle, Kept, Session};
 pub use serve::serve_block;
 
 mod asking;

@@ -16,7 +16,7 @@ pub use outages::{
     up_line,
 };
 pub use page::{PAGE_ROOM, page_lines};
-pub use printed::{NUMBER_ROOM, Printed};
+pub use printed::Printed;
 pub use reply::reply_lines;
 
 mod commands;

@@ -5,12 +5,9 @@
 //! those of `sysdef_rules`.
 #![tactic(auto)]
 
-pub use sysdef_rules::{CallRule, CrossRefused, CrossRule, SegmentRule};
+pub use sysdef_rules::CrossRefused;
 pub use system_check::check;
-pub use system_types::{
-    Classes, Code, CodeState, Codes, Definition, Macro, MacroLine, Pcb, Pcbs, SegmentKind, System,
-    SystemProgram, Transaction,
-};
+pub use system_types::{Code, Codes, Definition, System};
 
 mod build;
 mod databases;

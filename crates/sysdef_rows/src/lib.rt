@@ -5,7 +5,6 @@
 #![tactic(auto)]
 
 pub use kinds::{Kind, kind_of, known};
-pub use pcbs::PcbForm;
 pub use rows::{format_name, program_name, row};
 
 mod kinds;

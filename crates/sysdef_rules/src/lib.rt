@@ -4,11 +4,9 @@
 //! order of their numbers.
 #![tactic(auto)]
 
-pub use calls::CallRule;
-pub use cross::{CrossRule, cross_rules};
+pub use cross::cross_rules;
 pub use lookups::{MacroKind, front, pcbs_of, segment_number};
 pub use refused::CrossRefused;
-pub use segments::SegmentRule;
 
 mod calls;
 mod counts;

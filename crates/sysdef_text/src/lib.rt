@@ -9,8 +9,8 @@
 #![tactic(auto)]
 
 pub use ends::DefinitionReader;
-pub use modes::{Mode, Step};
-pub use reader::{read_definition, read_definition_lines};
+pub use modes::Mode;
+pub use reader::read_definition;
 
 mod ends;
 mod formats;

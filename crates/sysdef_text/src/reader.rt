@@ -7,14 +7,15 @@ ghost use Rattle.sysdef_rows.specs.Kinds as kinds;
 ghost use Rattle.sysdef_text.specs.LineSteps as steps;
 ghost use Rattle.sysdef_text.specs.Definitions as spec;
 
+use crate::Mode;
 use crate::formats::{format_block, is_format_end};
+use crate::modes::Step;
 use crate::places::{
     format_line, is_format, is_program, macro_line, mode_after, program_line, within,
 };
 use crate::programs::program_block;
 use crate::rules::END_MISSING;
 use crate::source::{TEXT_LIMIT, kept, lines_of};
-use crate::{Mode, Step};
 use mfs_text::stray_rule;
 use script_text::is_last;
 use std::alloc::Global;

@@ -10,10 +10,7 @@ pub use codes::Codes;
 pub use definition::{Definition, Macro, MacroLine};
 pub use indexes::add_name;
 pub use job::Job;
-pub use model_system::{
-    Classes, Code, CodeState, Pcb, Pcbs, Screen, SegmentKind, SystemFormat, SystemProgram,
-    Transaction,
-};
+pub use model_system::Code;
 pub use system::{System, SystemParts};
 
 mod codes;

@@ -11,8 +11,8 @@ pub use control::Control;
 pub use lasting_state::Shown;
 pub use logged_machine::OpenRefused;
 pub use model_machine::{
-    AckRefused, Acked, Answer, CheckpointRefused, Command, CommandRefused, ControlFault, Counter,
-    Entry, InputRefused, Taken, Turned,
+    AckRefused, Acked, Answer, CheckpointRefused, Command, CommandRefused, ControlFault, Entry,
+    InputRefused, Taken, Turned,
 };
 pub use openings::{History, How, Life, OpenError};
 

@@ -23,7 +23,7 @@ mod steps;
 mod text_sink;
 mod text_source;
 
-pub use lines::{LINE_LIMIT, Line, LineFault, Lines};
+pub use lines::{Line, LineFault, Lines};
 pub use mem_sink::MemSink;
 pub use mem_source::MemSource;
 pub use sink::Sink;

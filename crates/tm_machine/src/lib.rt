@@ -38,5 +38,4 @@ mod victims;
 pub use answers::answer_to;
 pub use busy::busy_region;
 pub use commanding::command;
-pub use model_machine::Turned;
 pub use parts::Parts;

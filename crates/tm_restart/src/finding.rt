@@ -10,7 +10,7 @@ ghost use Rattle.openings.specs.FirstImage.{sectors_needed};
 ghost use Rattle.openings.specs.OpenedImage.{counters, first_spent};
 ghost use Rattle.tm_restart.specs.FoundImage.{SizeKnown, TellsFound, TellsFind, FoundAlways, FindAlways, FoundCause};
 
-use crate::{Looked, look};
+use crate::looking::{Looked, look};
 use image_loading::snapshot_area;
 use image_reading::{ReadFault, text_difference};
 use openings::{Counter, Counts, OpenError, spent_counter};

@@ -40,12 +40,8 @@ mod replaying;
 mod restarting;
 mod starting;
 
-pub use databases::Named;
-pub use finding::{Found, find};
-pub use looking::{Looked, look};
+pub use finding::Found;
 pub use model_machine::Lasting;
-pub use openings::{Counter, OpenError, Parts};
-pub use renewing::renew;
-pub use replaying::Reread;
+pub use openings::{OpenError, Parts};
 pub use restarting::recover;
 pub use starting::cold;

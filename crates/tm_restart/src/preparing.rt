@@ -15,7 +15,10 @@ ghost use Rattle.openings.specs.OpeningState.{shown_state};
 ghost use Rattle.tm_restart.specs.FoundImage.{IsFoundJudged, IsSeen};
 ghost use Rattle.tm_restart.specs.PreparedLife.{state_in, sector_behind, IsPrepared, IsMadeOf};
 
-use crate::{Found, Looked, Named, Reread};
+use crate::Found;
+use crate::databases::Named;
+use crate::looking::Looked;
+use crate::replaying::Reread;
 use checkpointing::{SnapshotView, write};
 use image_loading::{Loaded, Slots};
 use image_records::{Kept, Replayed};

@@ -11,8 +11,9 @@ ghost use Rattle.openings.specs.OpenedImage.{SizeFirst, TellsOpening, MayBegin, 
 ghost use Rattle.tm_restart.specs.FoundImage.{IsFoundJudged, IsSeen};
 ghost use Rattle.tm_restart.specs.PreparedLife.{IsPrepared, IsMadeOf};
 
+use crate::Found;
 use crate::preparing::{Prepared, prepare};
-use crate::{Found, renew};
+use crate::renewing::renew;
 use image_loading::Slots;
 use model_machine::Lasting;
 use openings::{OpenError, Parts};

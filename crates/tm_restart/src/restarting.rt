@@ -8,7 +8,7 @@ ghost use Rattle.openings.specs.KeptImage.{KeepsImage};
 ghost use Rattle.openings.specs.Renewal.{IsRenewed};
 ghost use Rattle.openings.specs.OpenedImage.{SizeFirst, TellsOpening, MayBegin, OpeningCause};
 
-use crate::find;
+use crate::finding::find;
 use crate::reopening::reopen;
 use crate::starting::cold;
 use image_loading::sectors_needed;

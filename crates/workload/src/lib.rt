@@ -20,10 +20,8 @@ mod text;
 ghost use Rattle.std.specs.Prelude.{◌≡◌, ◌≤◌, IfOk};
 ghost use Rattle.workload.specs.Workload.{workload_text};
 
-pub use counts::{Counts, count_lives};
 use definition::add_definition;
 use session::{add_openings, add_transfers};
-pub use shown::last_shown;
 use std::alloc::Global;
 pub use text::summary;
 use tm_types::{Bytes, Memory};
