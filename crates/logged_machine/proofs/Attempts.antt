@@ -428,7 +428,7 @@ module _ {D : Type 0} (state : D → DiskState) {parts parts' : PartsState} {tex
   by_entry (AckedEntry terminal number answer) units' next' last within d numbers told =
       numbered (AckedEntry terminal number answer) (is_removed answer) numbers.0 numbers.1 (ack_attempt terminal number answer d.answered d.no_fault told d.does)
   by_entry (Commanded command answer) units' next' last within d numbers told =
-      numbered (Commanded command answer) (is_lasting command answer) numbers.0 numbers.1 (command_attempt command answer d.answered d.no_fault d.has_name told d.does)
+      numbered (Commanded command answer) (is_lasting command answer) numbers.0 numbers.1 (command_attempt command answer d.answered d.no_fault d.spellable told d.does)
   by_entry (TurnEntry region (Ok turned)) units' next' last within d numbers told =
       numbered (TurnEntry region (Ok turned)) (ends_work turned) numbers.0 numbers.1 (turn_attempt region turned d.answered told d.does d.changes)
   by_entry (TurnEntry region (Err fault)) units' next' last within d numbers told = let clash : Some fault ≡ None = d.no_fault in absurd (cc)

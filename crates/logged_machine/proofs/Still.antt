@@ -46,7 +46,7 @@ does_settled units entry parts made parts' none is d = record {
   no_fault = d.no_fault;
   does = does_still units entry (settled_parts parts) parts' none (databases_settled parts made parts' is (still units entry parts made none d.does));
   changes = no_changes units entry (settled_parts parts) none;
-  has_name = d.has_name;
+  spellable = d.spellable;
 }
 
 -- and tells the same there

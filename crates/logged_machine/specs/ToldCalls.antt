@@ -46,9 +46,9 @@ IsCallWithin (Input terminal number segments) = number < 2000000000000000000
 IsCallWithin _ = ⊤
 
 -- what a command that lasts names is a name, and what it assigns may be
-abbrev pub HasName : ControlCall → Type 0
-HasName (Command command) = IfSome (lasting_command command) IsSpellable
-HasName _ = ⊤
+abbrev pub IsCallSpellable : ControlCall → Type 0
+IsCallSpellable (Command command) = IfSome (lasting_command command) IsSpellable
+IsCallSpellable _ = ⊤
 
 -- ---- what it tells
 
@@ -104,4 +104,4 @@ pub record DoesCall (units : List ℕ) (entry : Entry) (old new : PartsState) : 
   pub no_fault : fault_in entry ≡ None
   pub does : DoesTo units entry old new
   pub changes : ChangesBy units entry old
-  pub has_name : HasName (call_of entry)
+  pub spellable : IsCallSpellable (call_of entry)
