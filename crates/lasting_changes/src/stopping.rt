@@ -18,7 +18,7 @@ pub fn stop_code(codes: &mut Vec<CodeSetting>, name: &Name, stopped: bool)
     }
 }
 
-fn code_place(codes: &[CodeSetting], name: &Name) -> Option<usize>
+pub(crate) fn code_place(codes: &[CodeSetting], name: &Name) -> Option<usize>
     ensures value { result ≡ setting_place codes.now name.now }
     ensures within { IfSome result (λ place. place < length codes.now) }
 {
