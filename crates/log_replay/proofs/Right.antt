@@ -7,7 +7,7 @@ use Rattle.std.specs.Str.{bytes_eq}
 use Rattle.std.proofs.lemmas.Bool.{eqb-true}
 use Rattle.tm_types.specs.declared.abend.AbendCode.{AbendCode}
 use Rattle.tm_types.specs.declared.command.LastingCommand.{LastingCommand}
-use Rattle.tm_types.specs.declared.command.LastingCommand.TheVariants.{StartTransaction, StopTransaction, StartTerminal, StopTerminal, DequeueFirst, DequeueAll, Exit}
+use Rattle.tm_types.specs.declared.command.LastingCommand.TheVariants.{StartTransaction, StopTransaction, StartTerminal, StopTerminal, DequeueFirst, DequeueAll, Exit, AssignClass, AssignPriority}
 use Rattle.tm_types.specs.declared.message.Message.{Message}
 use Rattle.model_messages.specs.declared.conversation.Conversation.{Conversation}
 use Rattle.model_messages.specs.declared.conversation.TerminalConversation.{TerminalConversation}
@@ -264,6 +264,8 @@ module _ (system : System) (kept : KeptState) (before : AreSound system kept) (o
   commanded_counts (DequeueFirst terminal) = follows.counts
   commanded_counts (DequeueAll terminal) = follows.counts
   commanded_counts (Exit terminal) = follows.counts
+  commanded_counts (AssignClass code class) = follows.counts
+  commanded_counts (AssignPriority code priority) = follows.counts
 
   pub commanded_right : (command : LastingCommand) → is_right true (conversation_ended_by command) old ≡ are_right system (step_commands command kept)
   commanded_right (StartTransaction code) = same_right system kept.conversations messages old follows true
@@ -273,6 +275,8 @@ module _ (system : System) (kept : KeptState) (before : AreSound system kept) (o
   commanded_right (DequeueFirst terminal) = same_right system kept.conversations messages old follows true
   commanded_right (DequeueAll terminal) = same_right system kept.conversations messages old follows true
   commanded_right (Exit terminal) = padded_right system kept.conversations messages old follows Ends terminal
+  commanded_right (AssignClass code class) = same_right system kept.conversations messages old follows true
+  commanded_right (AssignPriority code priority) = same_right system kept.conversations messages old follows true
 
 -- a unit's sync point, behind its records
 module _ (system : System) (kept : KeptState) (before : AreSound system kept) (pad : PadChange) (records : List Record) (new : KeptState) (tally : TallyState) (done : step_syncs pad records kept ≡ Some new)

@@ -4,7 +4,7 @@ use Rattle.std.specs.List.{list_any}
 use Rattle.std.specs.Option.{is_some, option_map, option_map_or, option_and_then, option_or}
 use Rattle.tm_types.specs.declared.abend.AbendCode.{AbendCode}
 use Rattle.tm_types.specs.declared.command.LastingCommand.{LastingCommand}
-use Rattle.tm_types.specs.declared.command.LastingCommand.TheVariants.{StartTransaction, StopTransaction, StartTerminal, StopTerminal, DequeueFirst, DequeueAll, Exit}
+use Rattle.tm_types.specs.declared.command.LastingCommand.TheVariants.{StartTransaction, StopTransaction, StartTerminal, StopTerminal, DequeueFirst, DequeueAll, Exit, AssignClass, AssignPriority}
 use Rattle.tm_types.specs.declared.message.Message.{Message}
 use Rattle.model_messages.specs.declared.conversation.PadChange.{PadChange}
 use Rattle.model_messages.specs.declared.conversation.PadChange.TheVariants.{Ends}
@@ -17,7 +17,7 @@ use Rattle.model_system.specs.Lists.{change_at}
 use Rattle.model_messages.specs.Queue.{queued_message, with_message, without_id_queued}
 use Rattle.model_messages.specs.Outputs.{replies_at, with_terminal, with_reply, without_first, next_of, reply_at}
 use Rattle.model_machine.specs.Machine.{setting_place, terminal_at, terminal_place}
-use Rattle.model_machine.specs.LastingSteps.{KeptInput, with_last_number, with_begun, with_pad_changed, discarded_pad, dfs555i_text, input_message, stopped_code, stopped_terminal, without_replies}
+use Rattle.model_machine.specs.LastingSteps.{KeptInput, with_last_number, with_begun, with_pad_changed, discarded_pad, dfs555i_text, input_message, stopped_code, stopped_terminal, classed_code, ranked_code, without_replies}
 use Rattle.log_records.specs.declared.record.Record.{Record}
 use Rattle.log_records.specs.declared.record.Record.TheVariants.{Input, Reply, Completed}
 use Rattle.model_image.specs.States.{is_small}
@@ -146,6 +146,8 @@ kept_commanded (StopTerminal terminal) kept = record kept { terminals = change_a
 kept_commanded (DequeueFirst terminal) kept = record kept { outputs = with_terminal terminal without_first kept.outputs }
 kept_commanded (DequeueAll terminal) kept = record kept { outputs = with_terminal terminal without_replies kept.outputs }
 kept_commanded (Exit terminal) kept = record kept { conversations = with_pad_changed Ends terminal kept.conversations }
+kept_commanded (AssignClass code class) kept = record kept { codes = change_at kept.codes (setting_place kept.codes code) (classed_code class) }
+kept_commanded (AssignPriority code priority) kept = record kept { codes = change_at kept.codes (setting_place kept.codes code) (ranked_code priority) }
 
 abbrev pub step_commands : LastingCommand → KeptState → KeptState
 step_commands command kept = with_counted (kept_commanded command kept)

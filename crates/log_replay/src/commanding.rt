@@ -4,7 +4,9 @@ ghost use Rattle.log_replay.specs.ReplaySteps.{kept_commanded, step_commands};
 ghost use Rattle.log_replay.specs.ConversationTally.{conversation_ended_by};
 
 use image_records::Kept;
-use lasting_changes::{change_pad, dequeue_all, dequeue_first, stop_code, stop_terminal};
+use lasting_changes::{
+    assign_class, assign_priority, change_pad, dequeue_all, dequeue_first, stop_code, stop_terminal,
+};
 use model_messages::PadChange;
 use tm_types::{LastingCommand, Name};
 
@@ -29,6 +31,10 @@ fn do_command(kept: &mut Kept, command: &LastingCommand)
         LastingCommand::DequeueAll(name) => dequeue_all(&mut kept.outputs, name),
         LastingCommand::Exit(name) => {
             change_pad(&mut kept.conversations, name, PadChange::Ends);
+        }
+        LastingCommand::AssignClass(code, class) => assign_class(&mut kept.codes, code, *class),
+        LastingCommand::AssignPriority(code, priority) => {
+            assign_priority(&mut kept.codes, code, *priority)
         }
     }
 }

@@ -1,7 +1,7 @@
 //! One record of a log, done again.
 ghost use Rattle.std.specs.Prelude.{◌≡◌, None, Some, true, false, IfOk};
 ghost use Rattle.std.specs.Option.{option_map_or};
-ghost use Rattle.tm_types.specs.Commands.{command_in};
+ghost use Rattle.tm_types.specs.Commands.{IsAssigned, command_in};
 ghost use Rattle.model_image.specs.Replay.{Replay, replay_accepts, replay_acknowledges, commands, discards, syncs, is_record_known, names_known, replay_one};
 ghost use Rattle.model_machine.specs.LastingSteps.{applied};
 ghost use Rattle.model_machine.specs.LastingSteps.LastingStep.{Commands};
@@ -210,6 +210,7 @@ fn replay_command(
 fn do_spelled(system: &System, kept: &mut Kept, tally: &Tally, spelled: &LastingCommand) -> bool
     requires sound { AreSound system.now kept.old }
     requires follows { TallyFollows system.now kept.old tally.now }
+    requires assigned { IsAssigned spelled.now }
     ensures leaves { RecordLeaves system.now (Some (applied (Commands spelled.now) (lasting_in system.now kept.old))) kept.new result }
     ensures follows { result ≡ true → TallyFollows system.now kept.new tally.now }
 {
@@ -305,5 +306,7 @@ fn is_named(system: &System, command: &LastingCommand) -> bool
         LastingCommand::DequeueFirst(terminal) => is_terminal(system, terminal),
         LastingCommand::DequeueAll(terminal) => is_terminal(system, terminal),
         LastingCommand::Exit(terminal) => is_terminal(system, terminal),
+        LastingCommand::AssignClass(code, _) => is_code(system, code),
+        LastingCommand::AssignPriority(code, _) => is_code(system, code),
     }
 }

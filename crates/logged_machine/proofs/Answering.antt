@@ -2,8 +2,7 @@
 use Rattle.std.proofs.Common.{◌≡◌, ℕ, true, List, [], Result, refl, sym, ap, subst}
 use Rattle.std.specs.Prelude.{IfSome}
 use Rattle.std.specs.List.{flat_map}
-use Rattle.tm_types.specs.Commands.{name_in}
-use Rattle.tm_types.specs.Name.{IsName}
+use Rattle.tm_types.specs.Commands.{IsSpellable}
 use Rattle.model_machine.specs.declared.answer.Answer.{Answer}
 use Rattle.model_machine.specs.declared.command.Command.{Command}
 use Rattle.log_records.specs.RecordSpelling.{record_spelling}
@@ -62,7 +61,7 @@ module _ (old new : PartsState) (units : List ℕ) (next : ℕ) (life : LifeOnDi
       (right_pads old new (After old.system old.moment call []) had answered.system answered.after) room))
 
   -- A command is answered.
-  pub command_of_parts : (command : Command) (answer : Result Answer CommandRefused) → IsAnswered old new (Commanded command answer) → IfSome (lasting_command command) (λ does. IsName (name_in does))
+  pub command_of_parts : (command : Command) (answer : Result Answer CommandRefused) → IsAnswered old new (Commanded command answer) → IfSome (lasting_command command) IsSpellable
       → HasRoom (told_records_of old.system old.moment 0 (CommandCall command)) life
       → GoesBy (lasting_step old.system old.moment (CommandCall command)) (flat_map record_spelling (told_records_of old.system old.moment 0 (CommandCall command))) old.system new.moment (slots_now new) units next life
   command_of_parts command answer answered named room =

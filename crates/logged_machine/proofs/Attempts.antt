@@ -20,14 +20,13 @@ use Rattle.model_machine.specs.declared.entry.ControlCall.TheVariants.{Input, Ac
 use Rattle.model_machine.specs.declared.entry.ControlFault.{ControlFault}
 use Rattle.model_machine.specs.declared.entry.ControlFault.TheVariants.{Disk}
 use Rattle.model_machine.specs.declared.entry.Entry.{Entry}
-use Rattle.model_machine.specs.declared.entry.Entry.TheVariants.{Accept, Show, Acked as AckedEntry, Commanded, Checked, Turn as TurnEntry}
+use Rattle.model_machine.specs.declared.entry.Entry.TheVariants.{Accept, Show, Acked as AckedEntry, Commanded, Checked, Quiet, Turn as TurnEntry}
 use Rattle.model_machine.specs.declared.entry.InputRefused.{InputRefused}
 use Rattle.model_machine.specs.declared.entry.Taken.{Taken}
 use Rattle.model_machine.specs.declared.entry.Turned.{Turned}
 use Rattle.model_machine.specs.declared.entry.Turned.TheVariants.{Scheduled, Called, Next, QC, Done, Abended, Idle, Held, Waits, Backed}
 use Rattle.model_system.specs.System.{System}
-use Rattle.tm_types.specs.Commands.{name_in}
-use Rattle.tm_types.specs.Name.{IsName}
+use Rattle.tm_types.specs.Commands.{IsSpellable}
 use Rattle.log_records.specs.declared.record.Record.{Record}
 use Rattle.log_records.specs.RecordSpelling.{record_spelling}
 use Rattle.log_writer.specs.Writer.{Writer}
@@ -365,7 +364,7 @@ module _ {D : Type 0} (state : D → DiskState) {parts parts' : PartsState} {tex
         (room_in_log (told_records_of parts.system parts.moment 0 (Acknowledge terminal number)) journal.log h.life h.writer told.valid told.bytes told.fits);
   }
 
-  command_attempt : (command : Command) (answer : Result Answer CommandRefused) → IsAnswered parts parts' (Commanded command answer) → fault_in (Commanded command answer) ≡ None → IfSome (lasting_command command) (λ does. IsName (name_in does))
+  command_attempt : (command : Command) (answer : Result Answer CommandRefused) → IsAnswered parts parts' (Commanded command answer) → fault_in (Commanded command answer) ≡ None → IfSome (lasting_command command) IsSpellable
       → Appends (told_records_of parts.system parts.moment 0 (CommandCall command)) journal mid → parts'.databases ≡ parts.databases
       → Attempt state parts parts' text journal mid units units next next disk (Commanded command answer) (is_lasting command answer)
   command_attempt command answer answered none named told databases = record {
@@ -429,12 +428,13 @@ module _ {D : Type 0} (state : D → DiskState) {parts parts' : PartsState} {tex
   by_entry (AckedEntry terminal number answer) units' next' last within d numbers told =
       numbered (AckedEntry terminal number answer) (is_removed answer) numbers.0 numbers.1 (ack_attempt terminal number answer d.answered d.no_fault told d.does)
   by_entry (Commanded command answer) units' next' last within d numbers told =
-      numbered (Commanded command answer) (is_lasting command answer) numbers.0 numbers.1 (command_attempt command answer d.answered d.no_fault d.has_name told d.does)
+      numbered (Commanded command answer) (is_lasting command answer) numbers.0 numbers.1 (command_attempt command answer d.answered d.no_fault d.spellable told d.does)
   by_entry (TurnEntry region (Ok turned)) units' next' last within d numbers told =
       numbered (TurnEntry region (Ok turned)) (ends_work turned) numbers.0 numbers.1 (turn_attempt region turned d.answered told d.does d.changes)
   by_entry (TurnEntry region (Err fault)) units' next' last within d numbers told = let clash : Some fault ≡ None = d.no_fault in absurd (cc)
   by_entry (Show terminal answer) units' next' last within d numbers told = absurd (apart last)
   by_entry (Checked freeze answer) units' next' last within d numbers told = absurd (apart last)
+  by_entry (Quiet quiet) units' next' last within d numbers told = absurd (apart last)
 
   -- The attempt of a call, by what it told with the numbers of the units as they were given.
   pub attempt : {given : List ℕ} {call : ControlCall} (entry : Entry) (units' : List ℕ) (next' : ℕ) → given ≡ units → call_of entry ≡ call → may_last call ≡ true → IsCallWithin call → DoesCall given entry parts parts'
@@ -452,6 +452,7 @@ none_lasting (Show terminal answer) e = refl
 none_lasting (AckedEntry terminal number answer) e = refl
 none_lasting (Commanded command answer) e = refl
 none_lasting (Checked freeze answer) e = refl
+none_lasting (Quiet quiet) e = refl
 none_lasting (TurnEntry region (Err fault)) e = refl
 none_lasting (TurnEntry region (Ok (Next code id further))) e = refl
 none_lasting (TurnEntry region (Ok (QC code id))) e = refl
@@ -471,6 +472,7 @@ none_faulted (Show terminal answer) fault e = refl
 none_faulted (AckedEntry terminal number answer) fault e = refl
 none_faulted (Commanded command answer) fault e = refl
 none_faulted (Checked freeze answer) fault e = refl
+none_faulted (Quiet quiet) fault e = refl
 none_faulted (TurnEntry region (Err f)) fault e = refl
 none_faulted (TurnEntry region (Ok turned)) fault e = let clash : None ≡ Some fault = e in absurd (cc)
 

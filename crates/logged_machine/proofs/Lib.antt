@@ -26,6 +26,7 @@ pub mod WritableParts
 pub mod Storing
 pub mod OpenedParts
 pub mod CheckpointCall
+pub mod AskedQuiet
 pub mod Closing
 pub mod Counts
 pub mod OwnUnits

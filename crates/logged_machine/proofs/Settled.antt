@@ -15,7 +15,7 @@ use Rattle.model_machine.specs.Trial.{Reached, Trial, pcb_reached, trial_need}
 use Rattle.model_machine.specs.Trial.Reached.{Messages, Rows, Nothing}
 use Rattle.model_machine.specs.WorkSoFar.{slot_trial}
 use Rattle.model_machine.specs.declared.entry.ControlCall.{ControlCall}
-use Rattle.model_machine.specs.declared.entry.ControlCall.TheVariants.{Input, Receive, Acknowledge, Turn, Command, Checkpoint}
+use Rattle.model_machine.specs.declared.entry.ControlCall.TheVariants.{Input, Receive, Acknowledge, Turn, Command, Checkpoint, AskQuiet}
 use Rattle.log_records.specs.declared.record.Record.{Record}
 use Rattle.log_records.specs.RecordSpelling.{record_spelling}
 use Rattle.program_rows.specs.DatabasesState.{DatabasesState, with_all_settled}
@@ -79,3 +79,4 @@ same_bytes parts units (Receive terminal) = refl
 same_bytes parts units (Acknowledge terminal number) = refl
 same_bytes parts units (Command command) = refl
 same_bytes parts units (Checkpoint freeze) = refl
+same_bytes parts units AskQuiet = refl

@@ -2,9 +2,9 @@
 use Rattle.std.proofs.Common.{◌≡◌, ℕ, false, List, refl}
 use Rattle.model_machine.specs.History.{call_of}
 use Rattle.model_machine.specs.declared.entry.ControlCall.{ControlCall}
-use Rattle.model_machine.specs.declared.entry.ControlCall.TheVariants.{Input, Receive, Acknowledge, Turn, Command, Checkpoint}
+use Rattle.model_machine.specs.declared.entry.ControlCall.TheVariants.{Input, Receive, Acknowledge, Turn, Command, Checkpoint, AskQuiet}
 use Rattle.model_machine.specs.declared.entry.Entry.{Entry}
-use Rattle.model_machine.specs.declared.entry.Entry.TheVariants.{Accept, Show, Acked, Commanded, Checked, Turn as TurnEntry}
+use Rattle.model_machine.specs.declared.entry.Entry.TheVariants.{Accept, Show, Acked, Commanded, Checked, Quiet, Turn as TurnEntry}
 use Rattle.tm_machine.specs.Parts.{PartsState}
 use Rattle.logged_machine.specs.UntakenCheckpoint.{settled_parts}
 use Rattle.logged_machine.specs.ToldCalls.{ChangesBy, DoesCall, DoesTo, may_change, own_records}
@@ -17,6 +17,7 @@ still units (Show terminal answer) old new none does = does
 still units (Acked terminal number answer) old new none does = does
 still units (Commanded command answer) old new none does = does
 still units (Checked freeze answer) old new none does = does
+still units (Quiet quiet) old new none does = does
 still units (TurnEntry region answer) old new none does = absurd (apart none)
 
 does_still : (units : List ℕ) (entry : Entry) (old new : PartsState) → may_change (call_of entry) ≡ false → new.databases ≡ old.databases → DoesTo units entry old new
@@ -25,6 +26,7 @@ does_still units (Show terminal answer) old new none same = same
 does_still units (Acked terminal number answer) old new none same = same
 does_still units (Commanded command answer) old new none same = same
 does_still units (Checked freeze answer) old new none same = same
+does_still units (Quiet quiet) old new none same = same
 does_still units (TurnEntry region answer) old new none same = absurd (apart none)
 
 no_changes : (units : List ℕ) (entry : Entry) (parts : PartsState) → may_change (call_of entry) ≡ false → ChangesBy units entry parts
@@ -33,6 +35,7 @@ no_changes units (Show terminal answer) parts none = tt
 no_changes units (Acked terminal number answer) parts none = tt
 no_changes units (Commanded command answer) parts none = tt
 no_changes units (Checked freeze answer) parts none = tt
+no_changes units (Quiet quiet) parts none = tt
 no_changes units (TurnEntry region answer) parts none = absurd (apart none)
 
 -- it did so on parts where no slot counts as changed
@@ -43,7 +46,7 @@ does_settled units entry parts made parts' none is d = record {
   no_fault = d.no_fault;
   does = does_still units entry (settled_parts parts) parts' none (databases_settled parts made parts' is (still units entry parts made none d.does));
   changes = no_changes units entry (settled_parts parts) none;
-  has_name = d.has_name;
+  spellable = d.spellable;
 }
 
 -- and tells the same there
@@ -53,4 +56,5 @@ records_settled parts units (Receive terminal) none = refl
 records_settled parts units (Acknowledge terminal number) none = refl
 records_settled parts units (Command command) none = refl
 records_settled parts units (Checkpoint freeze) none = refl
+records_settled parts units AskQuiet none = refl
 records_settled parts units (Turn region) none = absurd (apart none)

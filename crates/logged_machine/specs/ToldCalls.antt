@@ -4,12 +4,11 @@ use Rattle.std.specs.List.{flat_map, AllByRecursion}
 use Rattle.model_machine.specs.CommandAnswers.{lasting_command}
 use Rattle.model_machine.specs.History.{call_of}
 use Rattle.model_machine.specs.declared.entry.ControlCall.{ControlCall}
-use Rattle.model_machine.specs.declared.entry.ControlCall.TheVariants.{Input, Receive, Acknowledge, Turn, Command, Checkpoint}
+use Rattle.model_machine.specs.declared.entry.ControlCall.TheVariants.{Input, Receive, Acknowledge, Turn, Command, Checkpoint, AskQuiet}
 use Rattle.model_machine.specs.declared.entry.Entry.{Entry}
 use Rattle.model_machine.specs.declared.entry.Entry.TheVariants.{Accept, Acked, Commanded, Turn as TurnEntry}
 use Rattle.openings.specs.Faults.{fault_in}
-use Rattle.tm_types.specs.Commands.{name_in}
-use Rattle.tm_types.specs.Name.{IsName}
+use Rattle.tm_types.specs.Commands.{IsSpellable}
 use Rattle.log_records.specs.declared.record.Record.{Record}
 use Rattle.log_records.specs.RecordSpelling.{record_spelling, IsLogRecord}
 use Rattle.tm_machine.specs.Answers.{IsAnswered}
@@ -29,6 +28,7 @@ may_last (Turn region) = true
 may_last (Command command) = true
 may_last (Receive terminal) = false
 may_last (Checkpoint freeze) = false
+may_last AskQuiet = false
 
 -- It may change the databases.
 abbrev pub may_change : ControlCall → Bool
@@ -38,16 +38,17 @@ may_change (Acknowledge terminal number) = false
 may_change (Command command) = false
 may_change (Receive terminal) = false
 may_change (Checkpoint freeze) = false
+may_change AskQuiet = false
 
 -- an input's number is one that an image may have
 abbrev pub IsCallWithin : ControlCall → Type 0
 IsCallWithin (Input terminal number segments) = number < 2000000000000000000
 IsCallWithin _ = ⊤
 
--- what a command that lasts names is a name
-abbrev pub HasName : ControlCall → Type 0
-HasName (Command command) = IfSome (lasting_command command) (λ does. IsName (name_in does))
-HasName _ = ⊤
+-- what a command that lasts names is a name, and what it assigns may be
+abbrev pub IsCallSpellable : ControlCall → Type 0
+IsCallSpellable (Command command) = IfSome (lasting_command command) IsSpellable
+IsCallSpellable _ = ⊤
 
 -- ---- what it tells
 
@@ -60,6 +61,7 @@ own_records parts units (Receive terminal) = told_records_of parts.system parts.
 own_records parts units (Acknowledge terminal number) = told_records_of parts.system parts.moment 0 (Acknowledge terminal number)
 own_records parts units (Command command) = told_records_of parts.system parts.moment 0 (Command command)
 own_records parts units (Checkpoint freeze) = told_records_of parts.system parts.moment 0 (Checkpoint freeze)
+own_records parts units AskQuiet = told_records_of parts.system parts.moment 0 AskQuiet
 
 abbrev pub own_bytes : PartsState → List ℕ → ControlCall → List ℕ
 own_bytes parts units call = flat_map record_spelling (own_records parts units call)
@@ -102,4 +104,4 @@ pub record DoesCall (units : List ℕ) (entry : Entry) (old new : PartsState) : 
   pub no_fault : fault_in entry ≡ None
   pub does : DoesTo units entry old new
   pub changes : ChangesBy units entry old
-  pub has_name : HasName (call_of entry)
+  pub spellable : IsCallSpellable (call_of entry)

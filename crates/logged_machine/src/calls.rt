@@ -7,7 +7,7 @@ ghost use Rattle.model_machine.specs.declared.entry.Entry.TheVariants.{Accept, A
 ghost use Rattle.tm_machine.specs.ToldByCall.{ends_work};
 
 use crate::call::Call;
-use crate::names::see_names;
+use crate::names::see_spellable;
 use crate::units::{note_units, unit_of};
 use log_records::Untold;
 use model_machine::{
@@ -135,7 +135,7 @@ impl Call for Command {
         _units: &[u64],
         telling: &mut Telling,
     ) -> Result<Self::Answer, Untold> {
-        see_names(self);
+        see_spellable(self);
         tm_machine::command(alloc, parts, self, telling)
     }
 
@@ -169,6 +169,8 @@ fn is_lasting(command: &Command) -> bool
         Command::DequeueFirst(_) => true,
         Command::DequeueAll(_) => true,
         Command::Exit(_) => true,
+        Command::AssignClass(_, _) => true,
+        Command::AssignPriority(_, _) => true,
         _ => false,
     }
 }

@@ -2,11 +2,11 @@
 ghost use Rattle.std.specs.Prelude.{◌≡◌, ◌<◌, ◌↔◌, IfOk, IsTrue, IsFalse};
 ghost use Rattle.tm_disk.specs.Disk.{IsToldToStop, armed};
 ghost use Rattle.model_machine.specs.CommandAnswers.{command_answer};
-ghost use Rattle.model_machine.specs.declared.entry.Entry.TheVariants.{Show as ShowEntry};
+ghost use Rattle.model_machine.specs.declared.entry.Entry.TheVariants.{Quiet as QuietEntry, Show as ShowEntry};
 ghost use Rattle.model_machine.specs.Machine.{output_at, terminal_at};
 ghost use Rattle.model_machine.specs.MachineCalls.{is_machine_quiet, show_answer};
 ghost use Rattle.lasting_state.specs.ShownTerminal.{IsShownTo};
-ghost use Rattle.tm_machine.specs.Answers.{Answers};
+ghost use Rattle.tm_machine.specs.Answers.{Answers, IsAnswered};
 ghost use Rattle.tm_machine.specs.SlotChanges.{HasSlots};
 ghost use Rattle.logged_machine.specs.LoggedState.{LastsNow};
 
@@ -94,6 +94,15 @@ impl<D: Disk> LoggedMachine<D> {
         ensures { result ≡ is_machine_quiet self.now.machine.system self.now.machine.moment }
     {
         self.parts.is_quiet()
+    }
+
+    /// The same, as an answer.
+    pub fn quiet_answer(&self) -> bool
+        ensures value { result ≡ is_machine_quiet self.now.machine.system self.now.machine.moment }
+        ensures answers { IsAnswered self.now.machine self.now.machine (QuietEntry result) }
+    {
+        let _regions = self.parts.region_count();
+        self.is_quiet()
     }
 
     /// Makes the `n`-th write from now fail and the disk stop. It answers false where the disk can't be told so.

@@ -14,7 +14,7 @@ use Rattle.model_machine.specs.declared.entry.CommandRefused.{CommandRefused}
 use Rattle.model_machine.specs.declared.entry.CommandRefused.TheVariants.{UnknownName, Busy, NoConversation, Fault as CommandFault}
 use Rattle.model_machine.specs.declared.entry.ControlFault.{ControlFault}
 use Rattle.model_machine.specs.declared.entry.Entry.{Entry}
-use Rattle.model_machine.specs.declared.entry.Entry.TheVariants.{Accept, Show, Acked, Turn, Commanded, Checked}
+use Rattle.model_machine.specs.declared.entry.Entry.TheVariants.{Accept, Show, Acked, Turn, Commanded, Checked, Quiet}
 use Rattle.model_machine.specs.declared.entry.InputRefused.{InputRefused}
 use Rattle.model_machine.specs.declared.entry.InputRefused.TheVariants.{Terminal, StoppedTerminal, Expected, Conversation, Code, StoppedCode, SegmentsOver, QueueFull, Fault as InputFault}
 use Rattle.model_machine.specs.declared.entry.Taken.{Taken}
@@ -74,6 +74,7 @@ faulted (Acked terminal number answer) fault e = acked_faulted terminal number a
 faulted (Turn region answer) fault e = turn_faulted region answer fault e
 faulted (Commanded command answer) fault e = commanded_faulted command answer fault e
 faulted (Checked freeze answer) fault e = checked_faulted freeze answer fault e
+faulted (Quiet quiet) fault e = absurd (none_some fault e)
 
 -- ---- a life's end
 

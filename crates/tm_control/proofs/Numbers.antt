@@ -4,7 +4,7 @@ use Rattle.std.specs.Prelude.{⊤, Some, Result, Ok, Err, IfOk}
 use Rattle.model_machine.specs.declared.entry.CheckpointRefused.{CheckpointRefused}
 use Rattle.model_machine.specs.declared.entry.ControlFault.{ControlFault}
 use Rattle.model_machine.specs.declared.entry.Entry.{Entry}
-use Rattle.model_machine.specs.declared.entry.Entry.TheVariants.{Accept, Show, Acked, Turn, Commanded, Checked}
+use Rattle.model_machine.specs.declared.entry.Entry.TheVariants.{Accept, Show, Acked, Turn, Commanded, Checked, Quiet}
 use Rattle.model_machine.specs.History.{AscendAbove}
 use Rattle.tm_disk.specs.Disk.{DiskState}
 use Rattle.model_system.specs.System.{System}
@@ -23,6 +23,7 @@ ascend_more least (Show terminal answer ∷ entries) more before behind = ascend
 ascend_more least (Acked terminal number answer ∷ entries) more before behind = ascend_more least entries more before behind
 ascend_more least (Turn region answer ∷ entries) more before behind = ascend_more least entries more before behind
 ascend_more least (Commanded command answer ∷ entries) more before behind = ascend_more least entries more before behind
+ascend_more least (Quiet quiet ∷ entries) more before behind = ascend_more least entries more before behind
 
 pub last_more : (least : ℕ) (entries more : List Entry) → last_checked least (entries ++ more) ≡ last_checked (last_checked least entries) more
 last_more least [] more = refl
@@ -33,6 +34,7 @@ last_more least (Show terminal answer ∷ entries) more = last_more least entrie
 last_more least (Acked terminal number answer ∷ entries) more = last_more least entries more
 last_more least (Turn region answer ∷ entries) more = last_more least entries more
 last_more least (Commanded command answer ∷ entries) more = last_more least entries more
+last_more least (Quiet quiet ∷ entries) more = last_more least entries more
 
 -- what an entry says of the number of the checkpoint before its call, and of the one behind it
 abbrev pub Numbers : Entry → ℕ → ℕ → Type 0
@@ -51,6 +53,7 @@ next_number (Show terminal answer) last before now a b h = record { ascend = tt;
 next_number (Acked terminal number answer) last before now a b h = record { ascend = tt; reached = omega (arith, a, b) }
 next_number (Turn region answer) last before now a b h = record { ascend = tt; reached = omega (arith, a, b) }
 next_number (Commanded command answer) last before now a b h = record { ascend = tt; reached = omega (arith, a, b) }
+next_number (Quiet quiet) last before now a b h = record { ascend = tt; reached = omega (arith, a, b) }
 
 -- a fault tells no number
 pub fault_ascends : (entry : Entry) (fault : ControlFault) (last : ℕ) → fault_in entry ≡ Some fault → AscendAbove last (entry ∷ [])
@@ -61,6 +64,7 @@ fault_ascends (Show terminal answer) fault last e = tt
 fault_ascends (Acked terminal number answer) fault last e = tt
 fault_ascends (Turn region answer) fault last e = tt
 fault_ascends (Commanded command answer) fault last e = tt
+fault_ascends (Quiet quiet) fault last e = tt
 
 pub fault_tells : (entry : Entry) (fault : ControlFault) (last : ℕ) → fault_in entry ≡ Some fault → last_checked last (entry ∷ []) ≡ last
 fault_tells (Checked freeze (Ok number)) fault last e = absurd (none_some fault e)
@@ -70,6 +74,7 @@ fault_tells (Show terminal answer) fault last e = refl
 fault_tells (Acked terminal number answer) fault last e = refl
 fault_tells (Turn region answer) fault last e = refl
 fault_tells (Commanded command answer) fault last e = refl
+fault_tells (Quiet quiet) fault last e = refl
 
 -- a checkpoint's number is the one that holds behind it
 pub taken_numbers : (freeze : Bool) (result : Result ℕ CheckpointRefused) (system : System) (old new : JournalState) (disk : DiskState)

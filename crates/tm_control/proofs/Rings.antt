@@ -14,7 +14,7 @@ use Rattle.model_system.specs.declared.need.Need.TheVariants.{Call, Ended, Abend
 use Rattle.model_system.specs.System.{System}
 use Rattle.model_system.specs.Jobs.{Job, job_of}
 use Rattle.model_machine.specs.declared.entry.ControlCall.{ControlCall}
-use Rattle.model_machine.specs.declared.entry.ControlCall.TheVariants.{Input, Receive, Acknowledge, Turn, Command, Checkpoint}
+use Rattle.model_machine.specs.declared.entry.ControlCall.TheVariants.{Input, Receive, Acknowledge, Turn, Command, Checkpoint, AskQuiet}
 use Rattle.model_machine.specs.declared.entry.Entry.{Entry}
 use Rattle.model_machine.specs.declared.entry.Turned.{Turned}
 use Rattle.model_machine.specs.declared.entry.Turned.TheVariants.{Scheduled, Called, Next, QC, Done, Abended, Idle, Held, Waits, Backed}
@@ -136,6 +136,7 @@ rings_call system moment (Acknowledge terminal number) victims h none = none
 rings_call system moment (Turn region) victims h none = rings_turn system moment region victims (slot_at moment region) h refl none
 rings_call system moment (Command command) victims h none = none
 rings_call system moment (Checkpoint freeze) victims h none = none
+rings_call system moment AskQuiet victims h none = none
 
 rings_on : (system : System) (moment : Moment) (entries : List Entry) → AreSteps system moment entries → HasNoCycles moment.enqueues → HasNoCycles (moment_after system moment entries).enqueues
 rings_on system moment [] steps none = none

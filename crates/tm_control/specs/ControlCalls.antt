@@ -79,7 +79,8 @@ pub record KeepsLog {D : Type 0} (old new : ControlOnDisk D) : Type 0 where
   pub units : new.units ≡ old.units
   pub next_unit : new.next_unit ≡ old.next_unit
 
--- A reply was shown: its entry stands at the end and takes the room of one, and the disk is as it was.
+-- A reply was shown, or it was told whether nothing is left to do: the entry stands at the end and takes the room of one, and the
+-- disk is as it was.
 pub record Shows {D : Type 0} (state : D → DiskState) (old new : ControlOnDisk D) (entry : Entry) : Type 0 where
   pub adds : AddsEntry old.control new.control entry
   pub room : old.control.room ≡ new.control.room + 1

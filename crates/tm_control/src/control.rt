@@ -6,7 +6,7 @@ ghost use Rattle.disk_law.specs.UnitCounts.{StandsUpTo};
 ghost use Rattle.checkpointing.specs.Counts.{CountsUpTo, RaisesCounts};
 ghost use Rattle.openings.specs.declared.how.How.TheVariants.{Found};
 ghost use Rattle.tm_disk.specs.Disk.{Only, Within, armed};
-ghost use Rattle.model_machine.specs.declared.entry.Entry.TheVariants.{Accept, Show, Acked as AckedEntry, Turn as TurnEntry, Commanded, Checked};
+ghost use Rattle.model_machine.specs.declared.entry.Entry.TheVariants.{Accept, Show, Acked as AckedEntry, Turn as TurnEntry, Commanded, Checked, Quiet};
 ghost use Rattle.model_machine.specs.CommandAnswers.{IsCommandServed, command_answer};
 ghost use Rattle.model_machine.specs.Machine.{output_at, terminal_at, IsRegion};
 ghost use Rattle.model_machine.specs.MachineCalls.{is_machine_quiet, show_answer};
@@ -266,6 +266,20 @@ impl<D: Disk> Control<D> {
         let answer = self.machine.show_answer(terminal);
         self.history.push_reserved(Entry::Show(*terminal, answer));
         self.machine.showing(terminal)
+    }
+
+    /// Answers what `quiet` does, and adds its entry. It takes no memory; the room for the entry was made by `reserve`.
+    pub fn ask_quiet(&mut self) -> bool
+        requires up { self.old.up ≡ true }
+        requires room { 0 < self.old.control.room }
+        ensures value { result ≡ is_machine_quiet self.old.control.system (control_moment self.old.control) }
+        ensures adds { Shows D.state self.old self.new (Quiet result) }
+        ensures lasts { Lasts D.state self.new }
+    {
+        let _before = self.machine.is_served();
+        let quiet = self.machine.quiet_answer();
+        self.history.push_reserved(Entry::Quiet(quiet));
+        quiet
     }
 
     /// Takes the acknowledgement of a reply.

@@ -3,7 +3,7 @@ use Rattle.std.proofs.Common.{◌≡◌, ℕ, zero, suc, ◌+◌, Bool, true, fa
 use Rattle.std.specs.Prelude.{Option, ◌==◌, filter, if◌then◌else◌}
 use Rattle.std.specs.Option.{option_map, option_map_or, option_and_then, is_some}
 use Rattle.tm_types.specs.declared.command.LastingCommand.{LastingCommand}
-use Rattle.tm_types.specs.declared.command.LastingCommand.TheVariants.{StartTransaction, StopTransaction, StartTerminal, StopTerminal, DequeueFirst, DequeueAll, Exit}
+use Rattle.tm_types.specs.declared.command.LastingCommand.TheVariants.{StartTransaction, StopTransaction, StartTerminal, StopTerminal, DequeueFirst, DequeueAll, Exit, AssignClass, AssignPriority}
 use Rattle.tm_types.specs.declared.message.Message.{Message}
 use Rattle.tm_types.specs.Commands.{command_in}
 use Rattle.tm_types.specs.declared.abend.AbendCode.{AbendCode}
@@ -16,8 +16,9 @@ use Rattle.model_messages.specs.Outputs.{with_terminal, with_reply, without_firs
 use Rattle.model_messages.specs.declared.ended_message.EndedMessage.{EndedMessage}
 use Rattle.model_system.specs.System.{System}
 use Rattle.model_system.specs.Lists.{change_at}
+use Rattle.model_machine.specs.declared.lasting.CodeSetting.{CodeSetting}
 use Rattle.model_machine.specs.Machine.{LastingState, empty_state, message_at, output_at, terminal_at, terminal_place, setting_place}
-use Rattle.model_machine.specs.LastingSteps.{KeptInput, applied, changed, output_sent, replied, switched, finished_by, with_pad_by, with_begun, with_last_number, with_pad_changed, new_pad, without_message, dfs555i_text, abend_outputs, discarded_pad, without_replies, stopped_code, stopped_terminal}
+use Rattle.model_machine.specs.LastingSteps.{KeptInput, applied, changed, output_sent, replied, switched, finished_by, with_pad_by, with_begun, with_last_number, with_pad_changed, new_pad, without_message, dfs555i_text, abend_outputs, discarded_pad, without_replies, stopped_code, stopped_terminal, classed_code, ranked_code}
 use Rattle.model_machine.specs.LastingSteps.LastingStep.{Accepts, Acknowledges, Discards, Commands}
 use Rattle.log_records.specs.declared.record.Record.{Record}
 use Rattle.log_records.specs.declared.record.Record.TheVariants.{Input, Command, Reply, Discarded, Completed, Acknowledged, SyncPoint, Checkpoint, Terminal, Code, Change}
@@ -127,15 +128,15 @@ module _ (system : System) where
     codes = is.codes;
   }
 
-  code_named : (stopped : Bool) (code : List ℕ) (lasting : LastingState) → AreNamesKept system lasting → map of_setting (change_at lasting.codes (setting_place lasting.codes code) (stopped_code stopped)) ≡ code_names system
-  code_named stopped code lasting is = change_names of_setting (stopped_code stopped) (λ c. refl) lasting.codes (setting_place lasting.codes code) ∙ is.codes
+  code_named : (change : CodeSetting → CodeSetting) → ((c : CodeSetting) → of_setting (change c) ≡ of_setting c) → (code : List ℕ) (lasting : LastingState) → AreNamesKept system lasting → map of_setting (change_at lasting.codes (setting_place lasting.codes code) change) ≡ code_names system
+  code_named change keeps code lasting is = change_names of_setting change keeps lasting.codes (setting_place lasting.codes code) ∙ is.codes
 
   terminal_named : (stopped : Bool) (terminal : List ℕ) (lasting : LastingState) → AreNamesKept system lasting → map of_state (change_at lasting.terminals (terminal_place lasting.terminals terminal) (stopped_terminal stopped)) ≡ system.terminals
   terminal_named stopped terminal lasting is = change_names of_state (stopped_terminal stopped) (λ t. refl) lasting.terminals (terminal_place lasting.terminals terminal) ∙ is.terminals
 
   commanded_named : (command : LastingCommand) (lasting : LastingState) → AreNamesKept system lasting → AreNamesKept system (applied (Commands command) lasting)
-  commanded_named (StartTransaction code) lasting is = record { terminals = is.terminals; outputs = is.outputs; conversations = is.conversations; codes = code_named false code lasting is }
-  commanded_named (StopTransaction code) lasting is = record { terminals = is.terminals; outputs = is.outputs; conversations = is.conversations; codes = code_named true code lasting is }
+  commanded_named (StartTransaction code) lasting is = record { terminals = is.terminals; outputs = is.outputs; conversations = is.conversations; codes = code_named (stopped_code false) (λ c. refl) code lasting is }
+  commanded_named (StopTransaction code) lasting is = record { terminals = is.terminals; outputs = is.outputs; conversations = is.conversations; codes = code_named (stopped_code true) (λ c. refl) code lasting is }
   commanded_named (StartTerminal terminal) lasting is = record { terminals = terminal_named false terminal lasting is; outputs = is.outputs; conversations = is.conversations; codes = is.codes }
   commanded_named (StopTerminal terminal) lasting is = record { terminals = terminal_named true terminal lasting is; outputs = is.outputs; conversations = is.conversations; codes = is.codes }
   commanded_named (DequeueFirst terminal) lasting is = acknowledged_named terminal lasting is
@@ -151,6 +152,8 @@ module _ (system : System) where
     conversations = conversation_names terminal (with_conversation None) (λ t. refl) lasting.conversations ∙ is.conversations;
     codes = is.codes;
   }
+  commanded_named (AssignClass code class) lasting is = record { terminals = is.terminals; outputs = is.outputs; conversations = is.conversations; codes = code_named (classed_code class) (λ c. refl) code lasting is }
+  commanded_named (AssignPriority code priority) lasting is = record { terminals = is.terminals; outputs = is.outputs; conversations = is.conversations; codes = code_named (ranked_code priority) (λ c. refl) code lasting is }
 
   commanded_left : (command : Option LastingCommand) (lasting : LastingState) → AreNamesKept system lasting → IfLeft (option_map (λ c. applied (Commands c) lasting) command)
   commanded_left None lasting is = tt

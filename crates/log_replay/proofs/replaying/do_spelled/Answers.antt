@@ -16,7 +16,7 @@ pub command-requires : goal.command-requires
 command-requires c = steps_before c.args.system.now c.args.kept.now c.requires.sound
 
 pub is_sound-requires-clause-rest : goal.is_sound-requires-clause-rest
-is_sound-requires-clause-rest c = subst KeepsRest (sym c.command.ensures) (rest_commanded c.args.system.now c.args.kept.now c.requires.sound c.args.spelled.now)
+is_sound-requires-clause-rest c = subst KeepsRest (sym c.command.ensures) (rest_commanded c.args.system.now c.args.kept.now c.requires.sound c.args.spelled.now c.requires.assigned)
 
 pub is_sound-requires-clause-numbers : goal.is_sound-requires-clause-numbers
 is_sound-requires-clause-numbers c =

@@ -1,10 +1,13 @@
-use Rattle.std.proofs.Common.{true, sym, subst, ap}
+use Rattle.std.proofs.Common.{true, refl, sym, subst, ap}
 use Rattle.std.specs.Option.{option_map, option_map_or}
 use Rattle.model_image.specs.States.{breaks_a_rule}
 use Rattle.model_machine.specs.LastingSteps.{applied}
 use Rattle.model_machine.specs.LastingSteps.LastingStep.{Commands}
 use Rattle.log_replay.specs.ReplayRules.{RecordLeaves, lasting_in}
 use Rattle.log_replay.proofs.replaying.replay_command.Goals as goal
+
+pub in_default-do_spelled-requires-clause-assigned : goal.in_default-do_spelled-requires-clause-assigned
+in_default-do_spelled-requires-clause-assigned c = ((c.in-Some.ensures.spelled _).0 refl).assigned
 
 pub returns-in-Some-clause-leaves : goal.returns-in-Some-clause-leaves
 returns-in-Some-clause-leaves c =
