@@ -8,12 +8,12 @@ use Rattle.std.proofs.lemmas.Bool.Decides.{nat_tests}
 use Rattle.std.proofs.lemmas.Slice.Eq.{bytes_eq-Decides}
 use Rattle.std.proofs.lemmas.List.Folds.{list_all-append}
 use Rattle.tm_types.specs.declared.command.LastingCommand.{LastingCommand}
-use Rattle.tm_types.specs.declared.command.LastingCommand.TheVariants.{StartTransaction, StopTransaction, StartTerminal, StopTerminal, DequeueFirst, DequeueAll, Exit}
+use Rattle.tm_types.specs.declared.command.LastingCommand.TheVariants.{StartTransaction, StopTransaction, StartTerminal, StopTerminal, DequeueFirst, DequeueAll, Exit, AssignClass, AssignPriority}
 use Rattle.model_system.specs.System.{System}
 use Rattle.model_machine.specs.declared.lasting.TerminalState.{TerminalState}
 use Rattle.model_machine.specs.declared.entry.Entry.{Entry}
 use Rattle.model_machine.specs.declared.entry.ControlCall.{ControlCall}
-use Rattle.model_machine.specs.declared.entry.ControlCall.TheVariants.{Input, Receive, Acknowledge, Turn, Command, Checkpoint}
+use Rattle.model_machine.specs.declared.entry.ControlCall.TheVariants.{Input, Receive, Acknowledge, Turn, Command, Checkpoint, AskQuiet}
 use Rattle.model_machine.specs.declared.entry.Taken.{Taken}
 use Rattle.model_machine.specs.declared.entry.Taken.TheVariants.{New, Already}
 use Rattle.model_machine.specs.declared.entry.InputRefused.{InputRefused}
@@ -92,6 +92,8 @@ module _ (terminal : List ℕ) (last : ℕ) where
   commanded_stands (DequeueFirst other) lasting h = h
   commanded_stands (DequeueAll other) lasting h = h
   commanded_stands (Exit other) lasting h = h
+  commanded_stands (AssignClass code class) lasting h = h
+  commanded_stands (AssignPriority code priority) lasting h = h
 
   -- a step that accepts no input of the terminal
   abbrev SparesBy : LastingStep → Type 0
@@ -136,6 +138,7 @@ module _ (terminal : List ℕ) (last : ℕ) where
   call_spares system moment (Turn region) is = turn_fine SparesBy (λ id rows outputs pad. tt) (λ id abend. tt) system moment region
   call_spares system moment (Command command) is = command_fine SparesBy system moment command (commands_spare (lasting_command command))
   call_spares system moment (Checkpoint freeze) is = tt
+  call_spares system moment AskQuiet is = tt
 
   -- No call but an input of the terminal changes its last number.
   pub last_kept : (system : System) → IsKeptBy Stands system (spares_input terminal)

@@ -9,7 +9,7 @@ use Rattle.model_system.specs.Jobs.{Job, job_of}
 use Rattle.model_system.specs.System.{System}
 use Rattle.model_machine.specs.declared.entry.Entry.{Entry}
 use Rattle.model_machine.specs.declared.entry.ControlCall.{ControlCall}
-use Rattle.model_machine.specs.declared.entry.ControlCall.TheVariants.{Input, Receive, Acknowledge, Turn, Command, Checkpoint}
+use Rattle.model_machine.specs.declared.entry.ControlCall.TheVariants.{Input, Receive, Acknowledge, Turn, Command, Checkpoint, AskQuiet}
 use Rattle.model_machine.specs.declared.entry.Acked.{Acked}
 use Rattle.model_machine.specs.declared.entry.Acked.TheVariants.{Removed, Already as AckAlready}
 use Rattle.model_machine.specs.declared.entry.AckRefused.{AckRefused}
@@ -94,6 +94,7 @@ module _ (system : System) (valid : IsSystem system) where
   call_few moment (Turn region) = turn_few moment region (slot_at moment region)
   call_few moment (Command command) = commands_few (lasting_command command) (command_answer system moment command)
   call_few moment (Checkpoint freeze) = tt
+  call_few moment AskQuiet = tt
 
   -- ---- entries
 

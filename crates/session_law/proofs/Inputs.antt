@@ -7,7 +7,7 @@ use Rattle.std.specs.Str.{bytes_eq}
 use Rattle.std.proofs.lemmas.Bool.{leb-false, ltb-false, le-leb}
 use Rattle.tm_types.specs.declared.message.Message.{Message}
 use Rattle.tm_types.specs.declared.command.LastingCommand.{LastingCommand}
-use Rattle.tm_types.specs.declared.command.LastingCommand.TheVariants.{StartTransaction, StopTransaction, StartTerminal, StopTerminal, DequeueFirst, DequeueAll, Exit}
+use Rattle.tm_types.specs.declared.command.LastingCommand.TheVariants.{StartTransaction, StopTransaction, StartTerminal, StopTerminal, DequeueFirst, DequeueAll, Exit, AssignClass, AssignPriority}
 use Rattle.model_messages.specs.declared.conversation.PadChange.{PadChange}
 use Rattle.model_messages.specs.declared.ended_message.EndedMessage.{EndedMessage}
 use Rattle.model_system.specs.System.{System}
@@ -16,7 +16,7 @@ use Rattle.model_machine.specs.declared.lasting.TerminalState.{TerminalState}
 use Rattle.model_machine.specs.declared.entry.Entry.{Entry}
 use Rattle.model_machine.specs.declared.entry.Entry.TheVariants.{Accept}
 use Rattle.model_machine.specs.declared.entry.ControlCall.{ControlCall}
-use Rattle.model_machine.specs.declared.entry.ControlCall.TheVariants.{Input, Receive, Acknowledge, Turn, Command, Checkpoint}
+use Rattle.model_machine.specs.declared.entry.ControlCall.TheVariants.{Input, Receive, Acknowledge, Turn, Command, Checkpoint, AskQuiet}
 use Rattle.model_machine.specs.declared.entry.Taken.{Taken}
 use Rattle.model_machine.specs.declared.entry.Taken.TheVariants.{New, Already}
 use Rattle.model_machine.specs.declared.entry.Acked.{Acked}
@@ -165,6 +165,8 @@ module _ (terminal : List ℕ) (number : ℕ) where
   commanded_keeps (DequeueFirst other) lasting h = h
   commanded_keeps (DequeueAll other) lasting h = h
   commanded_keeps (Exit other) lasting h = h
+  commanded_keeps (AssignClass code class) lasting h = h
+  commanded_keeps (AssignPriority code priority) lasting h = h
 
   -- A step keeps it; an accepted input's number is above its terminal's last.
   abbrev IsAbove : LastingStep → LastingState → Type 0
@@ -285,6 +287,7 @@ call_fine terminal number system moment (Turn region) =
 call_fine terminal number system moment (Command command) =
     command_fine (λ s. IsAbove terminal number s moment.lasting) system moment command (commanded_fine terminal number moment.lasting (lasting_command command))
 call_fine terminal number system moment (Checkpoint freeze) = tt
+call_fine terminal number system moment AskQuiet = tt
 
 -- No call lets a terminal's last number fall.
 pub numbers_kept : (terminal : List ℕ) (number : ℕ) (system : System) → IsKeptBy (Reached terminal number) system any_call

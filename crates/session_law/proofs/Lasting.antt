@@ -3,7 +3,7 @@ use Rattle.std.proofs.Common.{ℕ, ◌+◌, ◌≤◌, Bool, true, false, List, 
 use Rattle.std.specs.Prelude.{if◌then◌else◌, map}
 use Rattle.std.specs.Option.{is_some}
 use Rattle.tm_types.specs.declared.command.LastingCommand.{LastingCommand}
-use Rattle.tm_types.specs.declared.command.LastingCommand.TheVariants.{StartTransaction, StopTransaction, StartTerminal, StopTerminal, DequeueFirst, DequeueAll, Exit}
+use Rattle.tm_types.specs.declared.command.LastingCommand.TheVariants.{StartTransaction, StopTransaction, StartTerminal, StopTerminal, DequeueFirst, DequeueAll, Exit, AssignClass, AssignPriority}
 use Rattle.tm_types.specs.declared.message.Message.{Message}
 use Rattle.model_messages.specs.declared.replies.TerminalReplies.{TerminalReplies}
 use Rattle.model_messages.specs.Outputs.{fresh_terminal, are_replies_of, with_terminal, with_reply, without_first}
@@ -97,6 +97,8 @@ commanded_sends (DequeueAll terminal) high lasting h = record {
   replies = changed_replies terminal without_replies high high (omega arith) (λ t le. le) lasting.outputs h.replies;
 }
 commanded_sends (Exit terminal) high lasting h = record { next_id = h.next_id; replies = h.replies }
+commanded_sends (AssignClass code class) high lasting h = record { next_id = h.next_id; replies = h.replies }
+commanded_sends (AssignPriority code priority) high lasting h = record { next_id = h.next_id; replies = h.replies }
 
 -- ---- steps
 

@@ -20,7 +20,7 @@ use Rattle.model_machine.specs.declared.entry.Acked.TheVariants.{Removed, Alread
 use Rattle.model_machine.specs.declared.entry.AckRefused.{AckRefused}
 use Rattle.model_machine.specs.declared.entry.AckRefused.TheVariants.{Ahead}
 use Rattle.model_machine.specs.declared.entry.Entry.{Entry}
-use Rattle.model_machine.specs.declared.entry.Entry.TheVariants.{Accept, Show, Acked as AckedEntry, Turn as TurnEntry, Commanded, Checked}
+use Rattle.model_machine.specs.declared.entry.Entry.TheVariants.{Accept, Show, Acked as AckedEntry, Turn as TurnEntry, Commanded, Checked, Quiet}
 use Rattle.model_machine.specs.declared.entry.ShowAnswer.{ShowAnswer}
 use Rattle.model_machine.specs.declared.entry.ShowAnswer.TheVariants.{Reply as Showed, Empty, Stopped as ShowStopped, Unknown as ShowUnknown}
 use Rattle.model_machine.specs.declared.lasting.TerminalState.{TerminalState}
@@ -165,6 +165,8 @@ module _ (terminal : List ℕ) where
     commanded_from (lasts.DequeueFirst other) lasting h = changed_at (IsFrom low) other without_first (λ t. refl) (first_from low) lasting.outputs h
     commanded_from (lasts.DequeueAll other) lasting h = changed_at (IsFrom low) other without_replies (λ t. refl) (none_from low) lasting.outputs h
     commanded_from (lasts.Exit other) lasting h = h
+    commanded_from (lasts.AssignClass code class) lasting h = h
+    commanded_from (lasts.AssignPriority code priority) lasting h = h
 
     step_from : (step : LastingStep) (lasting : LastingState) → AreFrom lasting → AreFrom (applied step lasting)
     step_from (Accepts other number kept) lasting h = h
@@ -222,6 +224,7 @@ module _ (terminal : List ℕ) where
   entry_higher system low moment (TurnEntry region answer) may h = tt
   entry_higher system low moment (Commanded command answer) may h = tt
   entry_higher system low moment (Checked freeze answer) may h = tt
+  entry_higher system low moment (Quiet quiet) may h = tt
 
   end_higher : (low : ℕ) (entry : Entry) → is_fault entry ≡ true → ShowsHigher terminal low entry
   end_higher low (Show other (Showed shown)) fault = cc
@@ -233,6 +236,7 @@ module _ (terminal : List ℕ) where
   end_higher low (TurnEntry region answer) fault = tt
   end_higher low (Commanded command answer) fault = tt
   end_higher low (Checked freeze answer) fault = tt
+  end_higher low (Quiet quiet) fault = tt
 
   steps_higher : (system : System) (low : ℕ) (steps : List Entry) (last : Option Entry) (moment : Moment) → AreSteps system moment steps → IsEnd system last → AreFrom (low + 1) moment.lasting
       → AllShowHigher terminal low (history_ended_by steps last)

@@ -9,7 +9,7 @@ use Rattle.tm_types.specs.declared.message.Reply.{Reply}
 use Rattle.tm_types.specs.declared.command.LastingCommand.{LastingCommand}
 use Rattle.tm_types.specs.declared.command.LastingCommand.TheVariants as lasts
 use Rattle.model_machine.specs.declared.command.Command.{Command}
-use Rattle.model_machine.specs.declared.command.Command.TheVariants.{StartTransaction, StopTransaction, StartTerminal, StopTerminal, DisplayTransaction, DisplayTerminal, DisplayActive, Checkpoint as CheckpointCommand, Freeze, DequeueFirst, DequeueAll, Exit, EmergencyRestart, NormalRestart, ColdStart}
+use Rattle.model_machine.specs.declared.command.Command.TheVariants.{StartTransaction, StopTransaction, StartTerminal, StopTerminal, DisplayTransaction, DisplayTerminal, DisplayActive, Checkpoint as CheckpointCommand, Freeze, DequeueFirst, DequeueAll, Exit, AssignClass, AssignPriority, EmergencyRestart, NormalRestart, ColdStart}
 use Rattle.model_messages.specs.declared.conversation.PadChange.{PadChange}
 use Rattle.model_messages.specs.declared.ended_message.EndedMessage.{EndedMessage}
 use Rattle.model_system.specs.System.{System}
@@ -18,7 +18,7 @@ use Rattle.model_messages.specs.Outputs.{are_replies_of, replies_at, reply_at, w
 use Rattle.model_machine.specs.declared.lasting.TerminalState.{TerminalState}
 use Rattle.model_machine.specs.declared.entry.ShowAnswer.TheVariants.{Reply as Showed, Empty, Stopped as ShowStopped}
 use Rattle.model_machine.specs.declared.entry.ControlCall.{ControlCall}
-use Rattle.model_machine.specs.declared.entry.ControlCall.TheVariants.{Input, Receive, Acknowledge, Turn, Command as CommandCall, Checkpoint}
+use Rattle.model_machine.specs.declared.entry.ControlCall.TheVariants.{Input, Receive, Acknowledge, Turn, Command as CommandCall, Checkpoint, AskQuiet}
 use Rattle.model_machine.specs.declared.entry.Taken.{Taken}
 use Rattle.model_machine.specs.declared.entry.Taken.TheVariants.{New, Already}
 use Rattle.model_machine.specs.declared.entry.InputRefused.{InputRefused}
@@ -121,6 +121,8 @@ module _ (terminal : List ℕ) (r : Reply) where
   SparesBy (lasts.DequeueFirst other) = not (bytes_eq other terminal) ≡ true
   SparesBy (lasts.DequeueAll other) = not (bytes_eq other terminal) ≡ true
   SparesBy (lasts.Exit other) = Unit {0}
+  SparesBy (lasts.AssignClass code class) = Unit {0}
+  SparesBy (lasts.AssignPriority code priority) = Unit {0}
 
   commanded_keeps : (command : LastingCommand) (lasting : LastingState) → SparesBy command → Waits lasting → Waits (commanded command lasting)
   commanded_keeps (lasts.StartTransaction code) lasting is h = h
@@ -130,6 +132,8 @@ module _ (terminal : List ℕ) (r : Reply) where
   commanded_keeps (lasts.DequeueFirst other) lasting is h = spared other without_first (λ t. refl) lasting.outputs is h
   commanded_keeps (lasts.DequeueAll other) lasting is h = spared other without_replies (λ t. refl) lasting.outputs is h
   commanded_keeps (lasts.Exit other) lasting is h = h
+  commanded_keeps (lasts.AssignClass code class) lasting is h = h
+  commanded_keeps (lasts.AssignPriority code priority) lasting is h = h
 
   -- a step that takes none away
   abbrev Spares : LastingStep → Type 0
@@ -173,6 +177,8 @@ module _ (terminal : List ℕ) (r : Reply) where
   command_spares (DequeueFirst other) is = is
   command_spares (DequeueAll other) is = is
   command_spares (Exit other) is = tt
+  command_spares (AssignClass code class) is = tt
+  command_spares (AssignPriority code priority) is = tt
   command_spares EmergencyRestart is = tt
   command_spares NormalRestart is = tt
   command_spares ColdStart is = tt
@@ -185,6 +191,7 @@ module _ (terminal : List ℕ) (r : Reply) where
   call_spares system moment (Turn region) is = turn_fine Spares (λ id rows outputs pad. tt) (λ id abend. tt) system moment region
   call_spares system moment (CommandCall command) is = command_fine Spares system moment command (command_spares command is)
   call_spares system moment (Checkpoint freeze) is = tt
+  call_spares system moment AskQuiet is = tt
 
   -- The first reply of a terminal stays the first, with its number and its segments, until it is acknowledged or dequeued.
   pub replies_kept : (system : System) → IsKeptBy Waits system (spares terminal)

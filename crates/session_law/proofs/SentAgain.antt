@@ -17,7 +17,7 @@ use Rattle.model_messages.specs.Room.{input_needs}
 use Rattle.model_messages.specs.Terminals.{conversation_at}
 use Rattle.model_machine.specs.declared.lasting.TerminalState.{TerminalState}
 use Rattle.model_machine.specs.declared.entry.Entry.{Entry}
-use Rattle.model_machine.specs.declared.entry.Entry.TheVariants.{Accept, Show, Acked as AckedEntry, Turn as TurnEntry, Commanded, Checked}
+use Rattle.model_machine.specs.declared.entry.Entry.TheVariants.{Accept, Show, Acked as AckedEntry, Turn as TurnEntry, Commanded, Checked, Quiet}
 use Rattle.model_machine.specs.declared.entry.Taken.{Taken}
 use Rattle.model_machine.specs.declared.entry.Taken.TheVariants.{New, Already}
 use Rattle.model_machine.specs.declared.entry.InputRefused.{InputRefused}
@@ -234,6 +234,7 @@ module _ (system : System) (terminal : List ℕ) (number : ℕ) where
   entry_knows moment (TurnEntry region answer) may some low = tt
   entry_knows moment (Commanded command answer) may some low = tt
   entry_knows moment (Checked freeze answer) may some low = tt
+  entry_knows moment (Quiet quiet) may some low = tt
 
   end_knows : (entry : Entry) → is_fault entry ≡ true → KnowsInput terminal number entry
   end_knows (Accept other sent segments answer) fault = λ is below. fault_known other sent segments answer fault
@@ -242,6 +243,7 @@ module _ (system : System) (terminal : List ℕ) (number : ℕ) where
   end_knows (TurnEntry region answer) fault = tt
   end_knows (Commanded command answer) fault = tt
   end_knows (Checked freeze answer) fault = tt
+  end_knows (Quiet quiet) fault = tt
 
   steps_know : (steps : List Entry) (last : Option Entry) (moment : Moment) → AreSteps system moment steps → IsEnd system last → 0 < number → Reached terminal number moment.lasting → AllKnow terminal number (history_ended_by steps last)
   steps_know [] None moment legal end some low = tt
@@ -347,6 +349,7 @@ module _ (system : System) (terminal : List ℕ) (number : ℕ) where
   next_fresh (TurnEntry region answer) entries fresh on = on refl
   next_fresh (Commanded command answer) entries fresh on = on refl
   next_fresh (Checked freeze answer) entries fresh on = on refl
+  next_fresh (Quiet quiet) entries fresh on = on refl
 
   entry_fresh : (last : ℕ) (moment : Moment) (entry : Entry) → May system moment entry → number ≡ last + 1 → Stands terminal last moment.lasting → IsFreshEntry entry
   entry_fresh last moment (Accept other sent segments answer) may next stands = λ is same.
@@ -358,6 +361,7 @@ module _ (system : System) (terminal : List ℕ) (number : ℕ) where
   entry_fresh last moment (TurnEntry region answer) may next stands = tt
   entry_fresh last moment (Commanded command answer) may next stands = tt
   entry_fresh last moment (Checked freeze answer) may next stands = tt
+  entry_fresh last moment (Quiet quiet) may next stands = tt
 
   end_fresh : (entry : Entry) → is_fault entry ≡ true → IsFreshEntry entry
   end_fresh (Accept other sent segments answer) fault = λ is same. fault_fresh other sent segments answer fault
@@ -366,6 +370,7 @@ module _ (system : System) (terminal : List ℕ) (number : ℕ) where
   end_fresh (TurnEntry region answer) fault = tt
   end_fresh (Commanded command answer) fault = tt
   end_fresh (Checked freeze answer) fault = tt
+  end_fresh (Quiet quiet) fault = tt
 
   abbrev spared : List Entry → Bool
   spared entries = list_all (λ e. spares_input terminal (call_of e)) entries

@@ -9,9 +9,9 @@ use Rattle.model_system.specs.System.{System}
 use Rattle.model_messages.specs.declared.replies.TerminalReplies.{TerminalReplies}
 use Rattle.model_messages.specs.Outputs.{first_number}
 use Rattle.model_machine.specs.declared.command.Command.{Command}
-use Rattle.model_machine.specs.declared.command.Command.TheVariants.{StartTransaction, StopTransaction, StartTerminal, StopTerminal, DisplayTransaction, DisplayTerminal, DisplayActive, Checkpoint as CheckpointCommand, Freeze, DequeueFirst, DequeueAll, Exit, EmergencyRestart, NormalRestart, ColdStart}
+use Rattle.model_machine.specs.declared.command.Command.TheVariants.{StartTransaction, StopTransaction, StartTerminal, StopTerminal, DisplayTransaction, DisplayTerminal, DisplayActive, Checkpoint as CheckpointCommand, Freeze, DequeueFirst, DequeueAll, Exit, AssignClass, AssignPriority, EmergencyRestart, NormalRestart, ColdStart}
 use Rattle.model_machine.specs.declared.entry.Entry.{Entry}
-use Rattle.model_machine.specs.declared.entry.Entry.TheVariants.{Accept, Show, Acked as AckedEntry, Turn as TurnEntry, Commanded, Checked}
+use Rattle.model_machine.specs.declared.entry.Entry.TheVariants.{Accept, Show, Acked as AckedEntry, Turn as TurnEntry, Commanded, Checked, Quiet}
 use Rattle.model_machine.specs.declared.entry.ControlCall.{ControlCall}
 use Rattle.model_machine.specs.declared.entry.ControlCall.TheVariants.{Command as CommandCall}
 use Rattle.model_machine.specs.declared.entry.ShowAnswer.TheVariants.{Reply as ShowReply}
@@ -85,6 +85,8 @@ module _ (terminal : List ℕ) (reply : Reply) where
   command_spares (DequeueFirst other) is = ap not is
   command_spares (DequeueAll other) is = ap not is
   command_spares (Exit other) is = refl
+  command_spares (AssignClass code class) is = refl
+  command_spares (AssignPriority code priority) is = refl
   command_spares EmergencyRestart is = refl
   command_spares NormalRestart is = refl
   command_spares ColdStart is = refl
@@ -96,6 +98,7 @@ module _ (terminal : List ℕ) (reply : Reply) where
   kept_until system moment (TurnEntry region answer) is h = replies_kept terminal reply system moment (TurnEntry region answer) refl h
   kept_until system moment (Commanded command answer) is h = replies_kept terminal reply system moment (Commanded command answer) (command_spares command is) h
   kept_until system moment (Checked freeze answer) is h = replies_kept terminal reply system moment (Checked freeze answer) refl h
+  kept_until system moment (Quiet quiet) is h = replies_kept terminal reply system moment (Quiet quiet) refl h
 
   abbrev kind : ControlCall → Bool
   kind call = not (takes_reply terminal reply.number call)
