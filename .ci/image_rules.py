@@ -200,7 +200,7 @@ class State:
 
     def command(self, text):
         verb, *words = text.split(b" ")
-        self.need(len(words) == {b"/EXIT": 1, b"/DEQUEUE": 3}.get(verb, 2))
+        self.need(len(words) == {b"/EXIT": 1, b"/DEQUEUE": 3, b"/ASSIGN": 4}.get(verb, 2))
         known = {b"TRANSACTION": self.system.codes, b"LTERM": self.last}
         if verb == b"/EXIT":
             self.need(words[0] in self.last)
@@ -210,9 +210,20 @@ class State:
         if verb == b"/DEQUEUE":
             self.need(words[0] == b"LTERM" and words[2] in (b"PURGE1", b"PURGE"))
             del self.replies[words[1]][: 1 if words[2] == b"PURGE1" else None]
+        elif verb == b"/ASSIGN":
+            self.need(words[0] == b"TRANSACTION")
+            self.assign(*words[1:])
         else:
             self.need(verb in (b"/START", b"/STOP"))
             (self.stopped.add if verb == b"/STOP" else self.stopped.discard)(words[1])
+
+    def assign(self, code, what, word):
+        """A code's class or normal priority becomes this number, which has no zeros at its front."""
+        place, least, most = {b"CLASS": (0, 1, 255), b"PRIORITY": (1, 0, 14)}.get(what, (None, 0, 0))
+        self.need(place is not None and re.fullmatch(rb"0|[1-9][0-9]*", word) and least <= int(word) <= most)
+        setting = list(self.settings[code])
+        setting[place] = int(word)
+        self.settings[code] = tuple(setting)
 
     def end_unit(self, point):
         origin = None

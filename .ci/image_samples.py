@@ -41,8 +41,8 @@ def ended(unit, id_, *outputs, pad=(0, b"")):
     return [*outputs, Completed(unit, id_), SyncPoint(unit, list(pad))]
 
 
-def command(text, answer):
-    return [(text, [answer], [Command(text)])]
+def command(text, answer, kept=None):
+    return [(text, [answer], [Command(kept or text)])]
 
 
 def echoed(region, unit, id_, reply):
@@ -68,6 +68,8 @@ SESSION = [
     *turns(2, "GN 0 OK|ISRT 2 OK", Change(3, 2, 0, b"", b"\x010007AAAA")),
     *turns(2, "GN 0 OK|ISRT 1 OK", Change(3, 1, 2, b"", THREE)),
     *turns(2, "GN 0 QD|DONE ROWS 3", *ended(3, 3)),
+    # a number is kept without zeros at its front
+    *command(b"/ASSIGN TRANSACTION ECHO PRIORITY 007", "ASSIGNED ECHO PRIORITY 7", b"/ASSIGN TRANSACTION ECHO PRIORITY 7"),
     # a conversation: its pad is new, stays and ends; another one ends by an abend, and one by an operator
     *given(T2, 2, 4, TALK, b"TALK HELLO", kept=b"HELLO"),
     *turns(1, "SCHEDULED TALK 4|GU 0 OK|GN 0 OK|ISRT 0 OK|ISRT 0 OK|DONE TALK 4", *ended(4, 4, Reply(4, T2, 1, [b"HELLO"]), pad=(1, b"TALK    HELLO "))),
@@ -85,6 +87,10 @@ SESSION = [
     *command(b"/DEQUEUE LTERM T2 PURGE", "DEQUEUED 2"),
     *command(b"/STOP LTERM T2", "STOPPED T2"),
     *command(b"/STOP TRANSACTION TALK", "STOPPED TALK"),
+    # a class that no region has
+    *command(b"/ASSIGN TRANSACTION TALK CLASS 255", "ASSIGNED TALK CLASS 255"),
+    (b"/ASSIGN TRANSACTION ROWS CLASS 0", ["BAD COMMAND 5"], []),
+    (b"/ASSIGN TRANSACTION ROW CLASS 1", ["REFUSED NAME ROW"], []),
     # a switched message behind a reply, and what is dropped, abends and is rolled back
     *given(T1, 3, 9, ROWS, b"ROWS SEND ECHO HI"),
     *turns(1, "SCHEDULED ROWS 9|GU 0 OK|CHNG 3 OK|ISRT 3 OK|ISRT 0 OK|GN 0 QD|DONE ROWS 9", *ended(9, 9, Reply(9, T1, 2, [b"HI"]), Message(9, 10, T1, ECHO, 0, 0, [b"ECHO HI"]))),
@@ -115,9 +121,15 @@ SESSION = [
     *turns(2, "GN 0 QD|DONE ROWS 15", *ended(13, 15)),
     *command(b"/START TRANSACTION ECHO", "STARTED ECHO"),
     *command(b"/START LTERM T2", "STARTED T2"),
+    # the second region has the class 2 alone of the two, and takes what waits in it
+    *turns(2, "IDLE"),
+    *command(b"/ASSIGN TRANSACTION ECHO CLASS 2", "ASSIGNED ECHO CLASS 2"),
+    *command(b"/ASSIGN TRANSACTION TALK PRIORITY 0", "ASSIGNED TALK PRIORITY 0"),
+    # what a code has already is kept as any other command
+    *command(b"/ASSIGN TRANSACTION ROWS CLASS 02", "ASSIGNED ROWS CLASS 2", b"/ASSIGN TRANSACTION ROWS CLASS 2"),
     # so many commands that a checkpoint is due by itself
     *(step for _ in range(18) for step in command(b"/STOP LTERM T2", "STOPPED T2") + command(b"/START LTERM T2", "STARTED T2")),
-    *echoed(1, 15, 10, Reply(15, T1, 4, [b"ECHO HI"])),
+    *echoed(2, 15, 10, Reply(15, T1, 4, [b"ECHO HI"])),
     (b"/CHECKPOINT FREEZE", ["FROZEN 6"], FREEZE),
     (b"/ERESTART", ["RESTARTED"], RESTART),
     (b"ACK T1 2", ["ACKED T1 2"], [Acknowledged(T1, 2)]),
@@ -133,6 +145,8 @@ OPEN = [
     *turns(2, "SCHEDULED ROWS 2|GU 0 OK|ISRT 1 OK", Change(1, 1, 0, b"", ONE)),
     *turns(2, "GN 0 OK|ISRT 2 OK", Change(1, 2, 0, b"", b"\x010007AAAA")),
     *command(b"/STOP LTERM T2", "STOPPED T2"),
+    *command(b"/ASSIGN TRANSACTION ROWS CLASS 3", "ASSIGNED ROWS CLASS 3"),
+    *command(b"/ASSIGN TRANSACTION GET PRIORITY 14", "ASSIGNED GET PRIORITY 14"),
 ]
 LIVES = [
     *SESSION,
@@ -232,6 +246,8 @@ DOINGS = [
     ([[Change(9, 1, 0, ONE, OTHER)], [end(9)]], (5, 7, 2, 2, 1, PAD, [3, 4])),
     *(([[Command(text)]], (5, 7, 2, 2, 1, PAD, [3, 4])) for text in (b"/STOP TRANSACTION ECHO", b"/START TRANSACTION TALK", b"/STOP LTERM T2", b"/START LTERM T1")),
     *(([[Command(b"/DEQUEUE LTERM T1 " + word)]], (5, 7, 2, 2, 1, PAD, [3, 4])) for word in (b"PURGE1", b"PURGE")),
+    *(([[Command(b"/ASSIGN TRANSACTION " + words)]], (5, 7, 2, 2, 1, PAD, [3, 4])) for words in (b"ECHO CLASS 255", b"TALK CLASS 10", b"ROWS PRIORITY 0", b"GET PRIORITY 14")),
+    ([[Command(b"/ASSIGN TRANSACTION ECHO CLASS 7")], [Command(b"/ASSIGN TRANSACTION ECHO CLASS 1")]], (5, 8, 2, 2, 1, PAD, [3, 4])),
     ([[Completed(9, 4), end(9), Command(b"/EXIT T2")]], (5, 8, 2, 2, 1, None, [3])),
     ([[Command(b"/EXIT T1")]], (5, 7, 2, 2, 1, PAD, [3, 4])),
 ]
@@ -331,11 +347,19 @@ SNAPSHOTS = [
     (16, {"messages": [long_message(number) for number in (1, 2, 3, 4)]}),
     *((17, {"changes": [Change(8, *at, *both)]}) for at, both in (((1, 3), (b"", b"")), ((3, 0), (b"", b"")), ((0, 0), (b"", b"")), ((1, 0), (b"\2", b"")), ((1, 0), (b"", b"\0010")))),
 ]
+# What stands behind the code in an assignment: in its one spelling, and in none.
+ASSIGNED = (b"CLASS 1", b"CLASS 9", b"CLASS 10", b"CLASS 100", b"CLASS 255", b"PRIORITY 0", b"PRIORITY 1", b"PRIORITY 9", b"PRIORITY 10", b"PRIORITY 14")
+UNASSIGNED = (
+    *(b"CLASS " + word for word in (b"0", b"256", b"257", b"999", b"01", b"001", b"0255", b"00", b"", b"x", b"+1", b"-1", b"1x", b"1 ", b" 1", b"1 1", b"\x01", b"1\n", b"65537", b"18446744073709551617", b"1" + b"0" * 40)),
+    *(b"PRIORITY " + word for word in (b"15", b"16", b"255", b"256", b"00", b"01", b"014", b"", b"x", b"-0", b"+0", b"0 ", b" 0", b"65536", b"18446744073709551616")),
+    *(b"CLASS", b"PRIORITY", b"1", b"", b"class 1", b"CLASSES 1", b"PRIORIT 1", b"PURGE 1", b" CLASS 1", b"CLASS 1 PRIORITY 1", b"TO 1"),
+)
 LOGS = [
     (0, [end(9)]),
     (0, [sent(9, 3, b"OK")]),
     (0, [message(5, number=3)]),
     (0, [message(6, unit=9)]),
+    *((0, [Command(b"/ASSIGN TRANSACTION ECHO " + words)]) for words in ASSIGNED),
     (18, [UNKNOWN]),
     (18, [end(9), b"\0\x0f\x37\0\0\0\0\0\0\0\x09\0\0\0\0"]),
     (18, [b"\0\3\x37\0"]),
@@ -349,6 +373,9 @@ LOGS = [
     *((19, [Discarded(9, *at)]) for at in ((4, 100, 2), (3, 100, 3), (3, 100, 1))),
     (19, [Completed(9, 4), end(9)]),
     *((19, [Command(text)]) for text in (b"/XYZ", b"/STOP LTERM T3", b"/STOP TRANSACTION T1", b"/STOP LTERM ECHO", b"/EXIT T3", b"/EXIT", b"/DEQUEUE LTERM T1 PURGE2", b"/DEQUEUE LTERM T1", b"/CHECKPOINT", b"/STOP LTERM T2 ", b"/DISPLAY LTERM T1")),
+    *((19, [Command(b"/ASSIGN TRANSACTION ECHO " + words)]) for words in UNASSIGNED),
+    *((19, [Command(b"/ASSIGN " + words)]) for words in (b"TRANSACTION T1 CLASS 1", b"TRANSACTION NONE CLASS 1", b"TRANSACTION NONE PRIORITY 1", b"LTERM T1 CLASS 1", b"LTERM ECHO CLASS 1", b"TRANSACTION echo CLASS 1", b"TRANSACTION  CLASS 1", b"ECHO CLASS 1")),
+    *((19, [Command(verb + b" TRANSACTION ECHO CLASS 1")]) for verb in (b"/START", b"/assign", b"ASSIGN", b" /ASSIGN")),
     *((19, [message(*at[:1], number=at[1], origin=at[2], code=at[3], flag=at[4])]) for at in ((5, 4, T1, ECHO, 0), (5, 2, T1, ECHO, 0), (6, 3, T1, ECHO, 0), (5, 3, T1, TALK, 0), (5, 3, T1, ECHO, 1), (5, 1, b"T3", ECHO, 0), (5, 3, T1, b"NONE", 0), (3, 0, T1, ECHO, 0))),
     (19, [message(6, unit=9), end(9)]),
     (19, [message(5, unit=9, code=b"NONE")]),

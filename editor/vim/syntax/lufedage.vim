@@ -26,8 +26,8 @@ syntax match lufedageInput "^\%(IN\|SCREEN\) \S\+ \d\+.*$" contains=lufedageInpu
 syntax match lufedageInputWord "^\%(IN\|SCREEN\) \S\+ \d\+" contained
 syntax match lufedageFurther "^+.*$" contains=lufedageFurtherSign
 syntax match lufedageFurtherSign "^+" contained
-syntax match lufedageCommand "^/\%(START\|STOP\|DISPLAY\|CHECKPOINT\|DEQUEUE\|EXIT\|ERESTART\|NRESTART\)\>"
-syntax match lufedageCommandWord "\%(^/.*\)\@<= \%(TRANSACTION\|LTERM\|ACTIVE\|FREEZE\|PURGE1\|PURGE\|CHECKPOINT\)\>"
+syntax match lufedageCommand "^/\%(START\|STOP\|ASSIGN\|DISPLAY\|CHECKPOINT\|DEQUEUE\|EXIT\|ERESTART\|NRESTART\)\>"
+syntax match lufedageCommandWord "\%(^/.*\)\@<= \%(TRANSACTION\|LTERM\|CLASS\|PRIORITY\|ACTIVE\|FREEZE\|PURGE1\|PURGE\|CHECKPOINT\)\>"
 
 " What breaks a rule unseen: a tab, and a blank at the front of a line.
 syntax match lufedageUnseen "\t"
