@@ -10,3 +10,16 @@ pub mod CheckpointNeeds
 pub mod CheckpointSteps
 pub mod DefinitionText
 pub mod Counts
+pub use Rattle.image_law.specs.SegmentCounts
+pub use Rattle.log_records.specs.RecordSpelling
+pub use Rattle.log_writer.specs.ForcedLog
+pub use Rattle.model_data.specs.Record
+pub use Rattle.model_image.specs.Areas
+pub use Rattle.model_machine.specs.Machine
+pub use Rattle.model_messages.specs.Queue
+pub use Rattle.restart_data.specs.Restart
+pub use Rattle.restart_data.specs.Snapshot
+pub use Rattle.restart_data.specs.WrittenSectors
+pub use Rattle.seg_store.specs.DataSectors
+pub use Rattle.seg_store.specs.WrittenSlots
+pub use Rattle.tm_disk.specs.Disk

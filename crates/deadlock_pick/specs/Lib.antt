@@ -1,3 +1,6 @@
 pub mod Weights
 pub mod Way
 pub mod NoCycles
+pub use Rattle.model_data.specs.Cycle
+pub use Rattle.model_data.specs.PaddedLists
+pub use Rattle.model_data.specs.Table

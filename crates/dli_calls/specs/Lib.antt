@@ -3,3 +3,14 @@ pub mod CallPlan
 pub mod ChangeEdit
 pub mod NamedRecords
 pub mod AlikeCalls
+pub use Rattle.model_data.specs.ChangeCalls
+pub use Rattle.model_data.specs.Conditions
+pub use Rattle.model_data.specs.DatabaseCalls
+pub use Rattle.model_data.specs.Footprint
+pub use Rattle.model_data.specs.GetCalls
+pub use Rattle.model_data.specs.Path
+pub use Rattle.model_data.specs.Row
+pub use Rattle.model_data.specs.Rows
+pub use Rattle.model_data.specs.Search
+pub use Rattle.tm_types.specs.SegTypes
+pub use Rattle.tm_types.specs.Segment

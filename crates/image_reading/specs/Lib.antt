@@ -3,3 +3,11 @@ pub mod RecordParts
 pub mod RecordLayouts
 pub mod ReadSnapshot
 pub mod NamedBytes
+pub use Rattle.image_records.specs.NamedSlots
+pub use Rattle.image_records.specs.RecordAnswers
+pub use Rattle.model_image.specs.Areas
+pub use Rattle.model_image.specs.CutRecords
+pub use Rattle.model_image.specs.RecoveredState
+pub use Rattle.model_image.specs.Text
+pub use Rattle.restart_data.specs.WrittenSectors
+pub use Rattle.tm_disk.specs.Disk

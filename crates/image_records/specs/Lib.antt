@@ -5,3 +5,17 @@ pub mod CutRecords
 pub mod NamedSlots
 pub mod RecordAnswers
 pub mod SnapshotRules
+pub use Rattle.model_image.specs.Counters
+pub use Rattle.model_image.specs.Slots
+pub use Rattle.model_image.specs.Snapshot
+pub use Rattle.model_image.specs.States
+pub use Rattle.model_machine.specs.LastingSteps
+pub use Rattle.model_machine.specs.Machine
+pub use Rattle.model_messages.specs.ConversationInput
+pub use Rattle.model_messages.specs.Outputs
+pub use Rattle.model_messages.specs.Queue
+pub use Rattle.model_messages.specs.Room
+pub use Rattle.model_messages.specs.Terminals
+pub use Rattle.model_system.specs.Lists
+pub use Rattle.restart_data.specs.Rules
+pub use Rattle.tm_types.specs.Segment

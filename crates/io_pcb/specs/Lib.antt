@@ -1,3 +1,9 @@
 pub mod ShownMessage
 pub mod Pads
 pub mod StartedWork
+pub use Rattle.model_messages.specs.MessageCalls
+pub use Rattle.model_messages.specs.MessageWork
+pub use Rattle.model_system.specs.Codes
+pub use Rattle.model_system.specs.Jobs
+pub use Rattle.model_system.specs.Lists
+pub use Rattle.tm_types.specs.Segment

@@ -2,3 +2,16 @@ pub mod RunState
 pub mod CallOutcomes
 pub mod WorkAhead
 pub mod MessageChanges
+pub use Rattle.io_pcb.specs.Pads
+pub use Rattle.log_records.specs.ToldRecords
+pub use Rattle.model_data.specs.Data
+pub use Rattle.model_data.specs.EnqueueRequests
+pub use Rattle.model_machine.specs.Trial
+pub use Rattle.model_messages.specs.MessageCalls
+pub use Rattle.model_system.specs.System
+pub use Rattle.program_rows.specs.CallAnswers
+pub use Rattle.program_rows.specs.DatabasesState
+pub use Rattle.program_rows.specs.SlotsState
+pub use Rattle.system_types.specs.Jobs
+pub use Rattle.system_types.specs.ValidSystem
+pub use Rattle.tm_types.specs.Segment

@@ -5,3 +5,7 @@ pub mod Lines
 pub mod GoodLine
 pub mod Formats
 pub mod BuiltFormat
+pub use Rattle.model_system.specs.FormatRule
+pub use Rattle.text_rows.specs.LowestRule
+pub use Rattle.text_rows.specs.Operands
+pub use Rattle.text_rows.specs.Refusals

@@ -8,3 +8,17 @@ pub mod KeptImage
 pub mod LifeBeginning
 pub mod Faults
 pub mod MadeParts
+pub use Rattle.checkpointing.specs.SpelledRecords
+pub use Rattle.image_records.specs.KeptState
+pub use Rattle.model_machine.specs.Machine
+pub use Rattle.model_messages.specs.Outputs
+pub use Rattle.model_messages.specs.Queue
+pub use Rattle.model_messages.specs.Terminals
+pub use Rattle.restart_data.specs.Restart
+pub use Rattle.restart_data.specs.Snapshot
+pub use Rattle.seg_store.specs.ChangedSlots
+pub use Rattle.seg_store.specs.Slots
+pub use Rattle.seg_store.specs.Stores
+pub use Rattle.system_types.specs.Codes
+pub use Rattle.tm_disk.specs.Disk
+pub use Rattle.tm_disk.specs.Sector

@@ -4,3 +4,4 @@ pub mod Restart
 pub mod Snapshot
 pub mod GatheredBytes
 pub mod WrittenSectors
+pub use Rattle.tm_disk.specs.Disk

@@ -5,3 +5,6 @@ pub mod Statements
 pub mod Values
 pub mod WordLists
 pub mod KeptLines
+pub use Rattle.text_rows.specs.Lines
+pub use Rattle.text_rows.specs.LowestRule
+pub use Rattle.text_rows.specs.Refusals

@@ -3,3 +3,8 @@ pub mod DecodeFault
 pub mod StoreRefused
 pub mod PlainRows
 pub mod NextRecord
+pub use Rattle.model_data.specs.Path
+pub use Rattle.model_data.specs.Record
+pub use Rattle.model_data.specs.Rows
+pub use Rattle.model_data.specs.RowsOfBytes
+pub use Rattle.tm_types.specs.SegTypes

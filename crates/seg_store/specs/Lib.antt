@@ -4,3 +4,8 @@ pub mod Stores
 pub mod DataSectors
 pub mod ChangedSlots
 pub mod WrittenSlots
+pub use Rattle.model_data.specs.Path
+pub use Rattle.model_data.specs.Record
+pub use Rattle.model_data.specs.Rows
+pub use Rattle.seg_rows.specs.StoreRefused
+pub use Rattle.tm_disk.specs.Disk

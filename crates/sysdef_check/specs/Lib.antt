@@ -1,1 +1,2 @@
 pub mod Systems
+pub use Rattle.sysdef_rules.specs.CheckAnswer

@@ -5,3 +5,8 @@ pub mod Parts
 pub mod Jobs
 pub mod Codes
 pub mod Definitions
+pub use Rattle.model_system.specs.FormatRule
+pub use Rattle.model_system.specs.Lists
+pub use Rattle.model_system.specs.System
+pub use Rattle.model_system.specs.SystemFormats
+pub use Rattle.tm_types.specs.Name

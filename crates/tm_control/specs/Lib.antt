@@ -2,3 +2,15 @@ pub mod ControlOnDisk
 pub mod ControlCalls
 pub mod ClosedControl
 pub mod ControlParts
+pub use Rattle.checkpointing.specs.Counts
+pub use Rattle.disk_law.specs.UnitCounts
+pub use Rattle.lasting_state.specs.ShownTerminal
+pub use Rattle.logged_machine.specs.TakenCheckpoint
+pub use Rattle.model_machine.specs.CommandAnswers
+pub use Rattle.model_machine.specs.History
+pub use Rattle.model_machine.specs.Machine
+pub use Rattle.model_machine.specs.MachineCalls
+pub use Rattle.openings.specs.Faults
+pub use Rattle.openings.specs.LifeBeginning
+pub use Rattle.tm_disk.specs.Disk
+pub use Rattle.tm_machine.specs.SlotChanges

@@ -7,3 +7,8 @@ pub mod ReadSources
 pub mod Headline
 pub mod BegunSession
 pub mod SentAgain
+pub use Rattle.model_session.specs.Blocks
+pub use Rattle.model_session.specs.SessionState
+pub use Rattle.session_lives.specs.RunningSession
+pub use Rattle.tm_disk.specs.Disk
+pub use Rattle.tm_edge.specs.Lines
