@@ -35,7 +35,7 @@ module _ (setting : Setting) where
   by_up (Quiet most) old life new text (inl one) h = has new _ one.goes h
   by_up (Quiet most) old life new text (inr one) h = has new _ one.ends (more old.stops one.stop)
   by_up (Power pick) old life new text (same, printed) h = has new _ same h
-  by_up (PowerIn writes pick) old life new text (same, printed) h = has new old same h
+  by_up (PowerIn writes pick) old life new text (same, printed) h = has new _ same h
   by_up Restart old life new text (same, printed) h = has new old same h
   by_up ColdStart old life new text (same, printed) h = has new old same h
 

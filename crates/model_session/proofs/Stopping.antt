@@ -49,8 +49,8 @@ module _ (setting : Setting) where
   by_up (Call call) old life new text (inr one) h = has new _ one.ends (breaking old life _ one.stop)
   by_up (Quiet most) old life new text (inl one) h = has new _ one.goes (going old life one.turns)
   by_up (Quiet most) old life new text (inr one) h = has new _ one.ends (breaking old life _ one.stop)
-  by_up (Power pick) old life new text (same, printed) h = has new _ same (ending old life [])
-  by_up (PowerIn writes pick) old life new text (same, printed) h = has new old same h
+  by_up (Power pick) old life new text (same, printed) h = has new _ same (record { stopped = λ is. cc; unbegun = λ is. cc })
+  by_up (PowerIn writes pick) old life new text (same, printed) h = has new _ same (record { stopped = h.stopped; unbegun = h.unbegun })
   by_up Restart old life new text (same, printed) h = has new old same h
   by_up ColdStart old life new text (same, printed) h = has new old same h
 

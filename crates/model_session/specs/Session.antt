@@ -16,7 +16,7 @@ use Rattle.model_session.specs.Lines.{asked_of}
 use Rattle.model_session.specs.Text.{entry_text, bad_line_text, bad_command_text, stopped_text, broken_text, power_text, armed_text, up_text, down_text, opened_text, image_text}
 use Rattle.model_session.specs.QuietTurns.{IsQuieted, IsBrokenOff, quieted_text, region_behind_turns}
 use Rattle.model_session.specs.Lives.{LastLife, now_in, ends_life, is_disk_fault}
-use Rattle.model_session.specs.SessionState.{Setting, SessionState, Outage, Standing, Stop, no_life, unbegun, life_gone_on, called_on, life_ended, broken, life_opened, failed, IsStateEmptied, IsKnown, MayBeFound, LastAnswered}
+use Rattle.model_session.specs.SessionState.{Setting, SessionState, Outage, Standing, Stop, no_life, unbegun, life_gone_on, called_on, powered_off, armed_with, broken, life_opened, failed, IsStateEmptied, IsKnown, MayBeFound, LastAnswered}
 use Rattle.model_session.specs.SessionState.Standing.{Up, Down}
 
 -- ---- while the system is up
@@ -64,15 +64,15 @@ pub record IsTurnedOff (system : System) (most : ℕ) (old : SessionState) (life
   pub printed : text ≡ broken_text
 
 -- A bad line, and an input that is refused before it is asked for, have a text of their own and no entry. Where power
--- fails the life ends. A restart is refused.
+-- fails the life ends, and the disk is cut with the line's pick; where it is to fail, that is kept. A restart is refused.
 abbrev pub IsServedUp : Asked → Setting → SessionState → LastLife → SessionState → List ℕ → Type 0
 IsServedUp (Bad rule) setting old life new text = (new ≡ old) × (text ≡ bad_line_text rule)
 IsServedUp (BadCommand rule) setting old life new text = (new ≡ old) × (text ≡ bad_command_text rule)
 IsServedUp (Stopped terminal number reason) setting old life new text = (new ≡ old) × (text ≡ stopped_text terminal number reason)
 IsServedUp (Call call) setting old life new text = IsCalled setting.system call old life new text ⊎ IsCallCutOff setting.system call old life new text
 IsServedUp (Quiet most) setting old life new text = IsQuietTurned setting.system most old life new text ⊎ IsTurnedOff setting.system most old life new text
-IsServedUp (Power pick) setting old life new text = (new ≡ life_ended old life []) × (text ≡ power_text)
-IsServedUp (PowerIn writes pick) setting old life new text = (new ≡ old) × (text ≡ armed_text setting.can_arm writes)
+IsServedUp (Power pick) setting old life new text = (new ≡ powered_off old life pick) × (text ≡ power_text)
+IsServedUp (PowerIn writes pick) setting old life new text = (new ≡ armed_with setting.can_arm pick old) × (text ≡ armed_text setting.can_arm writes)
 IsServedUp Restart setting old life new text = (new ≡ old) × (text ≡ up_text)
 IsServedUp ColdStart setting old life new text = (new ≡ old) × (text ≡ up_text)
 

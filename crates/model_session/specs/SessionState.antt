@@ -35,10 +35,17 @@ pub data Standing : Type 0 where
 abbrev pub Stop : Type 0
 Stop = ℕ × ℕ
 
--- A session so far: the lives before the last, the stops, and where it stands.
+-- The picks of a session: the one that is kept for a stop, which is 0 where none is; and those with which the disk was cut so far, one
+-- for each cut.
+pub record Picks : Type 0 where
+  pub kept : ℕ
+  pub cut : List ℕ
+
+-- A session so far: the lives before the last, the stops, the picks, and where it stands.
 pub record SessionState : Type 0 where
   pub lives : List LifeState
   pub stops : List Stop
+  pub picks : Picks
   pub standing : Standing
 
 -- no life has begun
@@ -46,7 +53,24 @@ abbrev pub no_life : Outage
 no_life = record { last = None; emptied = false; stopped = false }
 
 abbrev pub unbegun : SessionState
-unbegun = record { lives = []; stops = []; standing = Down no_life }
+unbegun = record { lives = []; stops = []; picks = record { kept = 0; cut = [] }; standing = Down no_life }
+
+-- A cut takes the pick that was kept for a stop.
+abbrev pub cut_with : ℕ → Picks → Picks
+cut_with pick picks = record { kept = 0; cut = picks.cut ++ pick ∷ [] }
+
+-- a stop is a cut with the pick that was kept for it
+abbrev pub cut_at_stop : Picks → Picks
+cut_at_stop picks = cut_with picks.kept picks
+
+-- a pick is kept for a stop where the disk can be told to stop
+abbrev pub pick_armed : Bool → ℕ → Picks → Picks
+pick_armed true pick picks = record { kept = pick; cut = picks.cut }
+pick_armed false pick picks = picks
+
+-- the disk was told to stop at a write to come, where it can be told so, and all else is as it was
+abbrev pub armed_with : Bool → ℕ → SessionState → SessionState
+armed_with can_arm pick state = record { lives = state.lives; stops = state.stops; picks = pick_armed can_arm pick state.picks; standing = state.standing }
 
 -- the life goes on with these entries
 abbrev pub life_gone_on : SessionState → LastLife → List Entry → SessionState
@@ -56,16 +80,26 @@ life_gone_on state life entries = record state { standing = Up (longer life entr
 abbrev pub life_ended : SessionState → LastLife → List Entry → SessionState
 life_ended state life entries = record state { standing = Down (record { last = Some (longer life entries); emptied = false; stopped = false }) }
 
+-- power failed: the life ended without another entry, and the disk was cut with a pick
+abbrev pub powered_off : SessionState → LastLife → ℕ → SessionState
+powered_off state life pick = record {
+  lives = state.lives;
+  stops = state.stops;
+  picks = cut_with pick state.picks;
+  standing = Down (record { last = Some (longer life []); emptied = false; stopped = false });
+}
+
 -- the life goes on with these entries, or ends with them
 abbrev pub called_on : Bool → SessionState → LastLife → List Entry → SessionState
 called_on false state life entries = life_gone_on state life entries
 called_on true state life entries = life_ended state life entries
 
--- the disk failed, which ended the life with these entries
+-- the disk failed, which ended the life with these entries, and was cut with the pick that was kept
 abbrev pub broken : SessionState → LastLife → List Entry → Stop → SessionState
 broken state life entries stop = record {
   lives = state.lives;
   stops = state.stops ++ stop ∷ [];
+  picks = cut_at_stop state.picks;
   standing = Down (record { last = Some (longer life entries); emptied = false; stopped = true });
 }
 
@@ -74,6 +108,7 @@ abbrev pub life_opened : SessionState → Outage → ℕ → ℕ → LastingStat
 life_opened state outage kept checkpoint opening = record {
   lives = with_life state.lives outage.last kept;
   stops = state.stops;
+  picks = state.picks;
   standing = Up (record { opening = opening; checkpoint = checkpoint; history = [] });
 }
 
@@ -81,11 +116,12 @@ abbrev pub or_cold : Bool → Bool → Bool
 or_cold true emptied = true
 or_cold false emptied = emptied
 
--- the disk failed in an opening; a cold start may have emptied it
+-- the disk failed in an opening, and was cut with the pick that was kept; a cold start may have emptied it
 abbrev pub failed : SessionState → Outage → Bool → Stop → SessionState
 failed state outage cold stop = record {
   lives = state.lives;
   stops = state.stops ++ stop ∷ [];
+  picks = cut_at_stop state.picks;
   standing = Down (record { last = outage.last; emptied = or_cold cold outage.emptied; stopped = true });
 }
 

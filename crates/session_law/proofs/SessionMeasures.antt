@@ -9,7 +9,7 @@ use Rattle.model_session.specs.declared.asked.Asked.TheVariants.{Bad, BadCommand
 use Rattle.model_session.specs.Blocks.{Block}
 use Rattle.model_session.specs.Lines.{asked_of}
 use Rattle.model_session.specs.Lives.{LifeState, LastLife, ends_life, kept_life, with_life}
-use Rattle.model_session.specs.SessionState.{Setting, SessionState, Outage, Standing, Stop, broken, called_on, life_ended, failed, life_gone_on, last_life, no_life, life_opened, unbegun}
+use Rattle.model_session.specs.SessionState.{Setting, SessionState, Outage, Standing, Stop, broken, called_on, powered_off, failed, life_gone_on, last_life, no_life, life_opened, unbegun}
 use Rattle.model_session.specs.SessionState.Standing.{Up, Down}
 use Rattle.model_session.specs.Session.{AreServed, BeginsSession, IsSessionBegun, IsBegunBy, IsRestarted, IsServedDown, IsServedUp, ServedBy}
 use Rattle.session_law.specs.Measures.{last_measure, life_measure, lives_measure, measure, most_measure, most_weight, block_weight}
@@ -37,8 +37,8 @@ called_measure false state life entries = omega (arith, length-append life.histo
 pub gone_measure : (state : SessionState) (life : LastLife) (entries : List Entry) → measure (life_gone_on state life entries) ≡ measure_at state (Up life) + length entries
 gone_measure state life entries = called_measure false state life entries
 
-pub ended_measure : (state : SessionState) (life : LastLife) (entries : List Entry) → measure (life_ended state life entries) ≡ measure_at state (Up life) + length entries
-ended_measure state life entries = called_measure true state life entries
+pub powered_measure : (state : SessionState) (life : LastLife) (pick : ℕ) → measure (powered_off state life pick) ≡ measure_at state (Up life)
+powered_measure state life pick = omega (arith, length-append life.history [])
 
 pub broken_measure : (state : SessionState) (life : LastLife) (entries : List Entry) (stop : Stop) → measure (broken state life entries stop) ≡ measure_at state (Up life) + length entries + 1
 broken_measure state life entries stop = omega (arith, length-append life.history entries, length-append state.stops (stop ∷ []))
@@ -78,8 +78,9 @@ module _ (setting : Setting) (old new : SessionState) (text : List ℕ) where
       risen (measure_at old (Up life)) (measure new) (length h.turns + 2) (most + 1)
       (omega (arith, ap measure h.ends, broken_measure old life (h.turns ++ h.entry ∷ []) h.stop, length-append h.turns (h.entry ∷ []))) (omega (arith, h.begun.few))
   up_rises (Power pick) life stands h =
-      risen (measure_at old (Up life)) (measure new) 0 2 (ap measure h.0 ∙ ended_measure old life []) (omega arith)
-  up_rises (PowerIn writes pick) life stands h = same_rises (Up life) 2 stands h.0
+      risen (measure_at old (Up life)) (measure new) 0 2 (omega (arith, ap measure h.0, powered_measure old life pick)) (omega arith)
+  up_rises (PowerIn writes pick) life stands h =
+      risen (measure_at old (Up life)) (measure new) 0 2 (omega (arith, ap measure h.0, ap (λ s. last_measure (last_life s)) stands)) (omega arith)
   up_rises Restart life stands h = same_rises (Up life) 2 stands h.0
   up_rises ColdStart life stands h = same_rises (Up life) 2 stands h.0
 

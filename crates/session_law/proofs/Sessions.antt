@@ -168,7 +168,7 @@ module _ (P : LastingState â†’ Type 0) (setting : Setting) (kind : ControlCall â
   served_up (Quiet most) old life new text is here has h = by_turns most old life new text has h
   served_up (Power pick) old life new text is here has h =
       same _ new h.0 (down_has (longer life []) false (more P setting.system kind keeps life [] refl (leaving life has)))
-  served_up (PowerIn writes pick) old life new text is here has h = same old new h.0 here
+  served_up (PowerIn writes pick) old life new text is here has h = same _ new h.0 here
   served_up Restart old life new text is here has h = same old new h.0 here
   served_up ColdStart old life new text is here has h = absurd (no is)
     where

@@ -101,7 +101,7 @@ module _ (setting : Setting) (valid : IsSystem setting.system) where
       up_stands (Quiet most) life stands (inl h) at = subst (LivesUpTo setting high) (sym h.goes) at
       up_stands (Quiet most) life stands (inr h) at = subst (LivesUpTo setting high) (sym h.ends) at
       up_stands (Power pick) life stands h at = subst (LivesUpTo setting high) (sym h.0) at
-      up_stands (PowerIn writes pick) life stands h at = same_stands old new (Up life) stands h.0 at
+      up_stands (PowerIn writes pick) life stands h at = subst (LivesUpTo setting high) (sym h.0) (subst (At old) (sym stands) at)
       up_stands Restart life stands h at = same_stands old new (Up life) stands h.0 at
       up_stands ColdStart life stands h at = same_stands old new (Up life) stands h.0 at
 

@@ -22,7 +22,7 @@ use Rattle.session_lives.specs.declared.place.Place.TheVariants.{Up as StandsAt}
 use Rattle.session_lives.specs.declared.place.Kept.{Kept}
 use Rattle.session_lives.specs.declared.place.Session.{Session}
 use Rattle.session_lives.specs.ControlCounts.{KeepsPace}
-use Rattle.session_lives.specs.AskedControl.{IsAsked, StaysBy, Undoes}
+use Rattle.session_lives.specs.AskedControl.{IsAsked, StaysBy, Undoes, pick_by}
 use Rattle.session_lives.specs.RunningSession.{session_at, session_of, session_up, session_down, session_setting, IsUpReady, IsSessionReady, IsReadyAt, IsSoundAt, Leads, LeadsBy}
 use Rattle.session_lives.specs.Openings.{IsEndable, IsAloneBy, IsCallSettled, IsServedSo}
 use Rattle.session_lives.proofs.Leading.{leads_same}
@@ -82,35 +82,37 @@ module _ {D : Type 0} (state : D → DiskState) (block : Block) (text : List ℕ
   pub block_up : (control : ControlOnDisk D) (kept : Kept) (session : Session D) (asked : Asked) (served : Served) → asked ≡ asked_of control.control.system block
       → Leads state (λ setting old new. IsServedSo asked text served setting old new) (session_up control kept) session
       → Leads state (λ setting old new. IsServedSo (asked_of setting.system block) text served setting old new) (session_up control kept) session
-  block_up control kept session asked served is leads = λ system source handed sound.
-      let led : LeadsBy state (λ setting old new. IsServedSo (asked_of system block) text served setting old new) system source handed (session_up control kept) session =
-      subst (λ (a : Asked). LeadsBy state (λ setting old new. IsServedSo a text served setting old new) system source handed (session_up control kept) session)
-      (is ∙ ap (λ s. asked_of s block) sound.system_is) (leads system source handed sound) in
-      record { goes = led.goes; sound = led.sound }
+  block_up control kept session asked served is leads = λ system source handed cut sound.
+      let led : LeadsBy state (λ setting old new. IsServedSo (asked_of system block) text served setting old new) system source handed cut (session_up control kept) session =
+      subst (λ (a : Asked). LeadsBy state (λ setting old new. IsServedSo a text served setting old new) system source handed cut (session_up control kept) session)
+      (is ∙ ap (λ s. asked_of s block) sound.system_is) (leads system source handed cut sound) in
+      record { cut_now = led.cut_now; goes = led.goes; sound = led.sound }
 
   pub block_down : (idle : Idle D) (kept : Kept) (session : Session D) (asked : Asked) (served : Served) → asked ≡ asked_of idle.system block
       → Leads state (λ setting old new. IsServedSo asked text served setting old new) (session_down idle kept) session
       → Leads state (λ setting old new. IsServedSo (asked_of setting.system block) text served setting old new) (session_down idle kept) session
-  block_down idle kept session asked served is leads = λ system source handed sound.
-      let led : LeadsBy state (λ setting old new. IsServedSo (asked_of system block) text served setting old new) system source handed (session_down idle kept) session =
-      subst (λ (a : Asked). LeadsBy state (λ setting old new. IsServedSo a text served setting old new) system source handed (session_down idle kept) session)
-      (is ∙ ap (λ s. asked_of s block) sound.system_is) (leads system source handed sound) in
-      record { goes = led.goes; sound = led.sound }
+  block_down idle kept session asked served is leads = λ system source handed cut sound.
+      let led : LeadsBy state (λ setting old new. IsServedSo (asked_of system block) text served setting old new) system source handed cut (session_down idle kept) session =
+      subst (λ (a : Asked). LeadsBy state (λ setting old new. IsServedSo a text served setting old new) system source handed cut (session_down idle kept) session)
+      (is ∙ ap (λ s. asked_of s block) sound.system_is) (leads system source handed cut sound) in
+      record { cut_now = led.cut_now; goes = led.goes; sound = led.sound }
 
   -- ---- of a session that was up
 
   pub served_at : (a b : ControlOnDisk D) (before : Session D) (kept : Kept) (session : Session D) (called : Called) (served : Served) → before.place ≡ StandsAt a
-      → StaysBy state (asked_of a.control.system block) called a b → kept.lives ≡ before.kept.lives → kept.stops ≡ before.kept.stops → KeepsPace state a b
+      → StaysBy state (asked_of a.control.system block) called a b → kept.lives ≡ before.kept.lives → kept.stops ≡ before.kept.stops
+      → kept.pick ≡ pick_by (asked_of a.control.system block) called (state a.disk).can_arm before.kept.pick → KeepsPace state a b
       → IsAsked state (asked_of a.control.system block) a b text called → IsCallSettled state (session_up b kept) called session served
       → Leads state (λ setting x y. IsServedSo (asked_of setting.system block) text served setting x y) before session
-  served_at a b before kept session called served is stays lives stops pace asked settled = λ system source handed sound.
-      let led : LeadsBy state (λ setting x y. IsServedSo (asked_of setting.system block) text served setting x y) system source handed (session_up a before.kept) session =
+  served_at a b before kept session called served is stays lives stops pick pace asked settled = λ system source handed cut sound.
+      let led : LeadsBy state (λ setting x y. IsServedSo (asked_of setting.system block) text served setting x y) system source handed cut (session_up a before.kept) session =
       block_up a before.kept session (asked_of a.control.system block) served refl
-      (λ system source handed sound.
-      served_up state system source handed a b before.kept kept session text sound (same_by state (asked_of a.control.system block) called a b stays) lives stops pace (asked_of a.control.system block) called served asked settled)
-      system source handed (subst (λ p. IsSoundAt state system source handed p before.kept) is sound) in
+      (λ system source handed cut sound.
+      served_up state system source handed cut a b before.kept kept session text sound (same_by state (asked_of a.control.system block) called a b stays) lives stops pace (asked_of a.control.system block) called served asked pick settled)
+      system source handed cut (subst (λ p. IsSoundAt state system source handed cut p before.kept) is sound) in
       record {
-        goes = subst (λ p. IsServedSo (asked_of system block) text served (session_setting state system source handed) (session_at p before.kept) (session_of session)) (sym is) led.goes;
+        cut_now = led.cut_now;
+        goes = subst (λ p. IsServedSo (asked_of system block) text served (session_setting state system source handed) (session_at cut p before.kept) (session_of led.cut_now session)) (sym is) led.goes;
         sound = led.sound;
       }
 

@@ -20,7 +20,7 @@ use Rattle.session_law.specs.Measures.{call_raises, last_measure, lives_measure,
 use Rattle.openings.specs.FirstImage.{sectors_needed}
 use Rattle.disk_law.specs.KeptImages.{RecoversEither}
 use Rattle.model_session.specs.Lives.{LifeState, LastLife, last_told, last_number, AreLegal, HasAnswered, LifeLeaves, is_disk_fault, longer}
-use Rattle.model_session.specs.SessionState.{Standing, Outage, SessionState, Stop, AreStops, LastAnswered, IsStateLeft, IsKnown, life_gone_on, life_ended, broken}
+use Rattle.model_session.specs.SessionState.{Standing, Outage, Picks, SessionState, Stop, AreStops, LastAnswered, IsStateLeft, IsKnown, life_gone_on, broken}
 use Rattle.model_session.specs.SessionState.Standing.{Up as StandsUp, Down as StandsDown}
 use Rattle.tm_control.specs.ControlOnDisk.{ControlOnDisk, LastsBy, last_checked, lasting_after_entries}
 use Rattle.openings.specs.declared.life.Life.{Life}
@@ -29,18 +29,23 @@ use Rattle.session_lives.specs.declared.place.Place.TheVariants.{Up, Down}
 use Rattle.session_lives.specs.declared.place.Kept.{Kept}
 use Rattle.session_lives.specs.RunningSession.{life_of, last_life_of, last_up, kept_steps, outage_of, session_at, session_setting, CountsDown, CountsFirst, HoldsSession, IsDownSound}
 use Rattle.session_lives.specs.ControlCounts.{CountsUp}
+use Rattle.session_lives.specs.DiskCuts.{AreCuts}
 use Rattle.session_lives.specs.Openings.{GoesDown}
 use Rattle.session_lives.proofs.Asked.{disk_fault_is, fault_is}
 use Rattle.model_session.proofs.Ending.{answered_end, faulted_end}
 
 -- ---- states of a session
 
-abbrev pub state_with : List LifeState → List Stop → Standing → SessionState
-state_with lives stops standing = record { lives = lives; stops = stops; standing = standing }
+abbrev pub state_with : List LifeState → List Stop → Picks → Standing → SessionState
+state_with lives stops picks standing = record { lives = lives; stops = stops; picks = picks; standing = standing }
 
-pub same_state : (lives lives' : List LifeState) (stops stops' : List Stop) (standing standing' : Standing) → lives' ≡ lives → stops' ≡ stops → standing' ≡ standing
-    → state_with lives' stops' standing' ≡ state_with lives stops standing
-same_state lives lives' stops stops' standing standing' a b c = ap (λ l. state_with l stops' standing') a ∙ ap (λ s. state_with lives s standing') b ∙ ap (state_with lives stops) c
+pub same_state : (lives lives' : List LifeState) (stops stops' : List Stop) (picks picks' : Picks) (standing standing' : Standing) → lives' ≡ lives → stops' ≡ stops → picks' ≡ picks
+    → standing' ≡ standing → state_with lives' stops' picks' standing' ≡ state_with lives stops picks standing
+same_state lives lives' stops stops' picks picks' standing standing' a b c d =
+    ap (λ l. state_with l stops' picks' standing') a ∙ ap (λ s. state_with lives s picks' standing') b ∙ ap (λ p. state_with lives stops p standing') c ∙ ap (state_with lives stops picks) d
+
+abbrev pub picks_with : List ℕ → ℕ → Picks
+picks_with cut kept = record { kept = kept; cut = cut }
 
 abbrev pub life_with : LastingState → ℕ → List Entry → LastLife
 life_with opening number history = record { opening = opening; checkpoint = number; history = history }
@@ -50,26 +55,28 @@ pub same_life : (opening opening' : LastingState) (number number' : ℕ) (histor
 same_life opening opening' number number' history history' a n b =
     ap (λ o. life_with o number' history') a ∙ ap (λ k. life_with opening k history') n ∙ ap (life_with opening number) b
 
-abbrev down_with : LastLife → Bool → Standing
+abbrev pub down_with : LastLife → Bool → Standing
 down_with life stopped = StandsDown (record { last = Some life; emptied = false; stopped = stopped })
 
 same_kept : (old new : Kept) → new.lives ≡ old.lives → map life_of new.lives.items ≡ map life_of old.lives.items
 same_kept old new e = ap (λ v. map life_of v.items) e
 
 -- the life goes on
-pub up_state : {D : Type 0} (a b : ControlOnDisk D) (old new : Kept) (entries : List Entry) → b.control.opening ≡ a.control.opening → b.checkpoint ≡ a.checkpoint
-    → b.control.history ≡ a.control.history ++ entries → new.lives ≡ old.lives → new.stops ≡ old.stops
-    → session_at (Up b) new ≡ life_gone_on (session_at (Up a) old) (last_up a) entries
-up_state a b old new entries opening number history lives stops =
-    same_state (map life_of old.lives.items) (map life_of new.lives.items) old.stops.items new.stops.items (StandsUp (longer (last_up a) entries)) (StandsUp (last_up b))
-    (same_kept old new lives) (ap (λ v. v.items) stops)
+pub up_state : {D : Type 0} (cut : List ℕ) (a b : ControlOnDisk D) (old new : Kept) (entries : List Entry) → b.control.opening ≡ a.control.opening → b.checkpoint ≡ a.checkpoint
+    → b.control.history ≡ a.control.history ++ entries → new.lives ≡ old.lives → new.stops ≡ old.stops → new.pick ≡ old.pick
+    → session_at cut (Up b) new ≡ life_gone_on (session_at cut (Up a) old) (last_up a) entries
+up_state cut a b old new entries opening number history lives stops pick =
+    same_state (map life_of old.lives.items) (map life_of new.lives.items) old.stops.items new.stops.items (picks_with cut old.pick) (picks_with cut new.pick)
+    (StandsUp (longer (last_up a) entries)) (StandsUp (last_up b)) (same_kept old new lives) (ap (λ v. v.items) stops) (ap (picks_with cut) pick)
     (ap StandsUp (same_life a.control.opening b.control.opening a.checkpoint b.checkpoint (a.control.history ++ entries) b.control.history opening number history))
 
-pub same_up : {D : Type 0} (a b : ControlOnDisk D) (old new : Kept) → b.control.opening ≡ a.control.opening → b.checkpoint ≡ a.checkpoint
-    → b.control.history ≡ a.control.history → new.lives ≡ old.lives → new.stops ≡ old.stops → session_at (Up b) new ≡ session_at (Up a) old
-same_up a b old new opening number history lives stops =
-    same_state (map life_of old.lives.items) (map life_of new.lives.items) old.stops.items new.stops.items (StandsUp (last_up a)) (StandsUp (last_up b))
-    (same_kept old new lives) (ap (λ v. v.items) stops)
+-- it stands as it did, and these are its picks
+pub up_with : {D : Type 0} (cut : List ℕ) (a b : ControlOnDisk D) (old new : Kept) (picks : Picks) → b.control.opening ≡ a.control.opening → b.checkpoint ≡ a.checkpoint
+    → b.control.history ≡ a.control.history → new.lives ≡ old.lives → new.stops ≡ old.stops → picks_with cut new.pick ≡ picks
+    → session_at cut (Up b) new ≡ state_with (map life_of old.lives.items) old.stops.items picks (StandsUp (last_up a))
+up_with cut a b old new picks opening number history lives stops same =
+    same_state (map life_of old.lives.items) (map life_of new.lives.items) old.stops.items new.stops.items picks (picks_with cut new.pick)
+    (StandsUp (last_up a)) (StandsUp (last_up b)) (same_kept old new lives) (ap (λ v. v.items) stops) same
     (ap StandsUp (same_life a.control.opening b.control.opening a.checkpoint b.checkpoint a.control.history b.control.history opening number history))
 
 -- it ended
@@ -92,20 +99,24 @@ module _ {D : Type 0} (state : D → DiskState) where
       (down.closes.history ∙ history))
       down.emptied down.stopped_is
 
-  pub ended_state : (a c : ControlOnDisk D) (old kept new : Kept) (idle : Idle D) (entries : List Entry) → GoesDown state c kept new false idle → kept.lives ≡ old.lives → kept.stops ≡ old.stops
-      → c.control.opening ≡ a.control.opening → c.checkpoint ≡ a.checkpoint → c.control.history ≡ a.control.history ++ entries → session_at (Down idle) new ≡ life_ended (session_at (Up a) old) (last_up a) entries
-  ended_state a c old kept new idle entries down lives stops opening number history =
-      same_state (map life_of old.lives.items) (map life_of new.lives.items) old.stops.items new.stops.items (down_with (longer (last_up a) entries) false) (StandsDown (outage_of idle))
-      (same_kept old new (down.lives ∙ lives)) (down.stops ∙ append-nil kept.stops.items ∙ ap (λ v. v.items) stops)
+  -- without a fault, and these are the picks then
+  pub ended_state : (cut : List ℕ) (a c : ControlOnDisk D) (old kept new : Kept) (picks : Picks) (idle : Idle D) (entries : List Entry) → GoesDown state c kept new false idle → kept.lives ≡ old.lives
+      → kept.stops ≡ old.stops → picks_with cut new.pick ≡ picks → c.control.opening ≡ a.control.opening → c.checkpoint ≡ a.checkpoint → c.control.history ≡ a.control.history ++ entries
+      → session_at cut (Down idle) new ≡ state_with (map life_of old.lives.items) old.stops.items picks (down_with (longer (last_up a) entries) false)
+  ended_state cut a c old kept new picks idle entries down lives stops same opening number history =
+      same_state (map life_of old.lives.items) (map life_of new.lives.items) old.stops.items new.stops.items picks (picks_with cut new.pick)
+      (down_with (longer (last_up a) entries) false) (StandsDown (outage_of idle))
+      (same_kept old new (down.lives ∙ lives)) (down.stops ∙ append-nil kept.stops.items ∙ ap (λ v. v.items) stops) same
       (ap StandsDown (outage_is c kept new false idle (longer (last_up a) entries) down opening number history))
 
-  pub broken_state : (a c : ControlOnDisk D) (old kept new : Kept) (idle : Idle D) (entries : List Entry) → (down : GoesDown state c kept new true idle) → kept.lives ≡ old.lives → kept.stops ≡ old.stops
-      → c.control.opening ≡ a.control.opening → c.checkpoint ≡ a.checkpoint → c.control.history ≡ a.control.history ++ entries
-      → session_at (Down idle) new ≡ broken (session_at (Up a) old) (last_up a) entries (c.began, (state down.disk).faults)
-  broken_state a c old kept new idle entries down lives stops opening number history =
+  -- by a stop, which is cut with the pick that was kept
+  pub broken_state : (cut : List ℕ) (a c : ControlOnDisk D) (old kept new : Kept) (idle : Idle D) (entries : List Entry) → (down : GoesDown state c kept new true idle) → kept.lives ≡ old.lives
+      → kept.stops ≡ old.stops → new.pick ≡ 0 → c.control.opening ≡ a.control.opening → c.checkpoint ≡ a.checkpoint → c.control.history ≡ a.control.history ++ entries
+      → session_at (cut ++ old.pick ∷ []) (Down idle) new ≡ broken (session_at cut (Up a) old) (last_up a) entries (c.began, (state down.disk).faults)
+  broken_state cut a c old kept new idle entries down lives stops taken opening number history =
       same_state (map life_of old.lives.items) (map life_of new.lives.items) (old.stops.items ++ (c.began, (state down.disk).faults) ∷ []) new.stops.items
-      (down_with (longer (last_up a) entries) true) (StandsDown (outage_of idle))
-      (same_kept old new (down.lives ∙ lives)) (down.stops ∙ ap (λ v. v.items ++ (c.began, (state down.disk).faults) ∷ []) stops)
+      (picks_with (cut ++ old.pick ∷ []) 0) (picks_with (cut ++ old.pick ∷ []) new.pick) (down_with (longer (last_up a) entries) true) (StandsDown (outage_of idle))
+      (same_kept old new (down.lives ∙ lives)) (down.stops ∙ ap (λ v. v.items ++ (c.began, (state down.disk).faults) ∷ []) stops) (ap (picks_with (cut ++ old.pick ∷ [])) taken)
       (ap StandsDown (outage_is c kept new true idle (longer (last_up a) entries) down opening number history))
 
 -- ---- counts
@@ -216,7 +227,7 @@ module _ {D : Type 0} (state : D → DiskState) (system : System) (source : List
   numbered_by false image lasts left = numbered_in system c.checkpoint c.control.history image (subst (λ s. IsNumberedFrom s (last_checked c.checkpoint c.control.history) image) system_is (lasts.numbered image left))
 
   -- the end of a life undoes nothing of what it has done
-  down_measure : (old new : Kept) (stopped : Bool) (idle : Idle D) → GoesDown state c old new stopped idle → measure (session_at (Up c) old) ≤ measure (session_at (Down idle) new)
+  down_measure : (old new : Kept) (stopped : Bool) (idle : Idle D) → GoesDown state c old new stopped idle → measure (session_at [] (Up c) old) ≤ measure (session_at [] (Down idle) new)
   down_measure old new stopped idle down =
       let lives : lives_measure (map life_of new.lives.items) ≡ lives_measure (map life_of old.lives.items) = ap lives_measure (same_kept old new down.lives) in
       let last : last_measure (option_map last_life_of idle.last) ≡ length down.life.history + 1 = ap (λ (l : Option Life). last_measure (option_map last_life_of l)) down.last in
@@ -225,19 +236,19 @@ module _ {D : Type 0} (state : D → DiskState) (system : System) (source : List
       ap (λ (s : List Stop). length s) down.stops ∙ length-append old.stops.items (if stopped then (c.began, (state down.disk).faults) ∷ [] else []) in
       omega (arith, lives, last, long, stops)
 
-  down_counts : (old new : Kept) (stopped : Bool) (idle : Idle D) → GoesDown state c old new stopped idle → (high : ℕ) → CountsUp state (high + call_raises * measure (session_at (Up c) old)) c
-      → CountsDown system (high + call_raises * measure (session_at (Down idle) new)) (state idle.disk)
+  down_counts : (old new : Kept) (stopped : Bool) (idle : Idle D) → GoesDown state c old new stopped idle → (high : ℕ) → CountsUp state (high + call_raises * measure (session_at [] (Up c) old)) c
+      → CountsDown system (high + call_raises * measure (session_at [] (Down idle) new)) (state idle.disk)
   down_counts old new stopped idle down high h image left =
-      up_to_more system (high + call_raises * measure (session_at (Up c) old)) (high + call_raises * measure (session_at (Down idle) new)) image (omega (arith, down_measure old new stopped idle down))
-      (subst (λ (s : System). CountsUpTo s (high + call_raises * measure (session_at (Up c) old)) image) system_is
+      up_to_more system (high + call_raises * measure (session_at [] (Up c) old)) (high + call_raises * measure (session_at [] (Down idle) new)) image (omega (arith, down_measure old new stopped idle down))
+      (subst (λ (s : System). CountsUpTo s (high + call_raises * measure (session_at [] (Up c) old)) image) system_is
       (h.images image (subst (λ d. (state d).may_leave image) down.closes.disk_is (down.laid.no_more image left))))
 
   -- a life that has ended leaves all sound
-  pub down_sound : Only (state handed).shown (state handed) → c.text ≡ source → sectors_needed system ≤ (state handed).size → (old new : Kept) (stopped : Bool) (idle : Idle D)
-      → GoesDown state c old new stopped idle → IsSameDisk (state handed) (state c.disk)
+  pub down_sound : Only (state handed).shown (state handed) → c.text ≡ source → sectors_needed system ≤ (state handed).size → (cut : List ℕ) (old new : Kept) (stopped : Bool) (idle : Idle D)
+      → AreCuts state cut handed idle.disk → GoesDown state c old new stopped idle → IsSameDisk (state handed) (state c.disk)
       → AreLegal system (map life_of old.lives.items) → AreStops (state handed).faults new.stops.items (state c.disk).faults
-      → IsSystem system → ((high : ℕ) → CountsFirst system high (state handed) → CountsUp state (high + call_raises * measure (session_at (Up c) old)) c) → IsDownSound state system source handed idle new
-  down_sound alone text_is size old new stopped idle down same legal stops valid counts =
+      → IsSystem system → ((high : ℕ) → CountsFirst system high (state handed) → CountsUp state (high + call_raises * measure (session_at [] (Up c) old)) c) → IsDownSound state system source handed cut idle new
+  down_sound alone text_is size cut old new stopped idle cuts down same legal stops valid counts =
       let disk : IsSameDisk (state handed) (state down.disk) = subst (λ d. IsSameDisk (state handed) (state d)) (sym down.closes.disk_is) same in
       let faults : (state idle.disk).faults ≡ (state c.disk).faults = down.laid.faults ∙ ap (λ d. (state d).faults) down.closes.disk_is in
       let outage : outage_of idle ≡ outage_with (Some (last_up c)) false stopped = outage_is state c old new stopped idle (last_up c) down refl refl refl in
@@ -265,6 +276,7 @@ module _ {D : Type 0} (state : D → DiskState) (system : System) (source : List
             (numbered_by c.up image down.lasts (subst (λ d. (state d).may_leave image) down.closes.disk_is (down.laid.no_more image left))));
         valid = valid;
         counts = λ high first. down_counts old new stopped idle down high (counts high first);
+        cuts = cuts;
       }
 
   -- a stop begins where the one before it had ended

@@ -1,4 +1,5 @@
 pub mod Counting
+pub mod Cutting
 pub mod Asked
 pub mod Replies
 pub mod Turned

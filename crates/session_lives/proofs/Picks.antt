@@ -34,7 +34,7 @@ pick_undone (PowerIn writes pick) can picked = refl
 pick_undone Restart can picked = refl
 pick_undone ColdStart can picked = refl
 
-pick_spent : (asked : Asked) (can : Bool) (picked : ℕ) → pick_by asked Spent can picked ≡ picked
+pub pick_spent : (asked : Asked) (can : Bool) (picked : ℕ) → pick_by asked Spent can picked ≡ picked
 pick_spent (Bad rule) can picked = refl
 pick_spent (BadCommand rule) can picked = refl
 pick_spent (Stopped terminal number reason) can picked = refl
@@ -44,6 +44,17 @@ pick_spent (AskedPower pick) can picked = refl
 pick_spent (PowerIn writes pick) can picked = refl
 pick_spent Restart can picked = refl
 pick_spent ColdStart can picked = refl
+
+pub pick_broke : (asked : Asked) (can : Bool) (picked : ℕ) → pick_by asked Broke can picked ≡ picked
+pick_broke (Bad rule) can picked = refl
+pick_broke (BadCommand rule) can picked = refl
+pick_broke (Stopped terminal number reason) can picked = refl
+pick_broke (Call call) can picked = refl
+pick_broke (Quiet most) can picked = refl
+pick_broke (AskedPower pick) can picked = refl
+pick_broke (PowerIn writes pick) can picked = refl
+pick_broke Restart can picked = refl
+pick_broke ColdStart can picked = refl
 
 module _ {D : Type 0} (state : D → DiskState) (a b : ControlOnDisk D) (kept : Kept) (session : Session D) (text : List ℕ) where
   pick_done : (asked : Asked) (can : Bool) (picked : ℕ) → DoesAsked state asked a b text → pick_by asked Answered can picked ≡ pick_up Printed asked can picked

@@ -55,7 +55,8 @@ use Rattle.session_lives.specs.ControlCounts.{CountsUp}
 use Rattle.session_lives.proofs.Counting.{stands_more}
 use Rattle.session_lives.proofs.Told.{told_text, one_restart, no_restart}
 use Rattle.session_lives.specs.Openings.{how_of, life_kept_by, with_last_life, HasOpened, StaysIdle, HasFailed, HasGone, RefusesSpent, IsOpeningTold, IsRefusalTold, IsRestartedSo, IsLookedAt, CountsOn, UndoneBy, IsServedSo, asked_restart}
-use Rattle.session_lives.proofs.Ends.{same_state, outage_with, life_with, same_life, stops_one, rose_from}
+use Rattle.session_lives.proofs.Ends.{picks_with, same_state, outage_with, life_with, same_life, stops_one, rose_from}
+use Rattle.session_lives.proofs.Cutting.{cuts_stay, cuts_one, uncut_stays}
 
 some_is : (a b : Bool) → Some b ≡ Some a → a ≡ b
 some_is a b e = cc
@@ -123,10 +124,22 @@ legal_with system (first ∷ lives) None answered kept legal is = legal
 legal_with system [] (Some life) answered kept legal is = (is.life_is, tt)
 legal_with system (first ∷ lives) (Some life) answered kept legal is = (legal.0, legal_with system lives (Some life) answered kept legal.1 is)
 
-module _ {D : Type 0} (state : D → DiskState) (is_disk : (disk : D) → IsDisk (state disk)) (system : System) (source : List ℕ) (handed : D) (idle : Idle D) (old : Kept) (session : Session D)
-    (sound : IsDownSound state system source handed idle old) where
+-- the picks with which the disk was cut behind an opening: where it failed, also with the one that was kept
+abbrev pub cut_opening : List ℕ → Kept → Opening → List ℕ
+cut_opening cut old Opened = cut
+cut_opening cut old OpeningBroke = cut ++ old.pick ∷ []
+cut_opening cut old (Refused refusal) = cut
+cut_opening cut old OpeningMemory = cut
+cut_opening cut old OpeningSpent = cut
+
+module _ {D : Type 0} (state : D → DiskState) (is_disk : (disk : D) → IsDisk (state disk)) (system : System) (source : List ℕ) (handed : D) (cut : List ℕ) (idle : Idle D) (old : Kept) (session : Session D)
+    (sound : IsDownSound state system source handed cut idle old) where
   abbrev before : SessionState
-  before = session_at (Down idle) old
+  before = session_at cut (Down idle) old
+
+  -- the picks with which the disk was cut where it failed
+  abbrev cut_failed : List ℕ
+  cut_failed = cut ++ old.pick ∷ []
 
   abbrev setting : Setting
   setting = session_setting state system source handed
@@ -225,35 +238,35 @@ module _ {D : Type 0} (state : D → DiskState) (is_disk : (disk : D) → IsDisk
   sectors_there : sectors_needed idle.system ≤ (state idle.disk).size → sectors_needed system ≤ (state handed).size
   sectors_there enough = subst (λ n. sectors_needed system ≤ n) sound.same.size (subst (λ s. sectors_needed s ≤ (state idle.disk).size) sound.system_is enough)
 
-  opened_state : (cold : Bool) (gone : HasOpened state idle old cold session) → session_of session ≡ life_opened before outage (count_of idle.last cold gone.control.control.opening.steps) gone.control.checkpoint gone.control.control.opening
+  opened_state : (cold : Bool) (gone : HasOpened state idle old cold session) → session_of cut session ≡ life_opened before outage (count_of idle.last cold gone.control.control.opening.steps) gone.control.checkpoint gone.control.control.opening
   opened_state cold gone =
-      ap (λ p. session_at p session.kept) gone.place
+      ap (λ p. session_at cut p session.kept) gone.place
       ∙ same_state (with_life (map life_of old.lives.items) outage.last (count_of idle.last cold gone.control.control.opening.steps)) (map life_of session.kept.lives.items)
-      old.stops.items session.kept.stops.items (StandsUp (life_with gone.control.control.opening gone.control.checkpoint [])) (StandsUp (last_up gone.control))
-      (ap (map life_of) gone.lives ∙ lives_with old.lives.items idle.last cold gone.control.control.opening.steps) gone.stops
+      old.stops.items session.kept.stops.items (picks_with cut old.pick) (picks_with cut session.kept.pick) (StandsUp (life_with gone.control.control.opening gone.control.checkpoint [])) (StandsUp (last_up gone.control))
+      (ap (map life_of) gone.lives ∙ lives_with old.lives.items idle.last cold gone.control.control.opening.steps) gone.stops (ap (picks_with cut) gone.pick)
       (ap StandsUp (same_life gone.control.control.opening gone.control.control.opening gone.control.checkpoint gone.control.checkpoint [] gone.control.control.history refl refl gone.opens.history))
 
-  opened_measured : (cold : Bool) (gone : HasOpened state idle old cold session) → measure (session_at (Up gone.control) session.kept) ≡ measure before + 1
+  opened_measured : (cold : Bool) (gone : HasOpened state idle old cold session) → measure (session_at cut (Up gone.control) session.kept) ≡ measure before + 1
   opened_measured cold gone =
-      ap measure (sym (ap (λ p. session_at p session.kept) gone.place) ∙ opened_state cold gone)
+      ap measure (sym (ap (λ p. session_at cut p session.kept) gone.place) ∙ opened_state cold gone)
       ∙ opened_measure before outage (count_of idle.last cold gone.control.control.opening.steps) gone.control.checkpoint gone.control.control.opening
 
   opened_counts : (cold : Bool) (gone : HasOpened state idle old cold session) (high : ℕ) → CountsFirst system high (state handed)
-      → CountsUp state (high + call_raises * measure (session_at (Up gone.control) session.kept)) gone.control
+      → CountsUp state (high + call_raises * measure (session_at cut (Up gone.control) session.kept)) gone.control
   opened_counts cold gone high first =
-      let more : bound high + 1 ≤ high + call_raises * measure (session_at (Up gone.control) session.kept) = omega (arith, opened_measured cold gone) in
+      let more : bound high + 1 ≤ high + call_raises * measure (session_at cut (Up gone.control) session.kept) = omega (arith, opened_measured cold gone) in
       record {
         own = λ up.
-            stands_more (bound high + 1) (high + call_raises * measure (session_at (Up gone.control) session.kept)) gone.control.journal gone.control.next_unit more
+            stands_more (bound high + 1) (high + call_raises * measure (session_at cut (Up gone.control) session.kept)) gone.control.journal gone.control.next_unit more
             (gone.stands (bound high) (λ found. tells_now first.tells) (λ found. shown_counts high first));
         images = λ image left.
-            subst (λ (s : System). CountsUpTo s (high + call_raises * measure (session_at (Up gone.control) session.kept)) image) (sym (gone.opens.system_is ∙ sound.system_is))
-            (up_to_more system (bound high + 1) (high + call_raises * measure (session_at (Up gone.control) session.kept)) image more (raised gone.control.disk gone.counts high first image left));
+            subst (λ (s : System). CountsUpTo s (high + call_raises * measure (session_at cut (Up gone.control) session.kept)) image) (sym (gone.opens.system_is ∙ sound.system_is))
+            (up_to_more system (bound high + 1) (high + call_raises * measure (session_at cut (Up gone.control) session.kept)) image more (raised gone.control.disk gone.counts high first image left));
       }
 
-  opened_sound : (cold : Bool) → HasOpened state idle old cold session → IsSessionSound state system source handed session
+  opened_sound : (cold : Bool) → HasOpened state idle old cold session → IsSessionSound state system source handed cut session
   opened_sound cold gone =
-      subst (λ p. IsSoundAt state system source handed p session.kept) (sym gone.place) (record {
+      subst (λ p. IsSoundAt state system source handed cut p session.kept) (sym gone.place) (record {
         handed_alone = sound.handed_alone;
         system_is = gone.opens.system_is ∙ sound.system_is;
         text_is = gone.opens.text_is ∙ sound.text_is;
@@ -266,6 +279,7 @@ module _ {D : Type 0} (state : D → DiskState) (is_disk : (disk : D) → IsDisk
             (legal_with system (map life_of old.lives.items) outage.last (kept_steps idle.last) (count_of idle.last cold gone.control.control.opening.steps) sound.legal sound.answered);
         valid = sound.valid;
         counts = opened_counts cold gone;
+        cuts = cuts_stay state cut handed idle.disk gone.control.disk sound.cuts (uncut_stays (state idle.disk) (state gone.control.disk) gone.opens.stays);
       })
 
   -- ---- the disk failed
@@ -275,12 +289,12 @@ module _ {D : Type 0} (state : D → DiskState) (is_disk : (disk : D) → IsDisk
   outage_after after emptied stopped last e t =
       ap (λ l. outage_with (option_map last_life_of l) after.emptied after.stopped) last ∙ ap (λ b. outage_with outage.last b after.stopped) e ∙ ap (outage_with outage.last emptied) t
 
-  failed_state : (cold : Bool) (gone : HasFailed state idle old cold session) → session_of session ≡ failed before outage cold ((state idle.disk).faults, (state gone.disk).faults)
+  failed_state : (cold : Bool) (gone : HasFailed state idle old cold session) → session_of cut_failed session ≡ failed before outage cold ((state idle.disk).faults, (state gone.disk).faults)
   failed_state cold gone =
-      ap (λ p. session_at p session.kept) gone.place
+      ap (λ p. session_at cut_failed p session.kept) gone.place
       ∙ same_state (map life_of old.lives.items) (map life_of session.kept.lives.items) (old.stops.items ++ ((state idle.disk).faults, (state gone.disk).faults) ∷ []) session.kept.stops.items
-      (StandsDown (outage_with outage.last (or_cold cold outage.emptied) true)) (StandsDown (outage_of gone.after))
-      (ap (map life_of) gone.lives) gone.stops (ap StandsDown (outage_after gone.after (or_cold cold outage.emptied) true gone.last gone.emptied gone.stopped))
+      (picks_with cut_failed 0) (picks_with cut_failed session.kept.pick) (StandsDown (outage_with outage.last (or_cold cold outage.emptied) true)) (StandsDown (outage_of gone.after))
+      (ap (map life_of) gone.lives) gone.stops (ap (picks_with cut_failed) gone.pick) (ap StandsDown (outage_after gone.after (or_cold cold outage.emptied) true gone.last gone.emptied gone.stopped))
 
   -- what was held before is held still, where a cold start may have emptied it
   keeps_holding : (cold : Bool) (image : Image) → HoldsSession state system source handed (StandsDown outage) image → HoldsSession state system source handed (StandsDown (outage_with outage.last (or_cold cold outage.emptied) true)) image
@@ -383,21 +397,21 @@ module _ {D : Type 0} (state : D → DiskState) (is_disk : (disk : D) → IsDisk
       let comes = failed_from cold gone image left in
       numbered_still cold comes.before image comes.by (sound.numbered comes.before comes.left)
 
-  failed_measured : (cold : Bool) (gone : HasFailed state idle old cold session) → measure (session_at (Down gone.after) session.kept) ≡ measure before + 1
+  failed_measured : (cold : Bool) (gone : HasFailed state idle old cold session) → measure (session_at cut_failed (Down gone.after) session.kept) ≡ measure before + 1
   failed_measured cold gone =
-      ap measure (sym (ap (λ p. session_at p session.kept) gone.place) ∙ failed_state cold gone) ∙ failed_measure before outage cold ((state idle.disk).faults, (state gone.disk).faults)
+      ap measure (sym (ap (λ p. session_at cut_failed p session.kept) gone.place) ∙ failed_state cold gone) ∙ failed_measure before outage cold ((state idle.disk).faults, (state gone.disk).faults)
 
   failed_counts : (cold : Bool) (gone : HasFailed state idle old cold session) (high : ℕ) → CountsFirst system high (state handed)
-      → CountsDown system (high + call_raises * measure (session_at (Down gone.after) session.kept)) (state gone.after.disk)
+      → CountsDown system (high + call_raises * measure (session_at cut_failed (Down gone.after) session.kept)) (state gone.after.disk)
   failed_counts cold gone high first image left =
-      up_to_more system (bound high + 1) (high + call_raises * measure (session_at (Down gone.after) session.kept)) image (omega (arith, failed_measured cold gone))
+      up_to_more system (bound high + 1) (high + call_raises * measure (session_at cut_failed (Down gone.after) session.kept)) image (omega (arith, failed_measured cold gone))
       (raised gone.disk gone.counts high first image (gone.cut.no_more image left))
 
-  failed_sound : (cold : Bool) → HasFailed state idle old cold session → IsSessionSound state system source handed session
+  failed_sound : (cold : Bool) → HasFailed state idle old cold session → IsSessionSound state system source handed cut_failed session
   failed_sound cold gone =
       let outage_is : outage_of gone.after ≡ outage_with outage.last (or_cold cold outage.emptied) true = outage_after gone.after (or_cold cold outage.emptied) true gone.last gone.emptied gone.stopped in
       let same : IsSameDisk (state handed) (state gone.disk) = same_on (state handed) (state idle.disk) (state gone.disk) sound.same (stays_is_same (state idle.disk) (state gone.disk) gone.back.stays) in
-      subst (λ p. IsSoundAt state system source handed p session.kept) (sym gone.place) (record {
+      subst (λ p. IsSoundAt state system source handed cut_failed p session.kept) (sym gone.place) (record {
         handed_alone = sound.handed_alone;
         system_is = gone.back.system_is ∙ sound.system_is;
         text_is = gone.back.text_is ∙ sound.text_is;
@@ -414,29 +428,32 @@ module _ {D : Type 0} (state : D → DiskState) (is_disk : (disk : D) → IsDisk
         numbered = λ image left. subst (λ o. IsNumberedAt setting (StandsDown o) image) (sym outage_is) (failed_numbered cold gone image left);
         valid = sound.valid;
         counts = failed_counts cold gone;
+        cuts = cuts_one state cut old.pick handed gone.disk gone.after.disk
+            (cuts_stay state cut handed idle.disk gone.disk sound.cuts (uncut_stays (state idle.disk) (state gone.disk) gone.back.stays)) gone.cut;
       })
 
   -- ---- all is as it was
 
-  idle_state : StaysIdle state idle old session → session_of session ≡ before
+  idle_state : StaysIdle state idle old session → session_of cut session ≡ before
   idle_state idles =
-      ap (λ p. session_at p session.kept) idles.place
-      ∙ same_state (map life_of old.lives.items) (map life_of session.kept.lives.items) old.stops.items session.kept.stops.items (StandsDown outage) (StandsDown (outage_of idles.after))
-      (ap (map life_of) idles.lives) idles.stops (ap StandsDown (outage_after idles.after outage.emptied outage.stopped idles.last idles.emptied idles.stopped))
+      ap (λ p. session_at cut p session.kept) idles.place
+      ∙ same_state (map life_of old.lives.items) (map life_of session.kept.lives.items) old.stops.items session.kept.stops.items
+      (picks_with cut old.pick) (picks_with cut session.kept.pick) (StandsDown outage) (StandsDown (outage_of idles.after))
+      (ap (map life_of) idles.lives) idles.stops (ap (picks_with cut) idles.pick) (ap StandsDown (outage_after idles.after outage.emptied outage.stopped idles.last idles.emptied idles.stopped))
 
-  idle_measured : (idles : StaysIdle state idle old session) → measure (session_at (Down idles.after) session.kept) ≡ measure before
-  idle_measured idles = ap measure (sym (ap (λ p. session_at p session.kept) idles.place) ∙ idle_state idles)
+  idle_measured : (idles : StaysIdle state idle old session) → measure (session_at cut (Down idles.after) session.kept) ≡ measure before
+  idle_measured idles = ap measure (sym (ap (λ p. session_at cut p session.kept) idles.place) ∙ idle_state idles)
 
   idle_counts : (idles : StaysIdle state idle old session) (high : ℕ) → CountsFirst system high (state handed)
-      → CountsDown system (high + call_raises * measure (session_at (Down idles.after) session.kept)) (state idles.after.disk)
+      → CountsDown system (high + call_raises * measure (session_at cut (Down idles.after) session.kept)) (state idles.after.disk)
   idle_counts idles high first image left =
-      up_to_more system (bound high) (high + call_raises * measure (session_at (Down idles.after) session.kept)) image (omega (arith, idle_measured idles))
+      up_to_more system (bound high) (high + call_raises * measure (session_at cut (Down idles.after) session.kept)) image (omega (arith, idle_measured idles))
       (sound.counts high first image (idles.wrote.keeps.no_more image left))
 
-  idle_sound : StaysIdle state idle old session → IsSessionSound state system source handed session
+  idle_sound : StaysIdle state idle old session → IsSessionSound state system source handed cut session
   idle_sound idles =
       let outage_is : outage_of idles.after ≡ outage = outage_after idles.after outage.emptied outage.stopped idles.last idles.emptied idles.stopped in
-      subst (λ p. IsSoundAt state system source handed p session.kept) (sym idles.place) (record {
+      subst (λ p. IsSoundAt state system source handed cut p session.kept) (sym idles.place) (record {
         handed_alone = sound.handed_alone;
         system_is = idles.system_is ∙ sound.system_is;
         text_is = idles.text_is ∙ sound.text_is;
@@ -451,6 +468,7 @@ module _ {D : Type 0} (state : D → DiskState) (is_disk : (disk : D) → IsDisk
         numbered = λ image left. subst (λ o. IsNumberedAt setting (StandsDown o) image) (sym outage_is) (sound.numbered image (idles.wrote.keeps.no_more image left));
         valid = sound.valid;
         counts = idle_counts idles;
+        cuts = cuts_stay state cut handed idle.disk idles.after.disk sound.cuts (uncut_stays (state idle.disk) (state idles.after.disk) idles.wrote.keeps.stays);
       })
 
   -- ---- a disk that can't be opened
@@ -626,10 +644,16 @@ module _ {D : Type 0} (state : D → DiskState) (is_disk : (disk : D) → IsDisk
   looked_at false (Rule rule sector) refuses = tt
   looked_at false (Text place) refuses = tt
 
+  -- the picks with which the disk was cut then
+  abbrev cut_by : Served → List ℕ
+  cut_by Printed = cut
+  cut_by Broke = cut_failed
+  cut_by (NotServed undone) = cut
+
   abbrev Restarted : Bool → List ℕ → Served → Type 0
-  Restarted cold text Printed = IsRestarted cold setting before outage (session_of session) text
-  Restarted cold text Broke = IsRestarted cold setting before outage (session_of session) broken_text
-  Restarted cold text (NotServed undone) = (session_of session ≡ before) × UndoneBy undone (restart_asked cold) setting before
+  Restarted cold text Printed = IsRestarted cold setting before outage (session_of cut session) text
+  Restarted cold text Broke = IsRestarted cold setting before outage (session_of cut_failed session) broken_text
+  Restarted cold text (NotServed undone) = (session_of cut session ≡ before) × UndoneBy undone (restart_asked cold) setting before
 
   refused : (cold begun : Bool) (refusal : ImageRefused) (text : List ℕ) (served : Served) → is_some idle.last ≡ begun → StaysIdle state idle old session
       → Refuses (how_of cold) idle.system idle.text (state idle.disk) (error_of refusal) → IsRefusalTold begun refusal text served → Restarted cold text served
@@ -698,7 +722,7 @@ module _ {D : Type 0} (state : D → DiskState) (is_disk : (disk : D) → IsDisk
   opens_above true gone tells = gone.opens.checkpoint ∙ ap (λ (r : RestartSector). r.checkpoint) gone.opens.begins.restart_is ∙ (gone.opens.begins.cold refl).first.checkpoint
 
   -- a life that opened, and a disk that failed
-  pub opens_gone : (cold : Bool) → HasOpened state idle old cold session → OpensLife cold setting before outage (session_of session)
+  pub opens_gone : (cold : Bool) → HasOpened state idle old cold session → OpensLife cold setting before outage (session_of cut session)
   opens_gone cold gone = record {
     kept = count_of idle.last cold gone.control.control.opening.steps;
     checkpoint = gone.control.checkpoint;
@@ -709,7 +733,7 @@ module _ {D : Type 0} (state : D → DiskState) (is_disk : (disk : D) → IsDisk
     goes = opened_state cold gone;
   }
 
-  pub fails_gone : (cold : Bool) → HasFailed state idle old cold session → FailsToOpen cold before outage (session_of session)
+  pub fails_gone : (cold : Bool) → HasFailed state idle old cold session → FailsToOpen cold before outage (session_of cut_failed session)
   fails_gone cold gone = record { stop = ((state idle.disk).faults, (state gone.disk).faults); ends = failed_state cold gone }
 
   pub restarted : (cold : Bool) (opening : Opening) (text : List ℕ) (served : Served) → HasGone state idle old cold session opening → IsOpeningTold cold (is_some idle.last) opening text served → Restarted cold text served
@@ -722,21 +746,33 @@ module _ {D : Type 0} (state : D → DiskState) (is_disk : (disk : D) → IsDisk
   restarted cold OpeningMemory text served gone why = subst (λ s. Restarted cold text s) (sym why) (idle_state gone, tt)
   restarted cold OpeningSpent text served (gone, spent) why = subst (λ s. Restarted cold text s) (sym why) (idle_state gone, spent_down cold spent)
 
-  pub gone_sound : (cold : Bool) (opening : Opening) → HasGone state idle old cold session opening → IsSessionSound state system source handed session
+  pub gone_sound : (cold : Bool) (opening : Opening) → HasGone state idle old cold session opening → IsSessionSound state system source handed (cut_opening cut old opening) session
   gone_sound cold Opened gone = opened_sound cold gone
   gone_sound cold OpeningBroke gone = failed_sound cold gone
   gone_sound cold (Refused refusal) gone = idle_sound gone.0
   gone_sound cold OpeningMemory gone = idle_sound gone
   gone_sound cold OpeningSpent gone = idle_sound gone.0
 
+  -- as it was printed
+  cut_refused : (begun : Bool) (refusal : ImageRefused) (text : List ℕ) (served : Served) → IsRefusalTold begun refusal text served → cut ≡ cut_by served
+  cut_refused true refusal text served (printed, same) = subst (λ (s : Served). cut ≡ cut_by s) (sym printed) refl
+  cut_refused false refusal text served undone = subst (λ (s : Served). cut ≡ cut_by s) (sym undone) refl
+
+  cut_told : (cold begun : Bool) (opening : Opening) (text : List ℕ) (served : Served) → IsOpeningTold cold begun opening text served → cut_opening cut old opening ≡ cut_by served
+  cut_told cold begun Opened text served (printed, same) = subst (λ (s : Served). cut ≡ cut_by s) (sym printed) refl
+  cut_told cold begun OpeningBroke text served broke = subst (λ (s : Served). cut_failed ≡ cut_by s) (sym broke) refl
+  cut_told cold begun (Refused refusal) text served told = cut_refused begun refusal text served told
+  cut_told cold begun OpeningMemory text served undone = subst (λ (s : Served). cut ≡ cut_by s) (sym undone) refl
+  cut_told cold begun OpeningSpent text served undone = subst (λ (s : Served). cut ≡ cut_by s) (sym undone) refl
+
   -- a block that asks for a restart
-  served_restart : (asked : Asked) (text : List ℕ) (served : Served) (cold : Bool) → asked_restart asked ≡ Some cold → Restarted cold text served → IsServedSo asked text served setting before (session_of session)
-  served_restart Restart text Printed cold is one = subst (λ c. IsRestarted c setting before outage (session_of session) text) (some_is cold false is) one
-  served_restart Restart text Broke cold is one = subst (λ c. IsRestarted c setting before outage (session_of session) broken_text) (some_is cold false is) one
+  served_restart : (asked : Asked) (text : List ℕ) (served : Served) (cold : Bool) → asked_restart asked ≡ Some cold → Restarted cold text served → IsServedSo asked text served setting before (session_of (cut_by served) session)
+  served_restart Restart text Printed cold is one = subst (λ c. IsRestarted c setting before outage (session_of cut session) text) (some_is cold false is) one
+  served_restart Restart text Broke cold is one = subst (λ c. IsRestarted c setting before outage (session_of cut_failed session) broken_text) (some_is cold false is) one
   served_restart Restart text (NotServed undone) cold is one =
       (one.0, subst (λ s. UndoneBy undone Restart setting s) (sym one.0) (subst (λ c. UndoneBy undone (restart_asked c) setting before) (some_is cold false is) one.1))
-  served_restart ColdStart text Printed cold is one = subst (λ c. IsRestarted c setting before outage (session_of session) text) (some_is cold true is) one
-  served_restart ColdStart text Broke cold is one = subst (λ c. IsRestarted c setting before outage (session_of session) broken_text) (some_is cold true is) one
+  served_restart ColdStart text Printed cold is one = subst (λ c. IsRestarted c setting before outage (session_of cut session) text) (some_is cold true is) one
+  served_restart ColdStart text Broke cold is one = subst (λ c. IsRestarted c setting before outage (session_of cut_failed session) broken_text) (some_is cold true is) one
   served_restart ColdStart text (NotServed undone) cold is one =
       (one.0, subst (λ s. UndoneBy undone ColdStart setting s) (sym one.0) (subst (λ c. UndoneBy undone (restart_asked c) setting before) (some_is cold true is) one.1))
   served_restart (Bad rule) text served cold is one = cc
@@ -748,21 +784,22 @@ module _ {D : Type 0} (state : D → DiskState) (is_disk : (disk : D) → IsDisk
   served_restart (PowerIn writes pick) text served cold is one = cc
 
   pub served_down : (asked : Asked) (text : List ℕ) (served : Served) (cold : Bool) → asked_restart asked ≡ Some cold → IsRestartedSo state idle old cold session text served
-      → LeadsBy state (λ setting old new. IsServedSo asked text served setting old new) system source handed (session_down idle old) session
+      → LeadsBy state (λ setting old new. IsServedSo asked text served setting old new) system source handed cut (session_down idle old) session
   served_down asked text served cold is one = record {
+    cut_now = cut_by served;
     goes = served_restart asked text served cold is (restarted cold one.opening text served one.gone one.told);
-    sound = gone_sound cold one.opening one.gone;
+    sound = subst (λ picks. IsSessionSound state system source handed picks session) (cut_told cold (is_some idle.last) one.opening text served one.told) (gone_sound cold one.opening one.gone);
   }
 
 -- another block
 pub served_else : {D : Type 0} (state : D → DiskState) (idle : Idle D) (old : Kept) (setting : Setting) (asked : Asked) → asked_restart asked ≡ None
-    → IsServedSo asked down_text Printed setting (session_at (Down idle) old) (session_at (Down idle) old)
-served_else state idle old setting Restart is = cc
-served_else state idle old setting ColdStart is = cc
-served_else state idle old setting (Bad rule) is = (refl, refl)
-served_else state idle old setting (BadCommand rule) is = (refl, refl)
-served_else state idle old setting (Stopped terminal number reason) is = (refl, refl)
-served_else state idle old setting (Call call) is = (refl, refl)
-served_else state idle old setting (Quiet most) is = (refl, refl)
-served_else state idle old setting (Power pick) is = (refl, refl)
-served_else state idle old setting (PowerIn writes pick) is = (refl, refl)
+    → (cut : List ℕ) → IsServedSo asked down_text Printed setting (session_at cut (Down idle) old) (session_at cut (Down idle) old)
+served_else state idle old setting Restart is cut = cc
+served_else state idle old setting ColdStart is cut = cc
+served_else state idle old setting (Bad rule) is cut = (refl, refl)
+served_else state idle old setting (BadCommand rule) is cut = (refl, refl)
+served_else state idle old setting (Stopped terminal number reason) is cut = (refl, refl)
+served_else state idle old setting (Call call) is cut = (refl, refl)
+served_else state idle old setting (Quiet most) is cut = (refl, refl)
+served_else state idle old setting (Power pick) is cut = (refl, refl)
+served_else state idle old setting (PowerIn writes pick) is cut = (refl, refl)

@@ -1,7 +1,7 @@
 -- What was asked of a control region that is up, as a block that was served.
 use Rattle.std.proofs.Common.{◌≡◌, ℕ, ◌+◌, ◌*◌, ◌≤◌, ◌<◌, Bool, true, false, List, [], ◌∷◌, ◌++◌, length, map, sym, ◌∙◌, ap, subst, refl, arith, inl, inr}
 use Rattle.std.proofs.lemmas.List.{append-nil}
-use Rattle.std.specs.Prelude.{Option, Some, None, vec_len, vec_capacity}
+use Rattle.std.specs.Prelude.{if◌then◌else◌, Option, Some, None, vec_len, vec_capacity}
 use Rattle.tm_disk.specs.Disk.{DiskState, IsSameDisk, Only, Rose}
 use Rattle.tm_disk.proofs.Words.{same_on}
 use Rattle.model_system.specs.System.{System}
@@ -14,7 +14,8 @@ use Rattle.model_session.specs.declared.asked.Asked.TheVariants.{Bad, BadCommand
 use Rattle.model_session.specs.Text.{entry_text, broken_text, armed_text}
 use Rattle.model_session.specs.QuietTurns.{IsQuieted, IsBrokenOff, quieted_text, region_behind_turns}
 use Rattle.model_session.specs.Lives.{AreLegal, now_in}
-use Rattle.model_session.specs.SessionState.{Setting, SessionState, AreStops, life_gone_on, called_on, broken}
+use Rattle.model_session.specs.SessionState.{Setting, Picks, SessionState, AreStops, life_gone_on, called_on, broken, pick_armed}
+use Rattle.model_session.specs.SessionState.Standing.{Up as StandsUp}
 use Rattle.model_session.specs.Session.{IsServedUp, IsBegunBy}
 use Rattle.tm_control.specs.ControlOnDisk.{ControlOnDisk}
 use Rattle.tm_control.specs.ControlCalls.{IsSameControl, AddedNothing}
@@ -27,11 +28,19 @@ use Rattle.session_lives.specs.declared.place.Session.{Session}
 use Rattle.session_law.specs.Measures.{call_raises, lives_measure, measure}
 use Rattle.session_law.specs.SpentCounters.{HasSpent, IsSpentAt}
 use Rattle.session_lives.specs.ControlCounts.{CountsUp, KeepsPace}
+use Rattle.session_lives.specs.DiskCuts.{AreCuts}
 use Rattle.session_lives.specs.RunningSession.{life_of, last_up, session_at, session_of, session_up, session_setting, CountsFirst, IsUpReady, IsUpSound, IsSessionSound, IsSoundAt, IsReadyAt, LeadsBy}
-use Rattle.session_lives.specs.AskedControl.{IsAsked, DoesAsked, Freezes, AskedFails, PowersOff, Undoes, IsSpentUp, LooksAtCounters}
+use Rattle.session_lives.specs.AskedControl.{IsAsked, DoesAsked, Freezes, AskedFails, PowersOff, Undoes, IsSpentUp, LooksAtCounters, pick_by}
 use Rattle.session_lives.specs.Openings.{IsEndable, HasEndedLife, IsAloneBy, IsCallSettled, CountsOn, IsServedSo}
 use Rattle.session_lives.proofs.Counting.{counts_more}
-use Rattle.session_lives.proofs.Ends.{up_state, same_up, ended_state, broken_state, down_sound, stop_behind, no_stop}
+use Rattle.session_lives.proofs.Cutting.{cuts_stay, cuts_one}
+use Rattle.session_lives.proofs.Ends.{picks_with, state_with, up_state, up_with, ended_state, broken_state, down_sound, stop_behind, no_stop}
+use Rattle.session_lives.proofs.Picks.{pick_broke, pick_undone, pick_spent}
+
+-- the pick that is kept, by whether the disk can be told to stop
+armed_one : (can : Bool) (cut : List ℕ) (pick before after : ℕ) → after ≡ (if can then pick else before) → picks_with cut after ≡ pick_armed can pick (picks_with cut before)
+armed_one true cut pick before after is = ap (picks_with cut) is
+armed_one false cut pick before after is = ap (picks_with cut) is
 
 -- it is up still
 module _ {D : Type 0} (state : D → DiskState) (a b : ControlOnDisk D) where
@@ -47,23 +56,43 @@ module _ {D : Type 0} (state : D → DiskState) (a b : ControlOnDisk D) where
   up_undone Restart added = added.up
   up_undone ColdStart added = added.up
 
-module _ {D : Type 0} (state : D → DiskState) (system : System) (source : List ℕ) (handed : D) (a b : ControlOnDisk D) (old kept : Kept) (session : Session D) (text : List ℕ)
-    (sound : IsUpSound state system source handed a old) (stays : IsSameControl state a b) (lives : kept.lives ≡ old.lives) (stops : kept.stops ≡ old.stops) (pace : KeepsPace state a b) where
+module _ {D : Type 0} (state : D → DiskState) (system : System) (source : List ℕ) (handed : D) (cut : List ℕ) (a b : ControlOnDisk D) (old kept : Kept) (session : Session D) (text : List ℕ)
+    (sound : IsUpSound state system source handed cut a old) (stays : IsSameControl state a b) (lives : kept.lives ≡ old.lives) (stops : kept.stops ≡ old.stops) (pace : KeepsPace state a b) where
   abbrev before : SessionState
-  before = session_at (Up a) old
+  before = session_at cut (Up a) old
 
   abbrev setting : Setting
   setting = session_setting state system source handed
 
   -- where the session stands now
-  goes_up : session ≡ session_up b kept → session_of session ≡ session_at (Up b) kept
-  goes_up on = ap (λ (s : Session D). session_of s) on
+  goes_up : session ≡ session_up b kept → session_of cut session ≡ session_at cut (Up b) kept
+  goes_up on = ap (λ (s : Session D). session_of cut s) on
 
-  up_after : session ≡ session_up b kept → (entries : List Entry) → b.control.history ≡ a.control.history ++ entries → session_of session ≡ life_gone_on before (last_up a) entries
-  up_after on entries history = goes_up on ∙ up_state a b old kept entries stays.opening stays.checkpoint history lives stops
+  up_after : session ≡ session_up b kept → kept.pick ≡ old.pick → (entries : List Entry) → b.control.history ≡ a.control.history ++ entries → session_of cut session ≡ life_gone_on before (last_up a) entries
+  up_after on pick entries history = goes_up on ∙ up_state cut a b old kept entries stays.opening stays.checkpoint history lives stops pick
 
-  same_after : session ≡ session_up b kept → b.control.history ≡ a.control.history → session_of session ≡ before
-  same_after on history = goes_up on ∙ same_up a b old kept stays.opening stays.checkpoint history lives stops
+  picked_after : session ≡ session_up b kept → (picks : Picks) → picks_with cut kept.pick ≡ picks → b.control.history ≡ a.control.history
+      → session_of cut session ≡ state_with (map life_of old.lives.items) old.stops.items picks (StandsUp (last_up a))
+  picked_after on picks is history = goes_up on ∙ up_with cut a b old kept picks stays.opening stays.checkpoint history lives stops is
+
+  same_after : session ≡ session_up b kept → kept.pick ≡ old.pick → b.control.history ≡ a.control.history → session_of cut session ≡ before
+  same_after on pick history = picked_after on (picks_with cut old.pick) (ap (picks_with cut) pick) history
+
+  -- ---- what the disk was cut with
+
+  cuts_now : AreCuts state cut handed b.disk
+  cuts_now = cuts_stay state cut handed a.disk b.disk sound.cuts (record { same = stays.disk; cuts = stays.cuts })
+
+  cuts_left : (over : HasEndedLife state b kept None false session) → AreCuts state cut handed over.idle.disk
+  cuts_left over = subst (λ (d : D). AreCuts state cut handed d) (sym over.disk) cuts_now
+
+  cuts_with : {stopped : Bool} (pick : ℕ) → (over : HasEndedLife state b kept (Some pick) stopped session) → AreCuts state (cut ++ pick ∷ []) handed over.idle.disk
+  cuts_with pick over = cuts_one state cut pick handed b.disk over.idle.disk cuts_now over.disk
+
+  -- the pick that is kept where the disk was told to stop
+  armed_picks : (writes pick : ℕ) → kept.pick ≡ pick_by (PowerIn writes pick) Answered (state a.disk).can_arm old.pick → picks_with cut kept.pick ≡ pick_armed setting.can_arm pick (picks_with cut old.pick)
+  armed_picks writes pick is =
+      subst (λ can. picks_with cut kept.pick ≡ pick_armed can pick (picks_with cut old.pick)) sound.same.can_arm (armed_one (state a.disk).can_arm cut pick old.pick kept.pick is)
 
   -- the machine's answer, in the system's own words
   may_in : (entry : Entry) → May a.control.system (control_moment a.control) entry → May system (now_in system (last_up a)) entry
@@ -90,19 +119,19 @@ module _ {D : Type 0} (state : D → DiskState) (system : System) (source : List
   abbrev base : ℕ → ℕ
   base high = high + call_raises * (lives_measure (map life_of old.lives.items) + length old.stops.items + 1)
 
-  counts_now : (high : ℕ) → CountsFirst system high (state handed) → CountsUp state (high + call_raises * measure (session_at (Up b) kept)) b
+  counts_now : (high : ℕ) → CountsFirst system high (state handed) → CountsUp state (high + call_raises * measure (session_at cut (Up b) kept)) b
   counts_now high first =
       let logs : a.control.system.logs ≤ 2048 = subst (λ (s : System). s.logs ≤ 2048) (sym sound.system_is) sound.valid.most_logs in
       let same_lives : lives_measure (map life_of kept.lives.items) ≡ lives_measure (map life_of old.lives.items) = ap (λ v. lives_measure (map life_of v.items)) lives in
       let same_stops : length kept.stops.items ≡ length old.stops.items = ap (λ v. length v.items) stops in
-      counts_more state (base high + call_raises * length b.control.history) (high + call_raises * measure (session_at (Up b) kept)) b (omega (arith, same_lives, same_stops))
+      counts_more state (base high + call_raises * length b.control.history) (high + call_raises * measure (session_at cut (Up b) kept)) b (omega (arith, same_lives, same_stops))
       (pace logs (base high) (counts_more state (high + call_raises * measure before) (base high + call_raises * length a.control.history) a (omega arith) (sound.counts high first)))
 
   -- ---- what is sound behind it
 
-  pub up_sound : session ≡ session_up b kept → (state b.disk).faults ≡ (state a.disk).faults → IsSessionSound state system source handed session
+  pub up_sound : session ≡ session_up b kept → (state b.disk).faults ≡ (state a.disk).faults → IsSessionSound state system source handed cut session
   up_sound on calm =
-      subst (λ (s : Session D). IsSoundAt state system source handed s.place s.kept) (sym on)
+      subst (λ (s : Session D). IsSoundAt state system source handed cut s.place s.kept) (sym on)
       (record {
         handed_alone = sound.handed_alone;
         system_is = stays.system ∙ sound.system_is;
@@ -114,6 +143,7 @@ module _ {D : Type 0} (state : D → DiskState) (system : System) (source : List
         legal = subst (λ v. AreLegal system (map life_of v.items)) (sym lives) sound.legal;
         valid = sound.valid;
         counts = counts_now;
+        cuts = cuts_now;
       })
 
   same_now : IsSameDisk (state handed) (state b.disk)
@@ -128,72 +158,80 @@ module _ {D : Type 0} (state : D → DiskState) (system : System) (source : List
   began_before : b.began ≡ (state a.disk).faults
   began_before = stays.began ∙ sound.began
 
-  pub power_sound : {cut : Option ℕ} → HasEndedLife state b kept cut false session → (state b.disk).faults ≡ (state a.disk).faults → IsSessionSound state system source handed session
-  power_sound over calm =
-      subst (λ p. IsSoundAt state system source handed p session.kept) (sym over.place)
-      (down_sound state system source handed b (stays.system ∙ sound.system_is) sound.handed_alone (stays.text ∙ sound.text_is) sound.size kept session.kept false over.idle over.down same_now legal_now
+  pub power_sound : {by : Option ℕ} (cut_then : List ℕ) → (over : HasEndedLife state b kept by false session) → AreCuts state cut_then handed over.idle.disk → (state b.disk).faults ≡ (state a.disk).faults
+      → IsSessionSound state system source handed cut_then session
+  power_sound cut_then over cuts calm =
+      subst (λ p. IsSoundAt state system source handed cut_then p session.kept) (sym over.place)
+      (down_sound state system source handed b (stays.system ∙ sound.system_is) sound.handed_alone (stays.text ∙ sound.text_is) sound.size cut_then kept session.kept false over.idle cuts over.down same_now legal_now
       (no_stop state system source handed b (stays.system ∙ sound.system_is) kept session.kept over.idle over.down stops_now (began_before ∙ sym calm)) sound.valid counts_now)
 
-  pub broke_sound : {cut : Option ℕ} → HasEndedLife state b kept cut true session → Rose (state a.disk).faults (state b.disk).faults → IsSessionSound state system source handed session
-  broke_sound over rose =
-      subst (λ p. IsSoundAt state system source handed p session.kept) (sym over.place)
-      (down_sound state system source handed b (stays.system ∙ sound.system_is) sound.handed_alone (stays.text ∙ sound.text_is) sound.size kept session.kept true over.idle over.down same_now legal_now
+  pub broke_sound : {by : Option ℕ} (cut_then : List ℕ) → (over : HasEndedLife state b kept by true session) → AreCuts state cut_then handed over.idle.disk → Rose (state a.disk).faults (state b.disk).faults
+      → IsSessionSound state system source handed cut_then session
+  broke_sound cut_then over cuts rose =
+      subst (λ p. IsSoundAt state system source handed cut_then p session.kept) (sym over.place)
+      (down_sound state system source handed b (stays.system ∙ sound.system_is) sound.handed_alone (stays.text ∙ sound.text_is) sound.size cut_then kept session.kept true over.idle cuts over.down same_now legal_now
       (stop_behind state system source handed b (stays.system ∙ sound.system_is) kept session.kept over.idle (state a.disk).faults over.down stops_now began_before stays.disk.faults rose) sound.valid counts_now)
 
   -- ---- what was served
 
-  nothing : session ≡ session_up b kept → AddedNothing state a b → session_of session ≡ before
-  nothing on added = same_after on added.adds.history
+  nothing : session ≡ session_up b kept → kept.pick ≡ old.pick → AddedNothing state a b → session_of cut session ≡ before
+  nothing on pick added = same_after on pick added.adds.history
 
-  does : (asked : Asked) → DoesAsked state asked a b text → session ≡ session_up b kept → IsServedUp asked setting before (last_up a) (session_of session) text
-  does (Bad rule) (added, printed) on = (nothing on added, printed)
-  does (BadCommand rule) (added, printed) on = (nothing on added, printed)
-  does (Stopped terminal number reason) (added, printed) on = (nothing on added, printed)
-  does (Call call) told on = inl (record {
+  does : (asked : Asked) → DoesAsked state asked a b text → kept.pick ≡ pick_by asked Answered (state a.disk).can_arm old.pick → session ≡ session_up b kept → IsServedUp asked setting before (last_up a) (session_of cut session) text
+  does (Bad rule) (added, printed) pick on = (nothing on pick added, printed)
+  does (BadCommand rule) (added, printed) pick on = (nothing on pick added, printed)
+  does (Stopped terminal number reason) (added, printed) pick on = (nothing on pick added, printed)
+  does (Call call) told pick on = inl (record {
     entry = told.entry;
     asked = told.asked;
     may = may_in told.entry told.answered.adds.may;
-    goes = subst (λ ends. session_of session ≡ called_on ends before (last_up a) (told.entry ∷ [])) (sym told.goes_on)
-        (up_after on (told.entry ∷ []) told.answered.adds.history);
+    goes = subst (λ ends. session_of cut session ≡ called_on ends before (last_up a) (told.entry ∷ [])) (sym told.goes_on)
+        (up_after on pick (told.entry ∷ []) told.answered.adds.history);
     printed = text_in told.entry told.printed;
   })
-  does (Quiet most) turned on = inl (record {
+  does (Quiet most) turned pick on = inl (record {
     turns = turned.turns;
     steps = steps_in turned.turns turned.steps;
     quieted = quieted_in most turned.turns turned.quieted;
-    goes = up_after on turned.turns turned.adds.history;
+    goes = up_after on pick turned.turns turned.adds.history;
     printed = quiet_text_in turned.turns turned.printed;
   })
-  does (AskedPower pick) never on = absurd never
-  does (PowerIn writes pick) (added, printed) on = (nothing on added, subst (λ can. text ≡ armed_text can writes) sound.same.can_arm printed)
-  does Restart (added, printed) on = (nothing on added, printed)
-  does ColdStart (added, printed) on = (nothing on added, printed)
+  does (AskedPower pick) never is on = absurd never
+  does (PowerIn writes pick) (added, printed) is on =
+      (picked_after on (pick_armed setting.can_arm pick (picks_with cut old.pick)) (armed_picks writes pick is) added.adds.history, subst (λ can. text ≡ armed_text can writes) sound.same.can_arm printed)
+  does Restart (added, printed) pick on = (nothing on pick added, printed)
+  does ColdStart (added, printed) pick on = (nothing on pick added, printed)
 
-  freezes : (asked : Asked) → Freezes state asked a b text → HasEndedLife state b kept None false session → IsServedUp asked setting before (last_up a) (session_of session) text
-  freezes (Call call) frozen over = inl (record {
+  freezes : (asked : Asked) → Freezes state asked a b text → kept.pick ≡ pick_by asked Frozen (state a.disk).can_arm old.pick → HasEndedLife state b kept None false session → IsServedUp asked setting before (last_up a) (session_of cut session) text
+  freezes (Call call) frozen pick over = inl (record {
     entry = frozen.entry;
     asked = frozen.asked;
     may = may_in frozen.entry frozen.answered.adds.may;
-    goes = subst (λ ends. session_of session ≡ called_on ends before (last_up a) (frozen.entry ∷ [])) (sym frozen.ends)
-        (ap (λ p. session_at p session.kept) over.place
-        ∙ ended_state state a b old kept session.kept over.idle (frozen.entry ∷ []) over.down lives stops stays.opening stays.checkpoint frozen.answered.adds.history);
+    goes = subst (λ ends. session_of cut session ≡ called_on ends before (last_up a) (frozen.entry ∷ [])) (sym frozen.ends)
+        (ap (λ p. session_at cut p session.kept) over.place
+        ∙ ended_state state cut a b old kept session.kept (picks_with cut old.pick) over.idle (frozen.entry ∷ []) over.down lives stops (ap (picks_with cut) (over.pick ∙ pick))
+        stays.opening stays.checkpoint frozen.answered.adds.history);
     printed = text_in frozen.entry frozen.printed;
   })
-  freezes (Bad rule) never over = absurd never
-  freezes (BadCommand rule) never over = absurd never
-  freezes (Stopped terminal number reason) never over = absurd never
-  freezes (Quiet most) never over = absurd never
-  freezes (AskedPower pick) never over = absurd never
-  freezes (PowerIn writes pick) never over = absurd never
-  freezes Restart never over = absurd never
-  freezes ColdStart never over = absurd never
+  freezes (Bad rule) never is over = absurd never
+  freezes (BadCommand rule) never is over = absurd never
+  freezes (Stopped terminal number reason) never is over = absurd never
+  freezes (Quiet most) never is over = absurd never
+  freezes (AskedPower pick) never is over = absurd never
+  freezes (PowerIn writes pick) never is over = absurd never
+  freezes Restart never is over = absurd never
+  freezes ColdStart never is over = absurd never
 
-  ends_with : {cut : Option ℕ} → (entries : List Entry) → b.control.history ≡ a.control.history ++ entries → (over : HasEndedLife state b kept cut true session)
-      → session_of session ≡ broken before (last_up a) entries (b.began, (state over.down.disk).faults)
+  -- the picks with which the disk was cut behind a stop
+  abbrev cut_stopped : List ℕ
+  cut_stopped = cut ++ old.pick ∷ []
+
+  ends_with : {pick : ℕ} → (entries : List Entry) → b.control.history ≡ a.control.history ++ entries → (over : HasEndedLife state b kept (Some pick) true session)
+      → session_of cut_stopped session ≡ broken before (last_up a) entries (b.began, (state over.down.disk).faults)
   ends_with entries history over =
-      ap (λ p. session_at p session.kept) over.place ∙ broken_state state a b old kept session.kept over.idle entries over.down lives stops stays.opening stays.checkpoint history
+      ap (λ p. session_at cut_stopped p session.kept) over.place ∙ broken_state state cut a b old kept session.kept over.idle entries over.down lives stops over.pick stays.opening stays.checkpoint history
 
-  fails : (asked : Asked) → AskedFails state asked a b → HasEndedLife state b kept (Some kept.pick) true session → IsServedUp asked setting before (last_up a) (session_of session) broken_text
+  fails : (asked : Asked) → AskedFails state asked a b → HasEndedLife state b kept (Some kept.pick) true session → IsServedUp asked setting before (last_up a) (session_of cut_stopped session) broken_text
   fails (Call call) failed over = inr (record {
     entry = failed.entry;
     stop = (b.began, (state over.down.disk).faults);
@@ -234,10 +272,12 @@ module _ {D : Type 0} (state : D → DiskState) (system : System) (source : List
   rose_in Restart never = absurd never
   rose_in ColdStart never = absurd never
 
-  powers : (asked : Asked) (pick : ℕ) → PowersOff state asked pick a b text → HasEndedLife state b kept (Some pick) false session → IsServedUp asked setting before (last_up a) (session_of session) text
+  powers : (asked : Asked) (pick : ℕ) → PowersOff state asked pick a b text → HasEndedLife state b kept (Some pick) false session
+      → IsServedUp asked setting before (last_up a) (session_of (cut ++ pick ∷ []) session) text
   powers (AskedPower asked) pick (same, unchanged, added, printed) over = (
-    ap (λ p. session_at p session.kept) over.place
-        ∙ ended_state state a b old kept session.kept over.idle [] over.down lives stops stays.opening stays.checkpoint (added.adds.history ∙ sym (append-nil a.control.history)),
+    ap (λ p. session_at (cut ++ pick ∷ []) p session.kept) over.place
+        ∙ ended_state state (cut ++ pick ∷ []) a b old kept session.kept (picks_with (cut ++ asked ∷ []) 0) over.idle [] over.down lives stops
+        (ap (picks_with (cut ++ pick ∷ [])) over.pick ∙ ap (λ n. picks_with (cut ++ n ∷ []) 0) same) stays.opening stays.checkpoint (added.adds.history ∙ sym (append-nil a.control.history)),
     printed,
   )
   powers (Bad rule) pick never over = absurd never
@@ -249,23 +289,23 @@ module _ {D : Type 0} (state : D → DiskState) (system : System) (source : List
   powers Restart pick never over = absurd never
   powers ColdStart pick never over = absurd never
 
-  undoes : (asked : Asked) → Undoes state asked a b → session ≡ session_up b kept → IsBegunBy asked system before before.standing (session_of session)
-  undoes (Quiet most) (inl added) on = inl (nothing on added)
-  undoes (Quiet most) (inr stand) on =
-      inr (record { turns = stand.turns; steps = steps_in stand.turns stand.steps; begun = begun_in most stand.turns stand.begun; goes = up_after on stand.turns stand.adds.history })
-  undoes (Bad rule) added on = nothing on added
-  undoes (BadCommand rule) added on = nothing on added
-  undoes (Stopped terminal number reason) added on = nothing on added
-  undoes (Call call) added on = nothing on added
-  undoes (AskedPower pick) added on = nothing on added
-  undoes (PowerIn writes pick) added on = nothing on added
-  undoes Restart added on = nothing on added
-  undoes ColdStart added on = nothing on added
+  undoes : (asked : Asked) → Undoes state asked a b → kept.pick ≡ old.pick → session ≡ session_up b kept → IsBegunBy asked system before before.standing (session_of cut session)
+  undoes (Quiet most) (inl added) pick on = inl (nothing on pick added)
+  undoes (Quiet most) (inr stand) pick on =
+      inr (record { turns = stand.turns; steps = steps_in stand.turns stand.steps; begun = begun_in most stand.turns stand.begun; goes = up_after on pick stand.turns stand.adds.history })
+  undoes (Bad rule) added pick on = nothing on pick added
+  undoes (BadCommand rule) added pick on = nothing on pick added
+  undoes (Stopped terminal number reason) added pick on = nothing on pick added
+  undoes (Call call) added pick on = nothing on pick added
+  undoes (AskedPower picked) added pick on = nothing on pick added
+  undoes (PowerIn writes picked) added pick on = nothing on pick added
+  undoes Restart added pick on = nothing on pick added
+  undoes ColdStart added pick on = nothing on pick added
 
   -- a counter is spent
-  has_spent : b.up ≡ true → IsSpentUp b → IsSpentAt setting.counts setting (session_at (Up b) kept)
+  has_spent : b.up ≡ true → IsSpentUp b → IsSpentAt setting.counts setting (session_at cut (Up b) kept)
   has_spent up spent =
-      subst (λ s. HasSpent setting.counts (measure (session_at (Up b) kept)) (moment_after s (start_of s b.control.opening) b.control.history).lasting) (stays.system ∙ sound.system_is)
+      subst (λ s. HasSpent setting.counts (measure (session_at cut (Up b) kept)) (moment_after s (start_of s b.control.opening) b.control.history).lasting) (stays.system ∙ sound.system_is)
       (record {
         epoch = b.journal.restart.epoch;
         sequence = b.journal.log.sequence + b.journal.log.place;
@@ -277,10 +317,10 @@ module _ {D : Type 0} (state : D → DiskState) (system : System) (source : List
             record { epoch_low = stands.epoch; sequence_low = stands.sequence; checkpoint_low = stands.checkpoint; unit_low = stands.unit };
       })
 
-  spent_now_at : session ≡ session_up b kept → b.up ≡ true → IsSpentUp b → IsSpentAt setting.counts setting (session_of session)
+  spent_now_at : session ≡ session_up b kept → b.up ≡ true → IsSpentUp b → IsSpentAt setting.counts setting (session_of cut session)
   spent_now_at on up spent = subst (λ s. IsSpentAt setting.counts setting s) (sym (goes_up on)) (has_spent up spent)
 
-  counts_on : (asked : Asked) → LooksAtCounters asked → session ≡ session_up b kept → CountsOn (session_of session).standing asked
+  counts_on : (asked : Asked) → LooksAtCounters asked → session ≡ session_up b kept → CountsOn (session_of cut session).standing asked
   counts_on asked looks on = subst (λ (s : SessionState). CountsOn s.standing asked) (sym (goes_up on)) looks
 
   -- ---- the disk fails in a stop alone
@@ -332,26 +372,35 @@ module _ {D : Type 0} (state : D → DiskState) (system : System) (source : List
 
   -- ---- all of it
 
-  pub served_up : (asked : Asked) (called : Called) (served : Served) → IsAsked state asked a b text called → IsCallSettled state (session_up b kept) called session served
-      → LeadsBy state (λ setting old new. IsServedSo asked text served setting old new) system source handed (session_up a old) session
-  served_up asked Answered served does_it (on, printed) =
-      subst (λ s. LeadsBy state (λ setting old new. IsServedSo asked text s setting old new) system source handed (session_up a old) session) (sym printed)
-      (record { goes = does asked does_it on; sound = up_sound on (calm_done asked does_it) })
-  served_up asked Frozen served frozen (over, printed) =
-      subst (λ s. LeadsBy state (λ setting old new. IsServedSo asked text s setting old new) system source handed (session_up a old) session) (sym printed)
-      (record { goes = freezes asked frozen over; sound = power_sound over (calm_frozen asked frozen) })
-  served_up asked (Power pick) served power (over, printed) =
-      subst (λ s. LeadsBy state (λ setting old new. IsServedSo asked text s setting old new) system source handed (session_up a old) session) (sym printed)
-      (record { goes = powers asked pick power over; sound = power_sound over (calm_power asked pick power) })
-  served_up asked Broke served failed (over, broke) =
-      subst (λ s. LeadsBy state (λ setting old new. IsServedSo asked text s setting old new) system source handed (session_up a old) session) (sym broke)
-      (record { goes = fails asked failed over; sound = broke_sound over (rose_in asked failed) })
-  served_up asked Memory served undone (on, why) =
-      subst (λ s. LeadsBy state (λ setting old new. IsServedSo asked text s setting old new) system source handed (session_up a old) session) (sym why)
-      (record { goes = (undoes asked undone on, tt); sound = up_sound on (calm_undone asked undone) })
-  served_up asked Spent served (undone, spent, looks) (on, why) =
-      subst (λ s. LeadsBy state (λ setting old new. IsServedSo asked text s setting old new) system source handed (session_up a old) session) (sym why)
-      (record { goes = (undoes asked undone on, (spent_now_at on (up_undone state a b asked undone) spent, counts_on asked looks on)); sound = up_sound on (calm_undone asked undone) })
+  pub served_up : (asked : Asked) (called : Called) (served : Served) → IsAsked state asked a b text called → kept.pick ≡ pick_by asked called (state a.disk).can_arm old.pick → IsCallSettled state (session_up b kept) called session served
+      → LeadsBy state (λ setting old new. IsServedSo asked text served setting old new) system source handed cut (session_up a old) session
+  served_up asked Answered served does_it pick (on, printed) =
+      subst (λ s. LeadsBy state (λ setting old new. IsServedSo asked text s setting old new) system source handed cut (session_up a old) session) (sym printed)
+      (record { cut_now = cut; goes = does asked does_it pick on; sound = up_sound on (calm_done asked does_it) })
+  served_up asked Frozen served frozen pick (over, printed) =
+      subst (λ s. LeadsBy state (λ setting old new. IsServedSo asked text s setting old new) system source handed cut (session_up a old) session) (sym printed)
+      (record { cut_now = cut; goes = freezes asked frozen pick over; sound = power_sound cut over (cuts_left over) (calm_frozen asked frozen) })
+  served_up asked (Power pick) served power is (over, printed) =
+      subst (λ s. LeadsBy state (λ setting old new. IsServedSo asked text s setting old new) system source handed cut (session_up a old) session) (sym printed)
+      (record { cut_now = cut ++ pick ∷ []; goes = powers asked pick power over; sound = power_sound (cut ++ pick ∷ []) over (cuts_with pick over) (calm_power asked pick power) })
+  served_up asked Broke served failed pick (over, broke) =
+      subst (λ s. LeadsBy state (λ setting old new. IsServedSo asked text s setting old new) system source handed cut (session_up a old) session) (sym broke)
+      (record {
+        cut_now = cut_stopped;
+        goes = fails asked failed over;
+        sound = broke_sound cut_stopped over
+            (subst (λ n. AreCuts state (cut ++ n ∷ []) handed over.idle.disk) (pick ∙ pick_broke asked (state a.disk).can_arm old.pick) (cuts_with kept.pick over)) (rose_in asked failed);
+      })
+  served_up asked Memory served undone pick (on, why) =
+      subst (λ s. LeadsBy state (λ setting old new. IsServedSo asked text s setting old new) system source handed cut (session_up a old) session) (sym why)
+      (record { cut_now = cut; goes = (undoes asked undone (pick ∙ pick_undone asked (state a.disk).can_arm old.pick) on, tt); sound = up_sound on (calm_undone asked undone) })
+  served_up asked Spent served (undone, spent, looks) pick (on, why) =
+      subst (λ s. LeadsBy state (λ setting old new. IsServedSo asked text s setting old new) system source handed cut (session_up a old) session) (sym why)
+      (record {
+        cut_now = cut;
+        goes = (undoes asked undone (pick ∙ pick_spent asked (state a.disk).can_arm old.pick) on, (spent_now_at on (up_undone state a b asked undone) spent, counts_on asked looks on));
+        sound = up_sound on (calm_undone asked undone);
+      })
 
 -- ---- what is ready behind it
 

@@ -19,6 +19,7 @@ module _ {D : Type 0} (state : D → DiskState) where
     text = stays.text;
     began = stays.began;
     disk = stays_is_same (state a.disk) (state b.disk) stays.disk;
+    cuts = stays.disk.cuts;
     later = stays.later;
   }
 

@@ -14,6 +14,7 @@ use Rattle.session_lives.specs.declared.place.Place.{Place}
 use Rattle.session_lives.specs.declared.place.Place.TheVariants.{Up, Down, Moved}
 use Rattle.session_lives.specs.declared.place.Kept.{Kept}
 use Rattle.session_lives.specs.declared.place.Session.{Session}
+use Rattle.session_lives.specs.DiskCuts.{AreCuts}
 use Rattle.session_lives.specs.RunningSession.{life_of, session_of, session_setting, HoldsSession, IsNumberedAt, IsSessionSound}
 
 -- the disk has sectors enough for the system
@@ -50,8 +51,8 @@ IsClosedAt state Moved kept disk lives stops = ⊥
 abbrev pub IsSessionClosed : {D : Type 0} → (D → DiskState) → Session D → D → List Life → List Stop → Type 0
 IsSessionClosed state session disk lives stops = IsClosedAt state session.place session.kept disk lives stops
 
--- What is left of a session that stood so at its end, and what was kept of it. The disk is the one that was handed in. Where a life
--- has begun, it has sectors enough.
+-- What is left of a session that stood so at its end, and what was kept of it. The disk is the one that was handed in, cut with
+-- the picks of the session. Where a life has begun, it has sectors enough.
 pub record Remains {D : Type 0} (state : D → DiskState) (system : System) (source : List ℕ) (handed disk : D) (last : SessionState) (lives : List Life) (stops : List Stop) : Type 0 where
   pub lives_are : AreAllLives system last (map life_of lives)
   pub legal : AreLegal system (map life_of lives)
@@ -61,8 +62,10 @@ pub record Remains {D : Type 0} (state : D → DiskState) (system : System) (sou
   pub images : (image : Image) → (state disk).may_leave image → HoldsSession state system source handed last.standing image
   pub numbered : (image : Image) → (state disk).may_leave image → IsNumberedAt (session_setting state system source handed) last.standing image
   pub enough : is_some (last_life last.standing) ≡ true → HasSectors system (state handed)
+  pub cuts : AreCuts state last.picks.cut handed disk
 
--- So it is, whatever disk was handed in.
+-- So it is, whatever disk was handed in, and with whatever picks it was cut.
 abbrev pub SessionLeaves : {D : Type 0} → (D → DiskState) → Session D → D → List Life → List Stop → Type 0
 SessionLeaves {D} state session disk lives stops =
-    (system : System) → (source : List ℕ) → (handed : D) → IsSessionSound state system source handed session → Remains state system source handed disk (session_of session) lives stops
+    (system : System) → (source : List ℕ) → (handed : D) → (cut : List ℕ) → IsSessionSound state system source handed cut session
+    → Remains state system source handed disk (session_of cut session) lives stops

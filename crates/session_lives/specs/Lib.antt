@@ -1,4 +1,5 @@
 pub mod ControlCounts
+pub mod DiskCuts
 pub mod AskedControl
 pub mod RegionTurns
 pub mod RunningSession

@@ -29,6 +29,7 @@ use Rattle.session_lives.specs.declared.place.Place.TheVariants.{Up, Down, Moved
 use Rattle.session_lives.specs.declared.place.Kept.{Kept}
 use Rattle.session_lives.specs.declared.place.Session.{Session}
 use Rattle.session_lives.specs.ControlCounts.{CountsUp}
+use Rattle.session_lives.specs.DiskCuts.{AreCuts}
 
 -- ---- as a state
 
@@ -51,11 +52,12 @@ standing_of (Up control) = StandsUp (last_up control)
 standing_of (Down idle) = StandsDown (outage_of idle)
 standing_of Moved = StandsDown no_life
 
-abbrev pub session_at : {D : Type 0} → Place D → Kept → SessionState
-session_at place kept = record { lives = map life_of kept.lives.items; stops = kept.stops.items; standing = standing_of place }
+-- of a disk that was cut with these picks so far
+abbrev pub session_at : {D : Type 0} → List ℕ → Place D → Kept → SessionState
+session_at cut place kept = record { lives = map life_of kept.lives.items; stops = kept.stops.items; picks = record { kept = kept.pick; cut = cut }; standing = standing_of place }
 
-abbrev pub session_of : {D : Type 0} → Session D → SessionState
-session_of session = session_at session.place session.kept
+abbrev pub session_of : {D : Type 0} → List ℕ → Session D → SessionState
+session_of cut session = session_at cut session.place session.kept
 
 abbrev pub session_up : {D : Type 0} → ControlOnDisk D → Kept → Session D
 session_up control kept = record { place = Up control; kept = kept }
@@ -214,8 +216,8 @@ abbrev pub IsSessionReady : {D : Type 0} → (D → DiskState) → Session D →
 IsSessionReady state session = IsReadyAt state session.place session.kept
 
 -- The system is up. The stops lie behind one another, and before its life, in which the disk hasn't failed. It counts no further than up to where the disk counts
--- that was handed in, and 4,096 more for each opening, entry and stop.
-pub record IsUpSound {D : Type 0} (state : D → DiskState) (system : System) (source : List ℕ) (handed : D) (control : ControlOnDisk D) (kept : Kept) : Type 0 where
+-- that was handed in, and 4,096 more for each opening, entry and stop. The disk was cut with these picks since it was handed in.
+pub record IsUpSound {D : Type 0} (state : D → DiskState) (system : System) (source : List ℕ) (handed : D) (cut : List ℕ) (control : ControlOnDisk D) (kept : Kept) : Type 0 where
   pub handed_alone : Only (state handed).shown (state handed)
   pub system_is : control.control.system ≡ system
   pub text_is : control.text ≡ source
@@ -225,7 +227,8 @@ pub record IsUpSound {D : Type 0} (state : D → DiskState) (system : System) (s
   pub began : control.began ≡ (state control.disk).faults
   pub legal : AreLegal system (map life_of kept.lives.items)
   pub valid : IsSystem system
-  pub counts : (high : ℕ) → CountsFirst system high (state handed) → CountsUp state (high + call_raises * measure (session_at (Up control) kept)) control
+  pub counts : (high : ℕ) → CountsFirst system high (state handed) → CountsUp state (high + call_raises * measure (session_at cut (Up control) kept)) control
+  pub cuts : AreCuts state cut handed control.disk
 
 -- No life has begun, and the image is one that was handed in.
 pub record IsHanded {D : Type 0} (state : D → DiskState) (handed : D) (standing : Standing) (image : Image) : Type 0 where
@@ -258,8 +261,8 @@ abbrev pub IsOfText : {D : Type 0} → (D → DiskState) → System → List ℕ
 IsOfText state system source handed standing image = IsRight state system source handed standing image ⊎ IsHanded state handed standing image
 
 -- The system is down, and the disk holds what the outage allows, with a checkpoint of no lower number than is known. Once a life has begun it has sectors enough. It counts no further
--- than up to where it counted when it was handed in, and 4,096 more for each opening, entry and stop.
-pub record IsDownSound {D : Type 0} (state : D → DiskState) (system : System) (source : List ℕ) (handed : D) (idle : Idle D) (kept : Kept) : Type 0 where
+-- than up to where it counted when it was handed in, and 4,096 more for each opening, entry and stop. It was cut with these picks since.
+pub record IsDownSound {D : Type 0} (state : D → DiskState) (system : System) (source : List ℕ) (handed : D) (cut : List ℕ) (idle : Idle D) (kept : Kept) : Type 0 where
   pub handed_alone : Only (state handed).shown (state handed)
   pub system_is : idle.system ≡ system
   pub text_is : idle.text ≡ source
@@ -272,25 +275,28 @@ pub record IsDownSound {D : Type 0} (state : D → DiskState) (system : System) 
   pub images : (image : Image) → (state idle.disk).may_leave image → HoldsSession state system source handed (StandsDown (outage_of idle)) image
   pub numbered : (image : Image) → (state idle.disk).may_leave image → IsNumberedAt (session_setting state system source handed) (StandsDown (outage_of idle)) image
   pub valid : IsSystem system
-  pub counts : (high : ℕ) → CountsFirst system high (state handed) → CountsDown system (high + call_raises * measure (session_at (Down idle) kept)) (state idle.disk)
+  pub counts : (high : ℕ) → CountsFirst system high (state handed) → CountsDown system (high + call_raises * measure (session_at cut (Down idle) kept)) (state idle.disk)
+  pub cuts : AreCuts state cut handed idle.disk
 
-abbrev pub IsSoundAt : {D : Type 0} → (D → DiskState) → System → List ℕ → D → Place D → Kept → Type 0
-IsSoundAt state system source handed (Up control) kept = IsUpSound state system source handed control kept
-IsSoundAt state system source handed (Down idle) kept = IsDownSound state system source handed idle kept
-IsSoundAt state system source handed Moved kept = ⊥
+abbrev pub IsSoundAt : {D : Type 0} → (D → DiskState) → System → List ℕ → D → List ℕ → Place D → Kept → Type 0
+IsSoundAt state system source handed cut (Up control) kept = IsUpSound state system source handed cut control kept
+IsSoundAt state system source handed cut (Down idle) kept = IsDownSound state system source handed cut idle kept
+IsSoundAt state system source handed cut Moved kept = ⊥
 
-abbrev pub IsSessionSound : {D : Type 0} → (D → DiskState) → System → List ℕ → D → Session D → Type 0
-IsSessionSound state system source handed session = IsSoundAt state system source handed session.place session.kept
+abbrev pub IsSessionSound : {D : Type 0} → (D → DiskState) → System → List ℕ → D → List ℕ → Session D → Type 0
+IsSessionSound state system source handed cut session = IsSoundAt state system source handed cut session.place session.kept
 
 -- a relation of two states of a session, over its setting
 abbrev pub Course : Type 1
 Course = Setting → SessionState → SessionState → Type 0
 
--- Whatever disk was handed in: it leads on by this relation, and what is so between two blocks is so again.
-pub record LeadsBy {D : Type 0} (state : D → DiskState) (by : Course) (system : System) (source : List ℕ) (handed : D) (old new : Session D) : Type 0 where
-  pub goes : by (session_setting state system source handed) (session_of old) (session_of new)
-  pub sound : IsSessionSound state system source handed new
+-- Whatever disk was handed in, and with whatever picks it was cut before: it leads on by this relation, and what is so between two
+-- blocks is so again.
+pub record LeadsBy {D : Type 0} (state : D → DiskState) (by : Course) (system : System) (source : List ℕ) (handed : D) (cut : List ℕ) (old new : Session D) : Type 0 where
+  pub cut_now : List ℕ
+  pub goes : by (session_setting state system source handed) (session_of cut old) (session_of cut_now new)
+  pub sound : IsSessionSound state system source handed cut_now new
 
 abbrev pub Leads : {D : Type 0} → (D → DiskState) → Course → Session D → Session D → Type 0
 Leads {D} state by old new =
-    (system : System) → (source : List ℕ) → (handed : D) → IsSessionSound state system source handed old → LeadsBy state by system source handed old new
+    (system : System) → (source : List ℕ) → (handed : D) → (cut : List ℕ) → IsSessionSound state system source handed cut old → LeadsBy state by system source handed cut old new

@@ -49,6 +49,7 @@ impl Kept {
     pub fn new(alloc: Global) -> Kept
         ensures lives { result.lives.items ≡ [] }
         ensures stops { result.stops.items ≡ [] }
+        ensures pick { result.pick ≡ 0 }
     {
         Kept {
             lives: Vec::new(alloc),

@@ -17,7 +17,7 @@ use Rattle.logged_machine.specs.CallOutcome.{ActsOn, NumbersBy}
 use Rattle.logged_machine.specs.CheckpointDue.{TakesCheckpointWhereDue, Raises}
 use Rattle.tm_control.specs.ControlOnDisk.{ControlOnDisk, lasting_after_entries}
 
--- What no call changes, `arm` among them. The disk's time never runs back.
+-- What no call changes, `arm` among them. The disk's time never runs back, and none cuts it.
 pub record IsSameControl {D : Type 0} (state : D → DiskState) (old new : ControlOnDisk D) : Type 0 where
   pub system : new.control.system ≡ old.control.system
   pub opening : new.control.opening ≡ old.control.opening
@@ -25,6 +25,7 @@ pub record IsSameControl {D : Type 0} (state : D → DiskState) (old new : Contr
   pub text : new.text ≡ old.text
   pub began : new.began ≡ old.began
   pub disk : IsSameDisk (state old.disk) (state new.disk)
+  pub cuts : (state new.disk).cuts ≡ (state old.disk).cuts
   pub later : (state old.disk).clock ≤ (state new.disk).clock
 
 -- The disk was told to stop at a write to come, where it can be told so, and nothing else has changed.

@@ -152,7 +152,7 @@ module _ (setting : Setting) where
   told_up (Quiet most) old life new text (inl one) told = told_same new _ one.goes (λ none. cc)
   told_up (Quiet most) old life new text (inr one) told = told_same new _ one.ends (λ none. cc)
   told_up (Power pick) old life new text (same, printed) told = told_same new _ same (λ none. cc)
-  told_up (PowerIn writes pick) old life new text (same, printed) told = told_same new old same told
+  told_up (PowerIn writes pick) old life new text (same, printed) told = told_same new _ same told
   told_up Restart old life new text (same, printed) told = told_same new old same told
   told_up ColdStart old life new text (same, printed) told = told_same new old same told
 

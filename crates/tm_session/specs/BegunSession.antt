@@ -45,6 +45,7 @@ pub record HasBegun {D : Type 0} (state : D → DiskState) (system : System) (te
   pub kept : Kept
   pub lives : kept.lives.items ≡ []
   pub stops : kept.stops.items ≡ []
+  pub pick : kept.pick ≡ 0
   pub valid : IsSystem system
   pub gone : HasGone state idle kept false session opening
   pub ends : ended ≡ refusal opening

@@ -6,8 +6,8 @@ use Rattle.session_lives.proofs.Picks.{picks_down, cuts_down}
 use Rattle.session_lives.proofs.serve.serve_asked.Goals as goal
 
 pub returns-in-Some-clause-served : goal.returns-in-Some-clause-served
-returns-in-Some-clause-served g c = λ system source handed sound.
-    served_down g.D.Disk.state g.met.D.Disk.is_disk system source handed c.args.idle c.args.kept c.restart.result.0 sound c.args.asked.now c.restart.new.printed.text c.restart.result.1 c.in-Some.cold
+returns-in-Some-clause-served g c = λ system source handed cut sound.
+    served_down g.D.Disk.state g.met.D.Disk.is_disk system source handed cut c.args.idle c.args.kept c.restart.result.0 sound c.args.asked.now c.restart.new.printed.text c.restart.result.1 c.in-Some.cold
     (sym c.in-Some.ensures) c.restart.ensures.gone
 
 pub returns-in-Some-clause-pick : goal.returns-in-Some-clause-pick

@@ -16,6 +16,7 @@ returns-clause-begun g c = record {
   kept = c.new.result;
   lives = c.new.ensures.lives;
   stops = c.new.ensures.stops;
+  pick = c.new.ensures.pick;
   valid = c.logs.ensures.valid;
   gone = c.open-session.ensures.gone;
   ends = c.refusal.ensures;

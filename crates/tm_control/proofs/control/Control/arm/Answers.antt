@@ -30,6 +30,7 @@ returns-clause-arms g c = rw (sym c.self.view_is)
         text = c.arm.ensures.text;
         began = refl;
         disk = c.arm.ensures.told.same;
+        cuts = c.arm.ensures.told.cuts;
         later = c.arm.ensures.told.elapses.later;
       };
       told = c.arm.ensures.told;
