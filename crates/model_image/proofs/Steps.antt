@@ -7,7 +7,6 @@ use Rattle.tm_types.specs.declared.abend.AbendCode.{AbendCode}
 use Rattle.tm_types.specs.declared.command.LastingCommand.{LastingCommand}
 use Rattle.tm_types.specs.declared.message.Message.{Message}
 use Rattle.tm_types.specs.Commands.{IsSpellable, command_spelling}
-use Rattle.tm_types.specs.Name.{IsName}
 use Rattle.tm_types.proofs.Commands.{spelled_read}
 use Rattle.tm_types.specs.declared.message.Reply.{Reply as KeptReply}
 use Rattle.model_messages.specs.Outputs.{next_of, reply_at}

@@ -1,6 +1,6 @@
 -- A disk is cut once more, or isn't.
-use Rattle.std.proofs.Common.{◌≡◌, ℕ, List, [], ◌∷◌, ◌++◌, ◌∙◌, refl}
-use Rattle.tm_disk.specs.Disk.{DiskState, IsSameDisk, Stays, IsCut}
+use Rattle.std.proofs.Common.{ℕ, List, [], ◌∷◌, ◌++◌, ◌∙◌, refl}
+use Rattle.tm_disk.specs.Disk.{DiskState, Stays, IsCut}
 use Rattle.tm_disk.proofs.Words.{same_itself, same_on, stays_is_same}
 use Rattle.session_lives.specs.DiskCuts.{IsUncut, AreCuts}
 
