@@ -127,7 +127,7 @@ pub record IsThere (messages : List Message) (slot : Slot) : Type 0 where
   pub found : message_at messages slot.id ≡ Some message
   pub of : message.code ≡ slot.code
 
-has_its_id : (messages : List Message) (id : ℕ) (m : Message) → message_at messages id ≡ Some m → m.id ≡ id
+pub has_its_id : (messages : List Message) (id : ℕ) (m : Message) → message_at messages id ≡ Some m → m.id ≡ id
 has_its_id messages id m e = eqb-true m.id id (passes (λ x. x.id == id) messages m e)
 
 -- Ids ascend, and each region has a message of its own. Messages of the code have ids from `low` on, at most one region has one, and that
