@@ -8,7 +8,7 @@ use Rattle.std.proofs.lemmas.List.{length-append, take-append-le}
 use Rattle.tm_types.specs.declared.abend.AbendCode.{AbendCode}
 use Rattle.tm_types.specs.declared.dbd.Dbd.{Dbd}
 use Rattle.tm_types.specs.declared.command.LastingCommand.{LastingCommand}
-use Rattle.tm_types.specs.declared.command.LastingCommand.TheVariants.{StartTransaction, StopTransaction, StartTerminal, StopTerminal, DequeueFirst, DequeueAll, Exit}
+use Rattle.tm_types.specs.declared.command.LastingCommand.TheVariants.{StartTransaction, StopTransaction, StartTerminal, StopTerminal, DequeueFirst, DequeueAll, Exit, AssignClass, AssignPriority}
 use Rattle.tm_types.specs.declared.message.Message.{Message}
 use Rattle.model_messages.specs.declared.conversation.PadChange.{PadChange}
 use Rattle.model_messages.specs.declared.conversation.PadChange.TheVariants.{Stays, New, Ends}
@@ -64,6 +64,8 @@ ends_aside lines (StopTerminal terminal) lasting none = tt
 ends_aside lines (DequeueFirst terminal) lasting none = tt
 ends_aside lines (DequeueAll terminal) lasting none = tt
 ends_aside lines (Exit terminal) lasting none = none
+ends_aside lines (AssignClass code class) lasting none = tt
+ends_aside lines (AssignPriority code priority) lasting none = tt
 
 sent_aside : (lines : List (List Row)) (origin : List ℕ) (output : EndedMessage) (lasting : LastingState) (b : Bool) → is_some (output_at lasting.outputs output.to) ≡ b → output_sent origin output (with_rows lines lasting) ≡ with_rows lines (output_sent origin output lasting)
 sent_aside lines origin output lasting true is = rw is refl

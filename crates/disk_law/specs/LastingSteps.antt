@@ -8,7 +8,6 @@ use Rattle.tm_types.specs.declared.command.LastingCommand.{LastingCommand}
 use Rattle.tm_types.specs.declared.message.Message.{Message}
 use Rattle.tm_types.specs.declared.message.Reply.{Reply as KeptReply}
 use Rattle.tm_types.specs.Commands as command_texts
-use Rattle.tm_types.specs.Name.{IsName}
 use Rattle.model_messages.specs.declared.conversation.PadChange.{PadChange}
 use Rattle.model_messages.specs.Outputs.{next_of, reply_at}
 use Rattle.model_messages.specs.declared.ended_message.EndedMessage.{EndedMessage}
@@ -90,9 +89,9 @@ command_record command = Command (command_texts.command_spelling command)
 abbrev pub commanding : LastingCommand → LifeOnDisk → StepOnDisk
 commanding command life = beside_slots (command_record command ∷ []) (applied (Commands command) life.lasting) life
 
--- It names a code or a terminal of the system, and ends no conversation of which a message waits.
+-- It names a code or a terminal of the system, assigns what may be, and ends no conversation of which a message waits.
 pub record MayCommand (command : LastingCommand) (life : LifeOnDisk) : Type 0 where
-  pub named : IsName (command_texts.name_in command)
+  pub named : command_texts.IsSpellable command
   pub known : names_known life.system command ≡ true
   pub none : EndsNoneWaiting command life.lasting
   pub fits : FitsRanges life.system (applied (Commands command) life.lasting)

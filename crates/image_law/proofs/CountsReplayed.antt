@@ -4,7 +4,7 @@ use Rattle.std.specs.Prelude.{Option, ◌==◌, filter, if◌then◌else◌}
 use Rattle.std.specs.Option.{option_map, option_map_or, option_and_then, is_some}
 use Rattle.std.specs.List.{AllByRecursion}
 use Rattle.tm_types.specs.declared.command.LastingCommand.{LastingCommand}
-use Rattle.tm_types.specs.declared.command.LastingCommand.TheVariants.{StartTransaction, StopTransaction, StartTerminal, StopTerminal, DequeueFirst, DequeueAll, Exit}
+use Rattle.tm_types.specs.declared.command.LastingCommand.TheVariants.{StartTransaction, StopTransaction, StartTerminal, StopTerminal, DequeueFirst, DequeueAll, Exit, AssignClass, AssignPriority}
 use Rattle.tm_types.specs.declared.message.Message.{Message}
 use Rattle.tm_types.specs.Commands.{command_in}
 use Rattle.tm_types.specs.declared.abend.AbendCode.{AbendCode}
@@ -100,6 +100,8 @@ commanded_counted (DequeueAll terminal) lasting is = record {
   replies = terminal_kept terminal without_replies lasting.outputs (λ t all. tt) is.replies;
 }
 commanded_counted (Exit terminal) lasting is = record { messages = is.messages; replies = is.replies }
+commanded_counted (AssignClass code class) lasting is = record { messages = is.messages; replies = is.replies }
+commanded_counted (AssignPriority code priority) lasting is = record { messages = is.messages; replies = is.replies }
 
 commanded_left : (command : Option LastingCommand) (lasting : LastingState) → AreSegmentsCounted lasting → IfLeft (option_map (λ c. applied (Commands c) lasting) command)
 commanded_left None lasting is = tt

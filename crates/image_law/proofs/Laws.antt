@@ -9,8 +9,7 @@ use Rattle.std.proofs.lemmas.List.{append-nil}
 use Rattle.tm_types.specs.declared.abend.AbendCode.{AbendCode}
 use Rattle.tm_types.specs.declared.command.LastingCommand.{LastingCommand}
 use Rattle.tm_types.specs.declared.message.Message.{Message}
-use Rattle.tm_types.specs.Commands.{name_in, command_spelling}
-use Rattle.tm_types.specs.Name.{IsName}
+use Rattle.tm_types.specs.Commands.{IsSpellable, command_spelling}
 use Rattle.tm_types.proofs.Commands.{spelled_read}
 use Rattle.tm_types.specs.declared.message.Reply.{Reply as KeptReply}
 use Rattle.model_messages.specs.declared.conversation.PadChange.{PadChange}
@@ -141,15 +140,15 @@ module _ (system : System) (lasting : LastingState) (waiting : List Record) (sou
       (none_broken system after (counted_stands system (lasting.steps + 1) _ (acknowledged_stands system terminal lasting s)) fits))
 
   -- a command is done
-  pub command_replayed : (command : LastingCommand) → IsName (name_in command) → names_known system command ≡ true → EndsNoneWaiting command lasting → FitsRanges system (applied (Commands command) lasting) →
+  pub command_replayed : (command : LastingCommand) → IsSpellable command → names_known system command ≡ true → EndsNoneWaiting command lasting → FitsRanges system (applied (Commands command) lasting) →
       replay_all system (Command (command_spelling command) ∷ []) Before ≡ Some (After (applied (Commands command) lasting))
   command_replayed command named known none fits =
       let after = applied (Commands command) lasting in
       alone (Command (command_spelling command)) (After after)
       (one_done system (Command (command_spelling command)) Before (After after)
-      (ap (λ (o : Option LastingCommand). option_map_or (names_known system) o false) (spelled_read (command_spelling command) command (record { spelled = refl; named = named })) ∙ known)
+      (ap (λ (o : Option LastingCommand). option_map_or (names_known system) o false) (spelled_read (command_spelling command) command (record { spelled = refl; named = named.0; assigned = named.1 })) ∙ known)
       (ap (with_lasting Before) (commands_again lasting command named))
-      (none_broken system after (counted_stands system (lasting.steps + 1) _ (commanded_stands system command lasting s none)) fits))
+      (none_broken system after (counted_stands system (lasting.steps + 1) _ (commanded_stands system command lasting s none named.1)) fits))
 
   module _ (id : ℕ) (message : Message) (found : message_at lasting.messages id ≡ Some message) where
     -- a message is discarded

@@ -3,7 +3,7 @@ use Rattle.std.proofs.Common.{◌≡◌, ℕ, ◌+◌, ◌*◌, ◌≤◌, List,
 use Rattle.std.proofs.lemmas.List.Sums.{sum_by_push}
 use Rattle.tm_types.specs.declared.abend.AbendCode.{AbendCode}
 use Rattle.tm_types.specs.declared.command.LastingCommand.{LastingCommand}
-use Rattle.tm_types.specs.declared.command.LastingCommand.TheVariants.{StartTransaction, StopTransaction, StartTerminal, StopTerminal, DequeueFirst, DequeueAll, Exit}
+use Rattle.tm_types.specs.declared.command.LastingCommand.TheVariants.{StartTransaction, StopTransaction, StartTerminal, StopTerminal, DequeueFirst, DequeueAll, Exit, AssignClass, AssignPriority}
 use Rattle.tm_types.specs.declared.message.Message.{Message}
 use Rattle.model_messages.specs.declared.conversation.PadChange.{PadChange}
 use Rattle.model_data.specs.declared.row.Row.{Row}
@@ -55,3 +55,5 @@ commanded_content (StopTerminal terminal) lasting = omega arith
 commanded_content (DequeueFirst terminal) lasting = acknowledged_content terminal lasting
 commanded_content (DequeueAll terminal) lasting = omega (arith, dequeued_bytes terminal lasting.outputs)
 commanded_content (Exit terminal) lasting = omega arith
+commanded_content (AssignClass code class) lasting = omega arith
+commanded_content (AssignPriority code priority) lasting = omega arith

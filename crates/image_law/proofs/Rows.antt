@@ -3,7 +3,7 @@ use Rattle.std.proofs.Common.{◌≡◌, Bool, true, false, List, [], ◌∷◌,
 use Rattle.std.specs.Prelude.{Option}
 use Rattle.std.specs.Option.{is_some}
 use Rattle.tm_types.specs.declared.command.LastingCommand.{LastingCommand}
-use Rattle.tm_types.specs.declared.command.LastingCommand.TheVariants.{StartTransaction, StopTransaction, StartTerminal, StopTerminal, DequeueFirst, DequeueAll, Exit}
+use Rattle.tm_types.specs.declared.command.LastingCommand.TheVariants.{StartTransaction, StopTransaction, StartTerminal, StopTerminal, DequeueFirst, DequeueAll, Exit, AssignClass, AssignPriority}
 use Rattle.tm_types.specs.declared.message.Message.{Message}
 use Rattle.model_messages.specs.declared.conversation.PadChange.{PadChange}
 use Rattle.model_messages.specs.declared.ended_message.EndedMessage.{EndedMessage}
@@ -48,6 +48,8 @@ module _ (rows : List (List Row)) where
   commanded_rows (DequeueFirst terminal) lasting = refl
   commanded_rows (DequeueAll terminal) lasting = refl
   commanded_rows (Exit terminal) lasting = refl
+  commanded_rows (AssignClass code class) lasting = refl
+  commanded_rows (AssignPriority code priority) lasting = refl
 
   pub rows_aside : (step : LastingStep) (lasting : LastingState) → with_rows rows (applied step lasting) ≡ applied (at_rows rows step) (with_rows rows lasting)
   rows_aside (Accepts terminal number kept) lasting = refl

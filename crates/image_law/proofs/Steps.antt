@@ -1,5 +1,5 @@
 -- Each call of the machine leaves it sound.
-use Rattle.std.proofs.Common.{◌≡◌, ℕ, ◌+◌, ◌-◌, nat_le, Bool, true, false, ◌||◌, List, [], ◌∷◌, map, find, Option, Some, None, Result, Ok, Err, IsSome, All, refl, sym, ◌∙◌, ap, subst, arith}
+use Rattle.std.proofs.Common.{◌≡◌, ℕ, ◌+◌, ◌-◌, nat_le, Bool, true, false, ◌||◌, List, [], ◌∷◌, map, find, Option, Some, None, Result, Ok, Err, IsSome, IfSome, All, refl, sym, ◌∙◌, ap, subst, arith}
 use Rattle.std.specs.Prelude.{if◌then◌else◌, ◌==◌}
 use Rattle.std.specs.List.{list_all, list_any}
 use Rattle.std.specs.Option.{is_some, option_and_then, option_map, option_map_or}
@@ -8,8 +8,9 @@ use Rattle.std.proofs.lemmas.Bool.Decides.{nat_tests}
 use Rattle.std.proofs.lemmas.List.Elements.{All-head, All-tail}
 use Rattle.tm_types.specs.declared.abend.AbendCode.{AbendCode}
 use Rattle.tm_types.specs.declared.command.LastingCommand.{LastingCommand}
-use Rattle.tm_types.specs.declared.command.LastingCommand.TheVariants.{StartTransaction, StopTransaction, StartTerminal, StopTerminal, DequeueFirst, DequeueAll, Exit}
+use Rattle.tm_types.specs.declared.command.LastingCommand.TheVariants.{StartTransaction, StopTransaction, StartTerminal, StopTerminal, DequeueFirst, DequeueAll, Exit, AssignClass, AssignPriority}
 use Rattle.tm_types.specs.declared.message.Message.{Message}
+use Rattle.tm_types.specs.Commands.{IsAssigned}
 use Rattle.model_machine.specs.declared.command.Command.{Command}
 use Rattle.model_machine.specs.declared.command.Command.TheVariants as command
 use Rattle.model_messages.specs.declared.conversation.Conversation.{Conversation}
@@ -31,14 +32,14 @@ use Rattle.model_machine.specs.declared.entry.Acked.{Acked}
 use Rattle.model_machine.specs.declared.entry.Acked.TheVariants.{Removed, Already as AckAlready}
 use Rattle.model_machine.specs.declared.entry.AckRefused.{AckRefused}
 use Rattle.model_machine.specs.declared.entry.ControlCall.{ControlCall}
-use Rattle.model_machine.specs.declared.entry.ControlCall.TheVariants.{Input, Receive, Acknowledge, Turn, Command as CommandCall, Checkpoint as CheckpointCall}
+use Rattle.model_machine.specs.declared.entry.ControlCall.TheVariants.{Input, Receive, Acknowledge, Turn, Command as CommandCall, Checkpoint as CheckpointCall, AskQuiet}
 use Rattle.model_machine.specs.declared.entry.InputRefused.{InputRefused}
 use Rattle.model_machine.specs.declared.entry.InputRefused.TheVariants.{Terminal as NoTerminal, Code as NoCode}
 use Rattle.model_machine.specs.declared.entry.Taken.{Taken}
 use Rattle.model_machine.specs.declared.entry.Taken.TheVariants.{New as IsNewInput, Already}
 use Rattle.model_machine.specs.declared.lasting.TerminalState.{TerminalState}
 use Rattle.model_machine.specs.declared.entry.CommandRefused.TheVariants.{UnknownName}
-use Rattle.model_machine.specs.CommandAnswers.{CommandAnswer, command_answer, command_step, exited, steps_by}
+use Rattle.model_machine.specs.CommandAnswers.{CommandAnswer, command_answer, command_step, exited, lasting_command, steps_by}
 use Rattle.model_machine.specs.History.{AreVictims}
 use Rattle.model_machine.specs.LastingSteps.{LastingStep, KeptInput, abend_outputs, dfs555i_text, all_sent, applied, discarded_pad, finished_by, kept_input, with_pad_changed, replied, output_sent, switched, with_pad_by, with_conversation_text}
 use Rattle.model_machine.specs.LastingSteps.LastingStep.{Accepts, Commands}
@@ -49,7 +50,7 @@ use Rattle.model_machine.specs.Trial.{Advance, Trial, outputs_of, pad_of}
 use Rattle.model_machine.specs.Trial.Advance.{Goes, Stops}
 use Rattle.model_machine.specs.Trial.WorkEnd.{Ends as ScriptEnds, Syncs, Abends}
 use Rattle.system_types.specs.ValidSystem.{IsPadLength, IsSystem}
-use Rattle.image_law.specs.StepNeeds.{EndsNoneWaiting, IsConversationFree, PadFits, has_receiver, has_room, takes_switched}
+use Rattle.image_law.specs.StepNeeds.{AssignsInRange, EndsNoneWaiting, IsConversationFree, PadFits, has_receiver, has_room, takes_switched}
 use Rattle.image_law.proofs.Accepted.{accepted_stands}
 use Rattle.image_law.proofs.Commanded.{commanded_stands}
 use Rattle.image_law.proofs.Conversing.{itself_changed}
@@ -278,12 +279,12 @@ module _ (system : System) (valid : IsSystem system) (moment : Moment) (names : 
   there_exit false terminal answer step e = cc
 
   -- a command that is done
-  done_stands : (command : LastingCommand) → EndsNoneWaiting command moment.lasting → StandsLasting system (applied (Commands command) moment.lasting)
-  done_stands command none = counted_stands system (moment.lasting.steps + 1) _ (commanded_stands system command moment.lasting s none)
+  done_stands : (command : LastingCommand) → EndsNoneWaiting command moment.lasting → IsAssigned command → StandsLasting system (applied (Commands command) moment.lasting)
+  done_stands command none assigned = counted_stands system (moment.lasting.steps + 1) _ (commanded_stands system command moment.lasting s none assigned)
 
-  answered_stands : (command : LastingCommand) (answer : CommandAnswer) → EndsNoneWaiting command moment.lasting → StandsLasting system (behind (steps_by (Some command) answer))
-  answered_stands command (Ok answer) none = done_stands command none
-  answered_stands command (Err refused) none = s
+  answered_stands : (command : LastingCommand) (answer : CommandAnswer) → EndsNoneWaiting command moment.lasting → IsAssigned command → StandsLasting system (behind (steps_by (Some command) answer))
+  answered_stands command (Ok answer) none assigned = done_stands command none assigned
+  answered_stands command (Err refused) none assigned = s
 
   exit_stands : (terminal : List ℕ) (step : Option LastingStep) → step ≡ command_step system moment (command.Exit terminal) → StandsLasting system (behind step)
   exit_stands terminal None e = s
@@ -291,43 +292,46 @@ module _ (system : System) (valid : IsSystem system) (moment : Moment) (names : 
       let c = conversations.conversation_at terminal moment.lasting.conversations in
       let there = there_exit (is_some (terminal_at moment.lasting.terminals terminal)) terminal (exited terminal c (busy_id terminal moment.lasting.messages)) step e in
       let none = exit_free terminal c moment.lasting.messages step there in
-      subst (λ (x : Option LastingStep). StandsLasting system (behind x)) (sym e) (answered_stands (Exit terminal) (command_answer system moment (command.Exit terminal)) none)
+      subst (λ (x : Option LastingStep). StandsLasting system (behind x)) (sym e) (answered_stands (Exit terminal) (command_answer system moment (command.Exit terminal)) none tt)
 
   nothing_stands : (answer : CommandAnswer) → StandsLasting system (behind (steps_by None answer))
   nothing_stands (Ok answer) = s
   nothing_stands (Err refused) = s
 
-  command_stands : (c : Command) → StandsLasting system (behind (command_step system moment c))
-  command_stands (command.StartTransaction code) = answered_stands (StartTransaction code) (command_answer system moment (command.StartTransaction code)) tt
-  command_stands (command.StopTransaction code) = answered_stands (StopTransaction code) (command_answer system moment (command.StopTransaction code)) tt
-  command_stands (command.StartTerminal terminal) = answered_stands (StartTerminal terminal) (command_answer system moment (command.StartTerminal terminal)) tt
-  command_stands (command.StopTerminal terminal) = answered_stands (StopTerminal terminal) (command_answer system moment (command.StopTerminal terminal)) tt
-  command_stands (command.DequeueFirst terminal) = answered_stands (DequeueFirst terminal) (command_answer system moment (command.DequeueFirst terminal)) tt
-  command_stands (command.DequeueAll terminal) = answered_stands (DequeueAll terminal) (command_answer system moment (command.DequeueAll terminal)) tt
-  command_stands (command.Exit terminal) = exit_stands terminal _ refl
-  command_stands (command.DisplayTransaction code) = nothing_stands (command_answer system moment (command.DisplayTransaction code))
-  command_stands (command.DisplayTerminal terminal) = nothing_stands (command_answer system moment (command.DisplayTerminal terminal))
-  command_stands command.DisplayActive = s
-  command_stands command.Checkpoint = s
-  command_stands command.Freeze = s
-  command_stands command.EmergencyRestart = s
-  command_stands command.NormalRestart = s
-  command_stands command.ColdStart = s
+  command_stands : (c : Command) → IfSome (lasting_command c) IsAssigned → StandsLasting system (behind (command_step system moment c))
+  command_stands (command.StartTransaction code) assigned = answered_stands (StartTransaction code) (command_answer system moment (command.StartTransaction code)) tt tt
+  command_stands (command.StopTransaction code) assigned = answered_stands (StopTransaction code) (command_answer system moment (command.StopTransaction code)) tt tt
+  command_stands (command.StartTerminal terminal) assigned = answered_stands (StartTerminal terminal) (command_answer system moment (command.StartTerminal terminal)) tt tt
+  command_stands (command.StopTerminal terminal) assigned = answered_stands (StopTerminal terminal) (command_answer system moment (command.StopTerminal terminal)) tt tt
+  command_stands (command.DequeueFirst terminal) assigned = answered_stands (DequeueFirst terminal) (command_answer system moment (command.DequeueFirst terminal)) tt tt
+  command_stands (command.DequeueAll terminal) assigned = answered_stands (DequeueAll terminal) (command_answer system moment (command.DequeueAll terminal)) tt tt
+  command_stands (command.Exit terminal) assigned = exit_stands terminal _ refl
+  command_stands (command.AssignClass code class) assigned = answered_stands (AssignClass code class) (command_answer system moment (command.AssignClass code class)) tt assigned
+  command_stands (command.AssignPriority code priority) assigned = answered_stands (AssignPriority code priority) (command_answer system moment (command.AssignPriority code priority)) tt assigned
+  command_stands (command.DisplayTransaction code) assigned = nothing_stands (command_answer system moment (command.DisplayTransaction code))
+  command_stands (command.DisplayTerminal terminal) assigned = nothing_stands (command_answer system moment (command.DisplayTerminal terminal))
+  command_stands command.DisplayActive assigned = s
+  command_stands command.Checkpoint assigned = s
+  command_stands command.Freeze assigned = s
+  command_stands command.EmergencyRestart assigned = s
+  command_stands command.NormalRestart assigned = s
+  command_stands command.ColdStart assigned = s
 
   -- ---- all calls
 
-  call_stands : (call : ControlCall) (victims : List Victim) → RightPads (After system moment call victims).lasting → StandsLasting system (After system moment call victims).lasting
-  call_stands (Input terminal number segments) victims right = input_stands terminal number segments _ refl
-  call_stands (Receive terminal) victims right = s
-  call_stands (Acknowledge terminal number) victims right = ack_stands terminal (ack_answer moment terminal number)
-  call_stands (Turn region) victims right = turn_stands region (slot_at moment region) right
-  call_stands (CommandCall command) victims right = command_stands command
-  call_stands (CheckpointCall freeze) victims right = s
+  call_stands : (call : ControlCall) (victims : List Victim) → AssignsInRange call → RightPads (After system moment call victims).lasting → StandsLasting system (After system moment call victims).lasting
+  call_stands (Input terminal number segments) victims assigned right = input_stands terminal number segments _ refl
+  call_stands (Receive terminal) victims assigned right = s
+  call_stands (Acknowledge terminal number) victims assigned right = ack_stands terminal (ack_answer moment terminal number)
+  call_stands (Turn region) victims assigned right = turn_stands region (slot_at moment region) right
+  call_stands (CommandCall command) victims assigned right = command_stands command assigned
+  call_stands (CheckpointCall freeze) victims assigned right = s
+  call_stands AskQuiet victims assigned right = s
 
-  -- A machine that is sound stays so, where its pads are right.
-  pub stays_sound : (call : ControlCall) (victims : List Victim) → AreVictims system moment victims call → list_all (has_right_pad system) (After system moment call victims).lasting.conversations ≡ true
+  -- A machine that is sound stays so, where its pads are right and what is assigned may be.
+  pub stays_sound : (call : ControlCall) (victims : List Victim) → AssignsInRange call → AreVictims system moment victims call → list_all (has_right_pad system) (After system moment call victims).lasting.conversations ≡ true
       → StaysSound system (After system moment call victims)
-  stays_sound call victims are right = record {
-    stands = call_stands call victims right;
+  stays_sound call victims assigned are right = record {
+    stands = call_stands call victims assigned right;
     room = call_fits system valid moment sound call victims are;
   }

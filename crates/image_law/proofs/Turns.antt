@@ -17,7 +17,7 @@ use Rattle.model_machine.specs.declared.entry.Acked.{Acked}
 use Rattle.model_machine.specs.declared.entry.Acked.TheVariants.{Removed, Already as AckAlready}
 use Rattle.model_machine.specs.declared.entry.AckRefused.{AckRefused}
 use Rattle.model_machine.specs.declared.entry.ControlCall.{ControlCall}
-use Rattle.model_machine.specs.declared.entry.ControlCall.TheVariants.{Input, Receive, Acknowledge, Turn, Command, Checkpoint}
+use Rattle.model_machine.specs.declared.entry.ControlCall.TheVariants.{Input, Receive, Acknowledge, Turn, Command, Checkpoint, AskQuiet}
 use Rattle.model_machine.specs.declared.entry.InputRefused.{InputRefused}
 use Rattle.model_machine.specs.declared.entry.Taken.{Taken}
 use Rattle.model_machine.specs.declared.entry.Taken.TheVariants.{New, Already}
@@ -180,3 +180,4 @@ module _ (system : System) (valid : IsSystem system) (moment : Moment) (sound : 
   call_fits (Turn region) victims right = turn_fits region victims (slot_at moment region) refl right
   call_fits (Command command) victims right = command_fits (lasting_command command) (command_answer system moment command)
   call_fits (Checkpoint freeze) victims right = sound.room
+  call_fits AskQuiet victims right = sound.room

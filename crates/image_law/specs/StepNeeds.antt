@@ -1,10 +1,11 @@
 -- What a step needs, to leave a state that breaks no rule.
-use Rattle.std.specs.Prelude.{◌≡◌, ℕ, ◌==◌, nat_le, Bool, true, false, ◌&&◌, ◌||◌, if◌then◌else◌, List, IsSome}
+use Rattle.std.specs.Prelude.{◌≡◌, ℕ, ◌==◌, nat_le, Bool, true, false, ◌&&◌, ◌||◌, if◌then◌else◌, List, IsSome, IfSome}
 use Rattle.std.specs.List.{list_all, list_any}
 use Rattle.std.specs.Option.{is_some, option_map_or}
 use Rattle.tm_types.specs.declared.command.LastingCommand.{LastingCommand}
 use Rattle.tm_types.specs.declared.command.LastingCommand.TheVariants.{Exit}
 use Rattle.tm_types.specs.declared.message.Message.{Message}
+use Rattle.tm_types.specs.Commands.{IsAssigned}
 use Rattle.model_messages.specs.declared.conversation.PadChange.{PadChange}
 use Rattle.model_messages.specs.declared.conversation.PadChange.TheVariants.{Stays, New, Ends}
 use Rattle.model_messages.specs.Terminals as conversations
@@ -14,6 +15,9 @@ use Rattle.model_messages.specs.declared.ended_message.EndedMessage.{EndedMessag
 use Rattle.model_system.specs.declared.code.Code.{Code}
 use Rattle.model_system.specs.Codes.{code_at}
 use Rattle.model_system.specs.System.{System}
+use Rattle.model_machine.specs.declared.entry.ControlCall.{ControlCall}
+use Rattle.model_machine.specs.declared.entry.ControlCall.TheVariants.{Command}
+use Rattle.model_machine.specs.CommandAnswers.{lasting_command}
 use Rattle.model_machine.specs.Machine.{LastingState, output_at}
 use Rattle.model_machine.specs.LastingSteps.{with_conversation_text}
 use Rattle.model_image.specs.States.{is_system_terminal, is_system_code, is_conversation}
@@ -52,3 +56,8 @@ pub record IsConversationFree (terminal : List ℕ) (lasting : LastingState) : T
 abbrev pub EndsNoneWaiting : LastingCommand → LastingState → Type 0
 EndsNoneWaiting (Exit terminal) lasting = list_any (is_conversing terminal) lasting.messages ≡ false
 EndsNoneWaiting _ lasting = Unit {0}
+
+-- what a call assigns may be
+abbrev pub AssignsInRange : ControlCall → Type 0
+AssignsInRange (Command command) = IfSome (lasting_command command) IsAssigned
+AssignsInRange _ = Unit {0}

@@ -5,7 +5,7 @@ use Rattle.std.specs.Option.{option_map_or}
 use Rattle.tm_disk.specs.Disk.{Image}
 use Rattle.model_system.specs.System.{System}
 use Rattle.model_data.specs.Table.{EnqueueTable}
-use Rattle.model_machine.specs.declared.entry.ControlCall.TheVariants.{Input, Receive, Acknowledge}
+use Rattle.model_machine.specs.declared.entry.ControlCall.TheVariants.{Input, Receive, Acknowledge, AskQuiet}
 use Rattle.model_machine.specs.declared.entry.Taken.{Taken}
 use Rattle.model_machine.specs.declared.entry.Taken.TheVariants.{New, Already}
 use Rattle.model_machine.specs.declared.entry.InputRefused.{InputRefused}
@@ -77,7 +77,7 @@ module _ (system : System) (valid : IsSystem system) (moment : Moment) (slots : 
     after_input = After system moment (Input terminal number segments) []
 
     input_sound : StaysSound system after_input
-    input_sound = stays_sound system valid moment (has_terminals system moment.lasting c.is.names) c.sound (Input terminal number segments) [] refl right
+    input_sound = stays_sound system valid moment (has_terminals system moment.lasting c.is.names) c.sound (Input terminal number segments) [] tt refl right
 
     refused : (answer : Result Taken InputRefused) → input_answer system moment terminal number segments ≡ answer → accepted_step terminal number kept answer ≡ None → LifeGoesOn [] system after_input slots units next life
     refused answer is none =
@@ -101,7 +101,7 @@ module _ (system : System) (valid : IsSystem system) (moment : Moment) (slots : 
     after_ack = After system moment (Acknowledge terminal number) []
 
     ack_sound : StaysSound system after_ack
-    ack_sound = stays_sound system valid moment (has_terminals system moment.lasting c.is.names) c.sound (Acknowledge terminal number) [] refl right
+    ack_sound = stays_sound system valid moment (has_terminals system moment.lasting c.is.names) c.sound (Acknowledge terminal number) [] tt refl right
 
     nothing : (answer : Result Acked AckRefused) → ack_answer moment terminal number ≡ answer → acknowledged_step terminal answer ≡ None → LifeGoesOn [] system after_ack slots units next life
     nothing answer is none =
@@ -123,4 +123,9 @@ module _ (system : System) (valid : IsSystem system) (moment : Moment) (slots : 
   -- A terminal is shown its reply.
   pub show_goes : (terminal : List ℕ) → list_all (has_right_pad system) (After system moment (Receive terminal) []).lasting.conversations ≡ true → LifeGoesOn [] system (After system moment (Receive terminal) []) slots units next life
   show_goes terminal right =
-      same_goes system moment (After system moment (Receive terminal) []) slots units next life c refl refl refl (stays_sound system valid moment (has_terminals system moment.lasting c.is.names) c.sound (Receive terminal) [] refl right)
+      same_goes system moment (After system moment (Receive terminal) []) slots units next life c refl refl refl (stays_sound system valid moment (has_terminals system moment.lasting c.is.names) c.sound (Receive terminal) [] tt refl right)
+
+  -- It is told whether nothing is left to do.
+  pub quiet_goes : list_all (has_right_pad system) (After system moment AskQuiet []).lasting.conversations ≡ true → LifeGoesOn [] system (After system moment AskQuiet []) slots units next life
+  quiet_goes right =
+      same_goes system moment (After system moment AskQuiet []) slots units next life c refl refl refl (stays_sound system valid moment (has_terminals system moment.lasting c.is.names) c.sound AskQuiet [] tt refl right)

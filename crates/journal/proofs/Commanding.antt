@@ -8,10 +8,9 @@ use Rattle.tm_types.specs.declared.command.LastingCommand.{LastingCommand}
 use Rattle.tm_types.specs.declared.command.LastingCommand.TheVariants as lasts
 use Rattle.tm_types.specs.declared.message.Message.{Message}
 use Rattle.tm_types.specs.Commands as texts
-use Rattle.tm_types.specs.Name.{IsName}
 use Rattle.model_machine.specs.declared.answer.Answer.{Answer}
 use Rattle.model_machine.specs.declared.command.Command.{Command}
-use Rattle.model_machine.specs.declared.command.Command.TheVariants.{StartTransaction, StopTransaction, StartTerminal, StopTerminal, DisplayTransaction, DisplayTerminal, DisplayActive, Checkpoint, Freeze, DequeueFirst, DequeueAll, Exit, EmergencyRestart, NormalRestart, ColdStart}
+use Rattle.model_machine.specs.declared.command.Command.TheVariants.{StartTransaction, StopTransaction, StartTerminal, StopTerminal, DisplayTransaction, DisplayTerminal, DisplayActive, Checkpoint, Freeze, DequeueFirst, DequeueAll, Exit, AssignClass, AssignPriority, EmergencyRestart, NormalRestart, ColdStart}
 use Rattle.model_messages.specs.declared.conversation.Conversation.{Conversation}
 use Rattle.model_messages.specs.ConversationInput.{busy_id, is_conversing}
 use Rattle.model_messages.specs.Terminals.{conversation_at}
@@ -115,12 +114,12 @@ module _ (system : System) (valid : IsSystem system) (moment : Moment) (slots : 
       (none_busy terminal (conversation_at terminal moment.lasting.conversations) (find (is_conversing terminal) moment.lasting.messages) a
       (answered_where (is_some (terminal_at moment.lasting.terminals terminal)) terminal answer a e))
 
-  module _ (command : Command) (right : list_all (has_right_pad system) (After system moment (CommandCall command) []).lasting.conversations ≡ true) where
+  module _ (command : Command) (assigned : IfSome (lasting_command command) texts.IsAssigned) (right : list_all (has_right_pad system) (After system moment (CommandCall command) []).lasting.conversations ≡ true) where
     abbrev after : Moment
     after = After system moment (CommandCall command) []
 
     sound : StaysSound system after
-    sound = stays_sound system valid moment names c.sound (CommandCall command) [] refl right
+    sound = stays_sound system valid moment names c.sound (CommandCall command) [] assigned refl right
 
     -- nothing lasts of it
     nothing : command_step system moment command ≡ None → LifeGoesOn [] system after slots units next life
@@ -128,7 +127,7 @@ module _ (system : System) (valid : IsSystem system) (moment : Moment) (slots : 
 
     -- ---- one that lasts is done
 
-    module _ (does : LastingCommand) (step_is : command_step system moment command ≡ Some (Commands does)) (named : IsName (texts.name_in does)) (is_done : IsDone system moment.lasting does) where
+    module _ (does : LastingCommand) (step_is : command_step system moment command ≡ Some (Commands does)) (named : texts.IsSpellable does) (is_done : IsDone system moment.lasting does) where
       abbrev behind : LastingState
       behind = applied (Commands does) moment.lasting
 
@@ -187,7 +186,7 @@ module _ (system : System) (valid : IsSystem system) (moment : Moment) (slots : 
           }
 
     -- by its answer
-    lasting_by : (does : LastingCommand) (answer : CommandAnswer) → command_step system moment command ≡ steps_by (Some does) answer → IsName (texts.name_in does)
+    lasting_by : (does : LastingCommand) (answer : CommandAnswer) → command_step system moment command ≡ steps_by (Some does) answer → texts.IsSpellable does
         → ((a : Answer) → answer ≡ Ok a → IsDone system moment.lasting does) → HasRoom (told_by 0 moment.lasting (steps_by (Some does) answer)) life
         → GoesBy (steps_by (Some does) answer) (flat_map record_spelling (told_by 0 moment.lasting (steps_by (Some does) answer))) system after slots units next life
     lasting_by does (Ok a) is named done room = done_goes does is named (done a refl) room
@@ -199,36 +198,40 @@ module _ (system : System) (valid : IsSystem system) (moment : Moment) (slots : 
     shown_by (Err refused) is = nothing is
 
   -- A command is answered.
-  pub command_goes : (command : Command) → IfSome (lasting_command command) (λ does. IsName (texts.name_in does))
+  pub command_goes : (command : Command) → IfSome (lasting_command command) texts.IsSpellable
       → list_all (has_right_pad system) (After system moment (CommandCall command) []).lasting.conversations ≡ true
       → HasRoom (told_by 0 moment.lasting (lasting_step system moment (CommandCall command))) life
       → GoesBy (lasting_step system moment (CommandCall command)) (flat_map record_spelling (told_by 0 moment.lasting (lasting_step system moment (CommandCall command)))) system (After system moment (CommandCall command) []) slots units next life
   command_goes (StartTransaction code) named right room =
-      lasting_by (StartTransaction code) right (lasts.StartTransaction code) (command_answer system moment (StartTransaction code)) refl named (λ a e. record { known = of_code_done code _ a e; none = tt }) room
+      lasting_by (StartTransaction code) named.1 right (lasts.StartTransaction code) (command_answer system moment (StartTransaction code)) refl named (λ a e. record { known = of_code_done code _ a e; none = tt }) room
   command_goes (StopTransaction code) named right room =
-      lasting_by (StopTransaction code) right (lasts.StopTransaction code) (command_answer system moment (StopTransaction code)) refl named (λ a e. record { known = of_code_done code _ a e; none = tt }) room
+      lasting_by (StopTransaction code) named.1 right (lasts.StopTransaction code) (command_answer system moment (StopTransaction code)) refl named (λ a e. record { known = of_code_done code _ a e; none = tt }) room
   command_goes (StartTerminal terminal) named right room =
-      lasting_by (StartTerminal terminal) right (lasts.StartTerminal terminal) (command_answer system moment (StartTerminal terminal)) refl named (λ a e. record { known = of_terminal_done terminal _ a e; none = tt }) room
+      lasting_by (StartTerminal terminal) named.1 right (lasts.StartTerminal terminal) (command_answer system moment (StartTerminal terminal)) refl named (λ a e. record { known = of_terminal_done terminal _ a e; none = tt }) room
   command_goes (StopTerminal terminal) named right room =
-      lasting_by (StopTerminal terminal) right (lasts.StopTerminal terminal) (command_answer system moment (StopTerminal terminal)) refl named (λ a e. record { known = of_terminal_done terminal _ a e; none = tt }) room
+      lasting_by (StopTerminal terminal) named.1 right (lasts.StopTerminal terminal) (command_answer system moment (StopTerminal terminal)) refl named (λ a e. record { known = of_terminal_done terminal _ a e; none = tt }) room
   command_goes (DequeueFirst terminal) named right room =
-      lasting_by (DequeueFirst terminal) right (lasts.DequeueFirst terminal) (command_answer system moment (DequeueFirst terminal)) refl named
+      lasting_by (DequeueFirst terminal) named.1 right (lasts.DequeueFirst terminal) (command_answer system moment (DequeueFirst terminal)) refl named
       (λ a e. record { known = by_outputs terminal (first_known terminal (output_at moment.lasting.outputs terminal) a e); none = tt }) room
   command_goes (DequeueAll terminal) named right room =
-      lasting_by (DequeueAll terminal) right (lasts.DequeueAll terminal) (command_answer system moment (DequeueAll terminal)) refl named
+      lasting_by (DequeueAll terminal) named.1 right (lasts.DequeueAll terminal) (command_answer system moment (DequeueAll terminal)) refl named
       (λ a e. record { known = by_outputs terminal (all_known terminal (output_at moment.lasting.outputs terminal) a e); none = tt }) room
   command_goes (Exit terminal) named right room =
-      lasting_by (Exit terminal) right (lasts.Exit terminal) (command_answer system moment (Exit terminal)) refl named (λ a e. record { known = of_terminal_done terminal _ a e; none = exit_done terminal a e }) room
-  command_goes (DisplayTransaction code) named right room = shown_by (DisplayTransaction code) right (command_answer system moment (DisplayTransaction code)) refl
-  command_goes (DisplayTerminal terminal) named right room = shown_by (DisplayTerminal terminal) right (command_answer system moment (DisplayTerminal terminal)) refl
-  command_goes DisplayActive named right room = shown_by DisplayActive right (command_answer system moment DisplayActive) refl
-  command_goes Checkpoint named right room = shown_by Checkpoint right (command_answer system moment Checkpoint) refl
-  command_goes Freeze named right room = shown_by Freeze right (command_answer system moment Freeze) refl
-  command_goes EmergencyRestart named right room = shown_by EmergencyRestart right (command_answer system moment EmergencyRestart) refl
-  command_goes NormalRestart named right room = shown_by NormalRestart right (command_answer system moment NormalRestart) refl
-  command_goes ColdStart named right room = shown_by ColdStart right (command_answer system moment ColdStart) refl
+      lasting_by (Exit terminal) named.1 right (lasts.Exit terminal) (command_answer system moment (Exit terminal)) refl named (λ a e. record { known = of_terminal_done terminal _ a e; none = exit_done terminal a e }) room
+  command_goes (AssignClass code class) named right room =
+      lasting_by (AssignClass code class) named.1 right (lasts.AssignClass code class) (command_answer system moment (AssignClass code class)) refl named (λ a e. record { known = of_code_done code _ a e; none = tt }) room
+  command_goes (AssignPriority code priority) named right room =
+      lasting_by (AssignPriority code priority) named.1 right (lasts.AssignPriority code priority) (command_answer system moment (AssignPriority code priority)) refl named (λ a e. record { known = of_code_done code _ a e; none = tt }) room
+  command_goes (DisplayTransaction code) named right room = shown_by (DisplayTransaction code) tt right (command_answer system moment (DisplayTransaction code)) refl
+  command_goes (DisplayTerminal terminal) named right room = shown_by (DisplayTerminal terminal) tt right (command_answer system moment (DisplayTerminal terminal)) refl
+  command_goes DisplayActive named right room = shown_by DisplayActive tt right (command_answer system moment DisplayActive) refl
+  command_goes Checkpoint named right room = shown_by Checkpoint tt right (command_answer system moment Checkpoint) refl
+  command_goes Freeze named right room = shown_by Freeze tt right (command_answer system moment Freeze) refl
+  command_goes EmergencyRestart named right room = shown_by EmergencyRestart tt right (command_answer system moment EmergencyRestart) refl
+  command_goes NormalRestart named right room = shown_by NormalRestart tt right (command_answer system moment NormalRestart) refl
+  command_goes ColdStart named right room = shown_by ColdStart tt right (command_answer system moment ColdStart) refl
 
   -- A checkpoint as a call leaves what the life has; what it writes is `checkpoint_carried`.
   pub checked_goes : (freeze : Bool) → list_all (has_right_pad system) (After system moment (CheckpointCall freeze) []).lasting.conversations ≡ true → LifeGoesOn [] system (After system moment (CheckpointCall freeze) []) slots units next life
   checked_goes freeze right =
-      same_goes system moment (After system moment (CheckpointCall freeze) []) slots units next life c refl refl refl (stays_sound system valid moment names c.sound (CheckpointCall freeze) [] refl right)
+      same_goes system moment (After system moment (CheckpointCall freeze) []) slots units next life c refl refl refl (stays_sound system valid moment names c.sound (CheckpointCall freeze) [] tt refl right)

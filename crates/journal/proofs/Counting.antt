@@ -8,7 +8,7 @@ use Rattle.std.proofs.lemmas.Bool.Decides.{nat_tests}
 use Rattle.std.proofs.lemmas.List.Sums.{sum_by-cons}
 use Rattle.tm_types.specs.declared.abend.AbendCode.{AbendCode}
 use Rattle.tm_types.specs.declared.command.LastingCommand.{LastingCommand}
-use Rattle.tm_types.specs.declared.command.LastingCommand.TheVariants.{StartTransaction, StopTransaction, StartTerminal, StopTerminal, DequeueFirst, DequeueAll, Exit}
+use Rattle.tm_types.specs.declared.command.LastingCommand.TheVariants.{StartTransaction, StopTransaction, StartTerminal, StopTerminal, DequeueFirst, DequeueAll, Exit, AssignClass, AssignPriority}
 use Rattle.tm_types.specs.declared.message.Message.{Message}
 use Rattle.model_messages.specs.declared.conversation.PadChange.{PadChange}
 use Rattle.model_messages.specs.declared.replies.TerminalReplies.{TerminalReplies}
@@ -213,3 +213,5 @@ module _ (system : System) (lasting : LastingState) (fits : FitsRanges system la
   commands_fits (DequeueAll terminal) stands room =
       fits_behind system 0 lasting (applied (Commands (DequeueAll terminal)) lasting) (omega arith) fits unspent stands (omega arith) (omega arith) refl fits.inputs (replies_below terminal without_replies (λ t. refl)) room
   commands_fits (Exit terminal) stands room = fits_behind system 0 lasting (applied (Commands (Exit terminal)) lasting) (omega arith) fits unspent stands (omega arith) (omega arith) refl fits.inputs as_before room
+  commands_fits (AssignClass code class) stands room = fits_behind system 0 lasting (applied (Commands (AssignClass code class)) lasting) (omega arith) fits unspent stands (omega arith) (omega arith) refl fits.inputs as_before room
+  commands_fits (AssignPriority code priority) stands room = fits_behind system 0 lasting (applied (Commands (AssignPriority code priority)) lasting) (omega arith) fits unspent stands (omega arith) (omega arith) refl fits.inputs as_before room

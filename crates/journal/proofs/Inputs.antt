@@ -161,7 +161,7 @@ module _ (system : System) (valid : IsSystem system) (moment : Moment) (slots : 
     behind_is = ap (λ (o : Option LastingStep). option_map_or (λ s. applied s moment.lasting) o moment.lasting) step_is
 
     sound : StaysSound system after
-    sound = stays_sound system valid moment names c.sound (Input terminal number segments) [] refl right
+    sound = stays_sound system valid moment names c.sound (Input terminal number segments) [] tt refl right
 
     stands : StandsLasting system behind
     stands = subst (StandsLasting system) behind_is sound.stands
@@ -246,7 +246,7 @@ module _ (system : System) (valid : IsSystem system) (moment : Moment) (slots : 
     ack_behind = ap (λ (o : Option LastingStep). option_map_or (λ s. applied s moment.lasting) o moment.lasting) (ap (acknowledged_step terminal) answer)
 
     ack_sound : StaysSound system after_ack
-    ack_sound = stays_sound system valid moment names c.sound (Acknowledge terminal number) [] refl right
+    ack_sound = stays_sound system valid moment names c.sound (Acknowledge terminal number) [] tt refl right
 
     -- the reply that is removed
     record IsFirst : Type 0 where

@@ -3,7 +3,7 @@ use Rattle.std.proofs.Common.{◌≡◌, ℕ, zero, suc, Bool, true, false, List
 use Rattle.std.specs.Prelude.{if◌then◌else◌, slice_get, slice_set}
 use Rattle.std.specs.Option.{is_some, option_map, option_map_or}
 use Rattle.tm_types.specs.declared.command.LastingCommand.{LastingCommand}
-use Rattle.tm_types.specs.declared.command.LastingCommand.TheVariants.{StartTransaction, StopTransaction, StartTerminal, StopTerminal, DequeueFirst, DequeueAll, Exit}
+use Rattle.tm_types.specs.declared.command.LastingCommand.TheVariants.{StartTransaction, StopTransaction, StartTerminal, StopTerminal, DequeueFirst, DequeueAll, Exit, AssignClass, AssignPriority}
 use Rattle.tm_types.specs.declared.message.Message.{Message}
 use Rattle.model_messages.specs.declared.conversation.Conversation.{Conversation}
 use Rattle.model_messages.specs.declared.conversation.PadChange.{PadChange}
@@ -18,7 +18,7 @@ use Rattle.model_system.specs.System.{System}
 use Rattle.model_machine.specs.declared.lasting.CodeSetting.{CodeSetting}
 use Rattle.model_machine.specs.declared.lasting.TerminalState.{TerminalState}
 use Rattle.model_machine.specs.Machine.{LastingState, message_at, output_at, setting_place, terminal_place}
-use Rattle.model_machine.specs.LastingSteps.{LastingStep, abend_outputs, all_sent, applied, commanded, discarded_pad, finished_by, new_pad, with_pad_changed, replied, output_sent, stopped_code, stopped_terminal, switched, with_begun, with_last_number, with_pad_by, without_message, without_replies}
+use Rattle.model_machine.specs.LastingSteps.{LastingStep, abend_outputs, all_sent, applied, classed_code, commanded, discarded_pad, finished_by, new_pad, with_pad_changed, ranked_code, replied, output_sent, stopped_code, stopped_terminal, switched, with_begun, with_last_number, with_pad_by, without_message, without_replies}
 use Rattle.model_machine.specs.LastingSteps.LastingStep.{Accepts, Acknowledges, Completes, Discards, Commands}
 use Rattle.model_image.specs.Replay.{Replay, replay_all}
 use Rattle.checkpointing.specs.SnapshotRecords.{IsOfSystem}
@@ -129,6 +129,10 @@ command_names (DequeueFirst terminal) lasting = record { terminals = refl; outpu
 command_names (DequeueAll terminal) lasting = record { terminals = refl; outputs_are = outputs_keep terminal without_replies (λ t. refl) lasting.outputs; conversations_are = refl; codes_are = refl }
 command_names (Exit terminal) lasting =
     record { terminals = refl; outputs_are = refl; conversations_are = conversations_keep terminal (conversations.with_conversation None) (λ t. refl) lasting.conversations; codes_are = refl }
+command_names (AssignClass code class) lasting =
+    record { terminals = refl; outputs_are = refl; conversations_are = refl; codes_are = changes_keep (λ (c : CodeSetting). c.code) (classed_code class) (λ c. refl) lasting.codes (setting_place lasting.codes code) }
+command_names (AssignPriority code priority) lasting =
+    record { terminals = refl; outputs_are = refl; conversations_are = refl; codes_are = changes_keep (λ (c : CodeSetting). c.code) (ranked_code priority) (λ c. refl) lasting.codes (setting_place lasting.codes code) }
 
 pub step_names : (step : LastingStep) (lasting : LastingState) → KeepsNames lasting (applied step lasting)
 step_names (Accepts terminal number kept) lasting = record {

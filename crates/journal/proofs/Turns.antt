@@ -139,7 +139,7 @@ module _ (system : System) (valid : IsSystem system) (n : ℕ) (moment : Moment)
   unit = unit_of_region units region
 
   sound : StaysSound system after
-  sound = stays_sound system valid moment (has_terminals system moment.lasting c.is.names) c.sound (Turn region) victims right_victims right
+  sound = stays_sound system valid moment (has_terminals system moment.lasting c.is.names) c.sound (Turn region) victims tt right_victims right
 
   -- a life that goes with what the machine comes to is carried by it
   carried : (bytes : List ℕ) (lasting : LastingState) (regions : List (Option Slot)) (table : EnqueueTable) (units_then : List ℕ) (next_then : ℕ) → after.lasting ≡ lasting → after.slots ≡ regions → after.enqueues ≡ table

@@ -1,7 +1,7 @@
 -- What a command that lasts does to the tables.
 use Rattle.std.proofs.Common.{◌≡◌, List, refl, ap, ◌∙◌}
 use Rattle.tm_types.specs.declared.command.LastingCommand.{LastingCommand}
-use Rattle.tm_types.specs.declared.command.LastingCommand.TheVariants.{StartTransaction, StopTransaction, StartTerminal, StopTerminal, DequeueFirst, DequeueAll, Exit}
+use Rattle.tm_types.specs.declared.command.LastingCommand.TheVariants.{StartTransaction, StopTransaction, StartTerminal, StopTerminal, DequeueFirst, DequeueAll, Exit, AssignClass, AssignPriority}
 use Rattle.model_machine.specs.declared.lasting.CodeSetting.{CodeSetting}
 use Rattle.model_machine.specs.LastingSteps.{applied}
 use Rattle.model_machine.specs.LastingSteps.LastingStep.{Commands}
@@ -16,6 +16,8 @@ applies (StopTerminal terminal) t settings = refl
 applies (DequeueFirst terminal) t settings = refl
 applies (DequeueAll terminal) t settings = refl
 applies (Exit terminal) t settings = refl
+applies (AssignClass code class) t settings = refl
+applies (AssignPriority code priority) t settings = refl
 
 pub applies_command : (command : LastingCommand) (old new : TablesState) → new ≡ command_done command old → AppliesCommand command old new
 applies_command command old new is settings = ap (lasting_of (command_set command settings)) is ∙ applies command old settings

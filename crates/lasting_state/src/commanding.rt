@@ -56,6 +56,8 @@ impl Tables {
         match command {
             LastingCommand::StartTransaction(_) => {}
             LastingCommand::StopTransaction(_) => {}
+            LastingCommand::AssignClass(_, _) => {}
+            LastingCommand::AssignPriority(_, _) => {}
             LastingCommand::StartTerminal(terminal) => {
                 stop_terminal(&mut self.terminals, terminal, false);
             }

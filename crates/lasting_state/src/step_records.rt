@@ -8,7 +8,7 @@ ghost use Rattle.log_records.specs.ToldRecords.{AddsRecords, TellsInRoom, AreRec
 ghost use Rattle.model_machine.specs.Machine.{LastingState};
 ghost use Rattle.model_image.specs.StepRecords.{completion_records};
 ghost use Rattle.lasting_state.specs.OutputRecords.{counted_completion};
-ghost use Rattle.lasting_state.specs.RecordRanges.{HaveCounts, HasShortPad};
+ghost use Rattle.lasting_state.specs.RecordRanges.{HaveCounts, HasShortPad, number_in};
 
 use crate::outputs::put_outputs;
 use log_records::{
@@ -107,6 +107,7 @@ pub fn tell_command(
     ensures named { IsName (command_text.name_in command.now) }
 {
     let _name = name_in(command).as_bytes();
+    let _number = number_in(command);
     let mut text = Vec::with_capacity(alloc, 80)?;
     command.write(&mut text)?;
     tell_text(&text, telling)
@@ -137,6 +138,19 @@ fn name_in(command: &LastingCommand) -> &Name
         LastingCommand::DequeueFirst(terminal) => terminal,
         LastingCommand::DequeueAll(terminal) => terminal,
         LastingCommand::Exit(terminal) => terminal,
+        LastingCommand::AssignClass(code, _) => code,
+        LastingCommand::AssignPriority(code, _) => code,
+    }
+}
+
+/// The class or the priority that a command assigns, and 0 where it assigns none.
+fn number_in(command: &LastingCommand) -> u8
+    ensures { result ≡ number_in command.now }
+{
+    match command {
+        LastingCommand::AssignClass(_, class) => *class,
+        LastingCommand::AssignPriority(_, priority) => *priority,
+        _ => 0,
     }
 }
 

@@ -1,5 +1,5 @@
 -- What a change of the messages leaves of what is kept by their codes, and by the terminals of conversations.
-use Rattle.std.proofs.Common.{◌≡◌, ℕ, ◌+◌, ◌-◌, ◌<◌, ◌^◌, ◌++◌, ◌∷◌, [], List, refl, sym, ◌∙◌, ap, subst, arith, Bool, true, false, cond, not, ◌&&◌, Option, Some, None, eqb}
+use Rattle.std.proofs.Common.{◌≡◌, ℕ, ◌+◌, ◌-◌, ◌<◌, ◌^◌, ◌++◌, ◌∷◌, [], List, refl, sym, ◌∙◌, ap, subst, arith, Bool, true, false, cond, not, ◌&&◌, ◌||◌, Option, Some, None, eqb}
 use Rattle.std.specs.Prelude.{map, find, filter}
 use Rattle.std.specs.List.{AllByRecursion}
 use Rattle.std.specs.List.Sorted.{IsStrictlySortedBy}
@@ -14,9 +14,9 @@ use Rattle.tm_types.specs.declared.message.Message.{Message}
 use Rattle.model_messages.specs.declared.queued.Queued.{Queued}
 use Rattle.model_messages.specs.ConversationInput.{is_conversing, busy_id}
 use Rattle.model_messages.specs.Room.{message_bytes, messages_bytes}
-use Rattle.model_messages.specs.Queue.{messages_of, IsNewId, has_id, queued_at, queued_message, with_message, with_holder, without_id_queued, is_free_of, first_free, free_count}
+use Rattle.model_messages.specs.Queue.{messages_of, IsNewId, has_id, queued_at, queued_message, with_message, with_holder, without_id_queued, is_free_of, first_free, free_count, any_held}
 use Rattle.msg_queues.specs.KeptMessages.{AreKeyed, AreMessagesKept, HasCode}
-use Rattle.msg_queues.specs.Places.{flagged_ids, places, conversing_ids, IsIdBehind, with_id, with_flag, without_id, first_open, unheld_count}
+use Rattle.msg_queues.specs.Places.{flagged_ids, places, conversing_ids, IsIdBehind, with_id, with_flag, without_id, first_open, unheld_count, any_held_id}
 use Rattle.msg_queues.specs.Index.{of_name, when, ChangesName, KeepsNames, AreIndexed, AreConversing}
 use Rattle.msg_queues.proofs.Keys.{at_key, key_is, first_below, others_ascend}
 use Rattle.msg_queues.proofs.ById.{AreOwn, AreAbove, found_is, messages_held, bytes_added}
@@ -199,6 +199,17 @@ count_is code (q ∷ queued) =
     ap unheld_count (ids_cons (of_code code) is_held q queued)
     ∙ (count_step (bytes_eq q.message.code code) q.holder q.message.id (places code queued) (free_count code queued) (count_is code queued)
     ∙ sym (sum_by-cons (λ r. cond (is_free_of code r) 1 0) q queued))
+
+taken_step : (t : Bool) (o : Option ℕ) (id : ℕ) (ps : Places) (r : Bool) → any_held_id ps ≡ r → any_held_id (cond t ((id, is_some o) ∷ ps) ps) ≡ (t && is_some o || r)
+taken_step true None id ps r e = e
+taken_step true (Some o) id ps r e = refl
+taken_step false o id ps r e = e
+
+pub held_is : (code : List ℕ) (queued : List Queued) → any_held_id (places code queued) ≡ any_held code queued
+held_is code [] = refl
+held_is code (q ∷ queued) =
+    ap any_held_id (ids_cons (of_code code) is_held q queued)
+    ∙ taken_step (bytes_eq q.message.code code) q.holder q.message.id (places code queued) (any_held code queued) (held_is code queued)
 
 -- ---- the message of an id
 none_above : {X : Type 0} (f : Message → X) (id : ℕ) (x : X) (es : List (ℕ × Queued)) → AreOwn es → AreAbove id es → Has f id x (values_of es)

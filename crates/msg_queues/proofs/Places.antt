@@ -1,5 +1,5 @@
 -- Ids with flags, as they are kept.
-use Rattle.std.proofs.Common.{◌≡◌, ℕ, ◌+◌, ◌≤◌, ◌++◌, ◌∷◌, [], List, refl, sym, ◌∙◌, ap, subst, arith, Bool, true, false, cond, not, Option, Some, None, eqb, length}
+use Rattle.std.proofs.Common.{◌≡◌, ℕ, suc, ◌+◌, ◌≤◌, ◌++◌, ◌∷◌, [], List, refl, sym, ◌∙◌, ap, subst, arith, Bool, true, false, cond, not, ◌||◌, Option, Some, None, eqb, ltb, length}
 use Rattle.std.specs.Prelude.{count_by}
 use Rattle.std.specs.List.{AllByRecursion}
 use Rattle.std.specs.List.Sorted.{IsStrictlySortedBy}
@@ -10,9 +10,10 @@ use Rattle.std.specs.BTreeMap.{insert_entry, is_at}
 use Rattle.std.specs.Map.{keys_of, values_of, lookup, remove_entry, set_value}
 use Rattle.std.proofs.lemmas.Map.{keys-set_value}
 use Rattle.std.proofs.lemmas.Map.Entries.{sum_by-set_value, sum_by-remove_entry, length-values_of}
-use Rattle.std.proofs.lemmas.List.Sums.{sum_by_push, count_by-le-length}
+use Rattle.std.proofs.lemmas.List.Sums.{sum_by_push, sum_by-cons, count_by-le-length}
 use Rattle.std.proofs.lemmas.List.{map-append}
-use Rattle.msg_queues.specs.Places.{IsIdBehind, with_flag, without_id, id_weight, unheld_count, AreIdsCounted}
+use Rattle.std.proofs.lemmas.Bool.{ltb-true, ltb-false, lt-ltb, le-ltb}
+use Rattle.msg_queues.specs.Places.{IsIdBehind, with_flag, without_id, id_weight, unheld_count, any_held_id, AreIdsCounted}
 use Rattle.msg_queues.proofs.Keys.{at_key, key_is, first_below, others_ascend}
 use Rattle.tm_types.proofs.Ordered.{greater_from}
 
@@ -96,6 +97,25 @@ module _ (id : ℕ) (es fs : List (ℕ × Bool)) where
 
   pub keys_set : (held : Bool) → IsStrictlySortedBy nat_cmp (keys_of es) → fs ≡ set_value (is_at (nat_cmp id)) es held → IsStrictlySortedBy nat_cmp (keys_of fs)
   keys_set held s e = subst (λ us. IsStrictlySortedBy nat_cmp (keys_of us)) (sym e) (subst (IsStrictlySortedBy nat_cmp) (sym (keys-set_value (is_at (nat_cmp id)) es held)) s)
+
+one_more : (a b n m : ℕ) → n ≡ a + 1 → m ≡ b + 1 → ltb n m ≡ ltb a b
+one_more a b n m e f = by (ltb a b) refl
+  where
+    by : (t : Bool) → ltb a b ≡ t → ltb n m ≡ t
+    by true less = lt-ltb n m (omega (arith, e, f, ltb-true a b less))
+    by false most = le-ltb n m (omega (arith, e, f, ltb-false a b most))
+
+-- an id is held exactly where fewer aren't held than there are
+pub held_where_fewer : (es : List (ℕ × Bool)) → ltb (unheld_count es) (length es) ≡ any_held_id es
+held_where_fewer [] = refl
+held_where_fewer (e ∷ es) = by e.1 (held_where_fewer es)
+  where
+    by : (b : Bool) → ltb (unheld_count es) (length es) ≡ any_held_id es → ltb (count_by (λ held. not held) (b ∷ values_of es)) (suc (length es)) ≡ (b || any_held_id es)
+    by true rest =
+        lt-ltb (count_by (λ held. not held) (true ∷ values_of es)) (suc (length es))
+        (omega (arith, sum_by-cons id_weight true (values_of es), count_by-le-length (λ held. not held) (values_of es), length-values_of es))
+    by false rest =
+        one_more (unheld_count es) (length es) (count_by (λ held. not held) (false ∷ values_of es)) (suc (length es)) (omega (arith, sum_by-cons id_weight false (values_of es))) (omega arith) ∙ rest
 
 pub free_within : (es : List (ℕ × Bool)) (free : ℕ) → AreIdsCounted es free → free ≤ length es
 free_within es free h = omega (arith, h.counted, count_by-le-length (λ held. not held) (values_of es), length-values_of es)

@@ -1,6 +1,6 @@
 -- The ids of messages in order, each with whether it is held.
 use Rattle.std.specs.Prelude.{◌≡◌, ℕ, ◌<◌, ◌==◌, Bool, false, not, if◌then◌else◌, List, [], ◌∷◌, ◌++◌, Option, map, filter, find, count_by}
-use Rattle.std.specs.List.{AllByRecursion}
+use Rattle.std.specs.List.{AllByRecursion, list_any}
 use Rattle.std.specs.List.Sorted.{IsStrictlySortedBy}
 use Rattle.std.specs.Map.{keys_of, values_of}
 use Rattle.std.specs.Option.{option_map, is_some}
@@ -43,6 +43,10 @@ first_open places = option_map (λ place. place.0) (find (λ place. not place.1)
 -- how many ids aren't held
 abbrev pub unheld_count : List (ℕ × Bool) → ℕ
 unheld_count places = count_by (λ held. not held) (values_of places)
+
+-- an id is held
+abbrev pub any_held_id : List (ℕ × Bool) → Bool
+any_held_id places = list_any (λ place. place.1) places
 
 -- how many an id with this flag counts
 abbrev pub id_weight : Bool → ℕ

@@ -3,7 +3,7 @@ ghost use Rattle.std.specs.Prelude.{◌≡◌, ◌+◌, [], OnOk, OnErr, MatchOp
 ghost use Rattle.std.specs.Map.{keys_of};
 ghost use Rattle.std.specs.List.Sorted.{IsStrictlySortedBy};
 ghost use Rattle.std.specs.Ordering.{nat_cmp};
-ghost use Rattle.msg_queues.specs.Places.{IsIdBehind, with_id, with_flag, without_id, id_weight, first_open, unheld_count};
+ghost use Rattle.msg_queues.specs.Places.{IsIdBehind, with_id, with_flag, without_id, id_weight, first_open, unheld_count, any_held_id};
 
 use std::alloc::Global;
 use std::collections::BTreeMap;
@@ -89,6 +89,13 @@ impl IdQueue {
         ensures { result ≡ unheld_count self.now }
     {
         self.free
+    }
+
+    /// Whether an id is held.
+    pub fn has_held(&self) -> bool
+        ensures { result ≡ any_held_id self.now }
+    {
+        self.free < self.ids.len()
     }
 }
 

@@ -3,7 +3,7 @@ ghost use Rattle.std.specs.Prelude.{◌≡◌, None, OnOk, OnErr};
 ghost use Rattle.std.specs.Ordering.{nat_cmp};
 ghost use Rattle.std.specs.Cmp.Lexicographic.{slice_cmp};
 ghost use Rattle.std.specs.BTreeMap.{get};
-ghost use Rattle.msg_queues.specs.Places.{IsIdBehind, with_id, with_flag, without_id, first_open, unheld_count};
+ghost use Rattle.msg_queues.specs.Places.{IsIdBehind, with_id, with_flag, without_id, first_open, unheld_count, any_held_id};
 ghost use Rattle.msg_queues.specs.Index.{of_name, when, ChangesName, KeepsNames};
 
 use crate::id_queue::IdQueue;
@@ -144,5 +144,15 @@ pub fn free_count(by_name: &BTreeMap<Name, IdQueue>, name: &Name) -> usize
     match by_name.get(name) {
         Some(queue) => queue.free(),
         None => 0,
+    }
+}
+
+/// Whether an id of the name is held.
+pub fn has_held(by_name: &BTreeMap<Name, IdQueue>, name: &Name) -> bool
+    ensures { result ≡ any_held_id (of_name name.now by_name.now.entries) }
+{
+    match by_name.get(name) {
+        Some(queue) => queue.has_held(),
+        None => false,
     }
 }

@@ -3,7 +3,7 @@ ghost use Rattle.std.specs.Prelude.{◌≡◌, ◌+◌, ◌<◌, ◌≤◌, ◌^
 ghost use Rattle.std.specs.Option.{option_copied, option_and_then};
 ghost use Rattle.std.specs.Map.{values_of};
 ghost use Rattle.model_messages.specs.Room.{message_bytes, messages_bytes, input_needs};
-ghost use Rattle.model_messages.specs.Queue.{IsNewId, AreInOrder, messages_of, queued_at, queued_message, with_message, with_holder, without_id_queued, first_free, free_count};
+ghost use Rattle.model_messages.specs.Queue.{IsNewId, AreInOrder, messages_of, queued_at, queued_message, with_message, with_holder, without_id_queued, first_free, free_count, any_held};
 ghost use Rattle.model_messages.specs.ConversationInput.{busy_id};
 ghost use Rattle.msg_queues.specs.RefusedInput.{RefusesInput};
 
@@ -138,6 +138,13 @@ impl Queues {
         ensures { result ≡ free_count code.now self.now.queued }
     {
         index::free_count(&self.by_code, code) as u64
+    }
+
+    /// Whether a region has a message of the code.
+    pub fn has_held(&self, code: &Name) -> bool
+        ensures { result ≡ any_held code.now self.now.queued }
+    {
+        index::has_held(&self.by_code, code)
     }
 
     /// The id of the first message of the terminal's conversation, whether a region has it or none.

@@ -52,6 +52,10 @@ fn add_answer(out: &mut Vec<u8>, answer: &Answer) -> Result<(), Memory>
         Answer::FreezeRefused { region, id } => add_refused_freeze(out, *region, *id),
         Answer::Dequeued(count) => add_numbered(out, b"DEQUEUED ", *count),
         Answer::Exited(terminal) => add_named(out, b"EXITED ", terminal),
+        Answer::AssignedClass(code, class) => add_assigned(out, code, b" CLASS ", *class),
+        Answer::AssignedPriority(code, priority) => {
+            add_assigned(out, code, b" PRIORITY ", *priority)
+        }
         Answer::ConversationBusy(id) => add_numbered(out, b"REFUSED CONVERSATION ", *id),
         Answer::NoConversation => add(out, b"REFUSED NONE"),
         Answer::Restarted => add(out, b"RESTARTED"),
@@ -137,6 +141,13 @@ fn add_terminal(
     add_numbered(out, b" OUT ", output)?;
     add_numbered(out, b" KEPT ", kept)?;
     add_state(out, stopped)
+}
+
+fn add_assigned(out: &mut Vec<u8>, code: &Name, words: &[u8], number: u8) -> Result<(), Memory>
+    ensures { OnOk result (out.new.items ≡ out.old.items ++ (codes "ASSIGNED " ++ code.now ++ words.now ++ decimal number)) }
+{
+    add_named(out, b"ASSIGNED ", code)?;
+    add_numbered(out, words, u64::from(number))
 }
 
 fn add_refused_freeze(out: &mut Vec<u8>, region: u32, id: u64) -> Result<(), Memory>

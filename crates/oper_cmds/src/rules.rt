@@ -8,3 +8,5 @@ pub(crate) const UNKNOWN_KEYWORD: u8 = 2;
 pub(crate) const WRONG_OPERANDS: u8 = 3;
 /// A word that is no name.
 pub(crate) const NO_NAME: u8 = 4;
+/// A word that is no number, or a number out of range.
+pub(crate) const NO_NUMBER: u8 = 5;

@@ -1,8 +1,9 @@
-//! The words of a command, which one blank parts, and its names.
-ghost use Rattle.std.specs.Prelude.{◌≡◌};
+//! The words of a command, which one blank parts, its names and its numbers.
+ghost use Rattle.std.specs.Prelude.{◌≡◌, ◌≤◌, IfOk};
 ghost use Rattle.model_machine.specs.CommandText as spec;
 
-use crate::rules::{NO_NAME, WRONG_OPERANDS};
+use crate::rules::{NO_NAME, NO_NUMBER, WRONG_OPERANDS};
+use text_rows::byte_between;
 use tm_types::{Name, first_word, operands};
 
 /// How many operands a text has, as many as blanks.
@@ -30,6 +31,12 @@ pub(crate) fn third_operand(text: &[u8]) -> &[u8]
     first_word(operands(operands(operands(text))))
 }
 
+pub(crate) fn fourth_operand(text: &[u8]) -> &[u8]
+    ensures { result.now ≡ spec.fourth_operand text.now }
+{
+    first_word(operands(operands(operands(operands(text)))))
+}
+
 /// The name that a word is.
 #[tactic(auto, unfolding(model_machine::specs::CommandText::command_name_operand))]
 pub(crate) fn name_operand(word: &[u8]) -> Result<Name, u8>
@@ -49,5 +56,17 @@ pub(crate) fn name_of(count: usize, text: &[u8]) -> Result<Name, u8>
         name_operand(second_operand(text))
     } else {
         Err(WRONG_OPERANDS)
+    }
+}
+
+/// The number from `low` to `high` that a word spells in digits.
+#[tactic(auto, unfolding(model_machine::specs::CommandText::command_number_operand))]
+pub(crate) fn number_operand(low: u8, high: u8, word: &[u8]) -> Result<u8, u8>
+    ensures value { result ≡ spec.command_number_operand low high word.now }
+    ensures within { IfOk result (λ number. (low ≤ number) × (number ≤ high)) }
+{
+    match byte_between(low, high, word) {
+        Ok(number) => Ok(number),
+        Err(_) => Err(NO_NUMBER),
     }
 }

@@ -13,7 +13,7 @@ use Rattle.std.proofs.lemmas.Map.Lookups.{exact_bytes}
 use Rattle.std.proofs.lemmas.Cmp.{tied_itself}
 use Rattle.std.proofs.lemmas.Bool.{false≢true, eq-eqb, ne_eqb, cond-true, cond-false, lt-ltb, le-ltb, le-leb, lt-leb}
 use Rattle.std.proofs.lemmas.List.{length-set, length-map}
-use Rattle.std.proofs.lemmas.Option.{slice_get-get_or, slice_get_within}
+use Rattle.std.proofs.lemmas.Option.{get_or_from_slice_get, slice_get-get_or, slice_get_within}
 use Rattle.tm_types.specs.declared.dbd.Dbd.{Dbd}
 use Rattle.tm_types.specs.SegTypes.{IsHierarchy}
 use Rattle.model_data.specs.declared.row.Row.{Row}
@@ -482,6 +482,10 @@ module _ (dbd : Dbd) (slots : List (List Row)) (root : List ℕ) where
 
   pub record_none : AreSlots dbd slots → slot_of_root root slots ≡ None → record_of root (rows_of_slots slots) ≡ []
   record_none valid absent = slots_record dbd slots root valid.each ∙ ap (λ o. unwrap_or o []) (places.find_none (has_root root) slots absent)
+
+  -- what stood in its slot is its record
+  pub record_was : (i : ℕ) (was : List Row) → AreSlots dbd slots → slot_of_root root slots ≡ Some i → slice_get slots i ≡ Some was → was ≡ record_of root (rows_of_slots slots)
+  record_was i was valid there found = sym (get_or_from_slice_get slots i was was found) ∙ sym (record_there i was valid there)
 
 -- slots without a record, by its slot
 pub without_absent : (root : List ℕ) (slots : List (List Row)) → slot_of_root root slots ≡ None → slots ≡ without_root root slots

@@ -18,6 +18,7 @@ use crate::index::{add_root, next_entry, slot_of, take_root};
 use seg_rows::{RecordImage, Rows, StoreRefused, record_limit};
 use std::alloc::Global;
 use std::marker::Model;
+use std::mem;
 use tm_disk::{Disk, DiskFault};
 use tm_types::{Dbd, Key, Memory};
 
@@ -184,9 +185,10 @@ impl Store {
         }
     }
 
-    /// Removes the record with this root, if there is one, and frees its slot. All other slots stay.
-    /// This takes no memory.
-    pub fn remove(&mut self, root: &Key)
+    /// Removes the record with this root, if there is one, and frees its slot; the answer is the image that it had, or
+    /// none without rows where there was none. All other slots stay. This takes no memory.
+    pub fn remove(&mut self, root: &Key) -> RecordImage
+        ensures was { result ≡ record_of root.now (rows_of_slots self.old.slots) }
         ensures slots { self.new.slots ≡ with_root root.now [] self.old.slots }
         ensures freed { self.new.slots ≡ without_root root.now self.old.slots }
         ensures rows { rows_of_slots self.new.slots ≡ with_record root.now [] (rows_of_slots self.old.slots) }
@@ -195,11 +197,37 @@ impl Store {
         ensures valid { AreSlots self.new.dbd self.new.slots }
     {
         let Some(slot) = take_root(&mut self.index, root) else {
-            return;
+            return RecordImage::new(self.alloc);
         };
-        put(&mut self.slots, slot, RecordImage::new(self.alloc));
+        let before = swap(&mut self.slots, slot, RecordImage::new(self.alloc));
         add_slot(&mut self.free, slot);
         add_changed(&mut self.changed, slot);
+        before
+    }
+
+    /// Sets a record as `set` does; the answer is the image that it had, without rows where there was none. This takes
+    /// no memory.
+    pub fn exchange(&mut self, root: &Key, image: RecordImage) -> Result<RecordImage, StoreRefused>
+        requires { IsImage self.old.dbd root.now image }
+        ensures was { IfOk result (λ before. before ≡ record_of root.now (rows_of_slots self.old.slots)) }
+        ensures replaced { OnOk result (rows_of_slots self.new.slots ≡ with_record root.now image (rows_of_slots self.old.slots)) }
+        ensures kept { OnErr result (self.new ≡ self.old) }
+        ensures accepted { OnOk result (set_refusal self.old.dbd root.now image (rows_of_slots self.old.slots) ≡ None) }
+        ensures refused { IfErr result (λ refusal. set_refusal self.old.dbd root.now image (rows_of_slots self.old.slots) ≡ Some refusal) }
+        ensures database { self.new.dbd ≡ self.old.dbd }
+        ensures slots { OnOk result (self.new.slots ≡ with_root root.now image self.old.slots) }
+        ensures changed { OnOk result (self.new.changed ≡ with_changed_number (slot_changed root.now image self.old.slots) self.old.changed) }
+        ensures valid { AreSlots self.new.dbd self.new.slots }
+        // A record is removed in any case.
+        ensures removed { image ≡ [] → IsOk result }
+    {
+        if image.is_empty() {
+            return Ok(self.remove(root));
+        }
+        match slot_of(&self.index, root) {
+            Some(slot) => self.replace(root, slot, image),
+            None => self.add(root, image),
+        }
     }
 
     /// Puts a record into its slot. All other slots stay. This takes no memory.
@@ -236,10 +264,11 @@ impl Store {
         add_changed(&mut self.changed, slot);
     }
 
-    // Adds a record in the lowest free slot.
-    fn add(&mut self, root: &Key, image: RecordImage) -> Result<(), StoreRefused>
+    // Adds a record in the lowest free slot; the image that it had is one without rows.
+    fn add(&mut self, root: &Key, image: RecordImage) -> Result<RecordImage, StoreRefused>
         requires image { IsLongRecord self.old.dbd.types root.now image }
         requires new { slot_of_root root.now self.old.slots ≡ None }
+        ensures was { IfOk result (λ before. before ≡ record_of root.now (rows_of_slots self.old.slots)) }
         ensures slots { OnOk result (self.new.slots ≡ with_root root.now image self.old.slots) }
         ensures rows { OnOk result (rows_of_slots self.new.slots ≡ with_record root.now image (rows_of_slots self.old.slots)) }
         ensures changed { OnOk result (self.new.changed ≡ with_changed_number (slot_for root.now self.old.slots) self.old.changed) }
@@ -256,13 +285,19 @@ impl Store {
             return Err(StoreRefused::RecordTooLong);
         }
         self.fill(root, slot, image);
-        Ok(())
+        Ok(RecordImage::new(self.alloc))
     }
 
-    // Puts a record in place of the one in its slot.
-    fn replace(&mut self, root: &Key, slot: u16, image: RecordImage) -> Result<(), StoreRefused>
+    // Puts a record in place of the one in its slot, which is answered.
+    fn replace(
+        &mut self,
+        root: &Key,
+        slot: u16,
+        image: RecordImage,
+    ) -> Result<RecordImage, StoreRefused>
         requires image { IsLongRecord self.old.dbd.types root.now image }
         requires there { slot_of_root root.now self.old.slots ≡ Some slot }
+        ensures was { IfOk result (λ before. before ≡ record_of root.now (rows_of_slots self.old.slots)) }
         ensures slots { OnOk result (self.new.slots ≡ with_root root.now image self.old.slots) }
         ensures rows { OnOk result (rows_of_slots self.new.slots ≡ with_record root.now image (rows_of_slots self.old.slots)) }
         ensures changed { OnOk result (self.new.changed ≡ with_number slot self.old.changed) }
@@ -275,9 +310,9 @@ impl Store {
         if !image.fits(record_limit(&self.dbd)) {
             return Err(StoreRefused::RecordTooLong);
         }
-        put(&mut self.slots, slot, image);
+        let before = swap(&mut self.slots, slot, image);
         add_changed(&mut self.changed, slot);
-        Ok(())
+        Ok(before)
     }
 }
 
@@ -324,13 +359,9 @@ impl Rows for Store {
         // A record is removed in any case.
         ensures removed { image ≡ [] → IsOk result }
     {
-        if image.is_empty() {
-            self.remove(root);
-            return Ok(());
-        }
-        match slot_of(&self.index, root) {
-            Some(slot) => self.replace(root, slot, image),
-            None => self.add(root, image),
+        match self.exchange(root, image) {
+            Ok(_) => Ok(()),
+            Err(refusal) => Err(refusal),
         }
     }
 }
@@ -357,4 +388,13 @@ fn put(slots: &mut Vec<RecordImage>, slot: u16, image: RecordImage)
     ensures { slots.new.items ≡ slice_set slots.old.items slot image }
 {
     slots[slot as usize] = image;
+}
+
+// Puts an image in place of the one in the slot, which is answered.
+fn swap(slots: &mut Vec<RecordImage>, slot: u16, image: RecordImage) -> RecordImage
+    requires { slot < length slots.old.items }
+    ensures was { slice_get slots.old.items slot ≡ Some result }
+    ensures slots { slots.new.items ≡ slice_set slots.old.items slot image }
+{
+    mem::replace(&mut slots[slot as usize], image)
 }

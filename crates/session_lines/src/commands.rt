@@ -1,6 +1,8 @@
 //! Operator commands as session lines.
-ghost use Rattle.std.specs.Prelude.{◌≡◌, ℕ, take, Ok};
+ghost use Rattle.std.specs.Prelude.{◌≡◌, ℕ, take, Ok, IfSome};
+ghost use Rattle.tm_types.specs.Commands.{IsAssigned};
 ghost use Rattle.model_session.specs.Lines as spec;
+ghost use Rattle.model_machine.specs.CommandAnswers.{lasting_command};
 ghost use Rattle.model_machine.specs.CommandText.{command_of};
 
 use model_machine::{Command, ControlCall};
@@ -33,6 +35,7 @@ pub(crate) fn command_asked(line: &[u8]) -> Asked
 
 /// Openings and checkpoints are asked for by themselves, and all else is a command of the control region.
 fn asked_by(command: Command) -> Asked
+    requires { IfSome (lasting_command command) IsAssigned }
     ensures value { result ≡ spec.command_asked (Ok command) }
     ensures can { (regions : ℕ) → spec.CanAsk regions result }
 {
@@ -52,6 +55,8 @@ fn asked_by(command: Command) -> Asked
         Command::DequeueFirst(_) => commanded(command),
         Command::DequeueAll(_) => commanded(command),
         Command::Exit(_) => commanded(command),
+        Command::AssignClass(_, _) => commanded(command),
+        Command::AssignPriority(_, _) => commanded(command),
     }
 }
 

@@ -19,5 +19,12 @@ first_state code = record {
 abbrev pub stopped_state : Bool → CodeState → CodeState
 stopped_state stopped state = record state { stopped = stopped }
 
+-- a state with another class, and with another normal priority
+abbrev pub classed_state : ℕ → CodeState → CodeState
+classed_state class state = record state { class = class }
+
+abbrev pub ranked_state : ℕ → CodeState → CodeState
+ranked_state priority state = record state { priority = priority }
+
 abbrev pub is_state_of : List ℕ → CodeState → Bool
 is_state_of code state = bytes_eq state.code code

@@ -66,6 +66,26 @@ impl Codes {
             None => {}
         }
     }
+
+    /// Gives the code of this name another class; where it isn't one, nothing changes.
+    pub fn set_class(&mut self, code: &Name, class: u8)
+        ensures { self.new ≡ change_at self.old (position (spec.is_state_of code.now) self.old) (spec.classed_state class) }
+    {
+        match place_of(&self.items, code) {
+            Some(place) => class_at(&mut self.items, place, class),
+            None => {}
+        }
+    }
+
+    /// Gives the code of this name another normal priority; where it isn't one, nothing changes.
+    pub fn set_priority(&mut self, code: &Name, priority: u8)
+        ensures { self.new ≡ change_at self.old (position (spec.is_state_of code.now) self.old) (spec.ranked_state priority) }
+    {
+        match place_of(&self.items, code) {
+            Some(place) => rank_at(&mut self.items, place, priority),
+            None => {}
+        }
+    }
 }
 
 fn first_states(alloc: Global, codes: &[Code]) -> Result<Vec<CodeState>, AllocError>
@@ -119,4 +139,30 @@ fn note_stopped(state: &mut CodeState, stopped: bool)
     ensures { state.new ≡ spec.stopped_state stopped state.old }
 {
     state.stopped = stopped;
+}
+
+fn class_at(states: &mut Vec<CodeState>, place: usize, class: u8)
+    requires { place < length states.old.items }
+    ensures { states.new.items ≡ change_at states.old.items (Some place) (spec.classed_state class) }
+{
+    note_class(&mut states[place], class);
+}
+
+fn note_class(state: &mut CodeState, class: u8)
+    ensures { state.new ≡ spec.classed_state class state.old }
+{
+    state.class = class;
+}
+
+fn rank_at(states: &mut Vec<CodeState>, place: usize, priority: u8)
+    requires { place < length states.old.items }
+    ensures { states.new.items ≡ change_at states.old.items (Some place) (spec.ranked_state priority) }
+{
+    note_priority(&mut states[place], priority);
+}
+
+fn note_priority(state: &mut CodeState, priority: u8)
+    ensures { state.new ≡ spec.ranked_state priority state.old }
+{
+    state.priority = priority;
 }

@@ -79,22 +79,22 @@ better_better (Some a) (Some b) (Some c) = by (goes_first b a) (goes_first c b) 
         ∙ sym (ap (λ x. cond x (Some c) (Some a)) (along_by a c (along_along a b c (along_from a b e) (along_from b c f))))
 
 -- ---- the best of two lists, side by side
-module _ (waits : List ℕ → Option ℕ) (class : ℕ) (total : Option Candidate) where
+module _ (offers : Code → Option ℕ) (class : ℕ) (total : Option Candidate) where
   -- one more code was compared
   pub best_more : (best found new : Option Candidate) (codes rest : List Code) (states later : List CodeState) (code : Code) (state : CodeState)
-      → better best (best_of waits class codes states) ≡ total → codes ≡ code ∷ rest → states ≡ state ∷ later → found ≡ candidate_of waits class code state → new ≡ better best found
-      → better new (best_of waits class rest later) ≡ total
+      → better best (best_of offers class codes states) ≡ total → codes ≡ code ∷ rest → states ≡ state ∷ later → found ≡ candidate_of offers class code state → new ≡ better best found
+      → better new (best_of offers class rest later) ≡ total
   best_more best found new codes rest states later code state so_far e f g h =
-      ap (λ b. better b (best_of waits class rest later)) (h ∙ ap (better best) g)
-      ∙ (sym (better_better best (candidate_of waits class code state) (best_of waits class rest later))
-      ∙ ((λ i. better best (best_of waits class (sym e i) (sym f i))) ∙ so_far))
+      ap (λ b. better b (best_of offers class rest later)) (h ∙ ap (better best) g)
+      ∙ (sym (better_better best (candidate_of offers class code state) (best_of offers class rest later))
+      ∙ ((λ i. better best (best_of offers class (sym e i) (sym f i))) ∙ so_far))
 
   -- no code is left
-  pub best_all : (best : Option Candidate) (codes : List Code) (states : List CodeState) → better best (best_of waits class codes states) ≡ total → (codes ≡ []) ⊎ (states ≡ [])
+  pub best_all : (best : Option Candidate) (codes : List Code) (states : List CodeState) → better best (best_of offers class codes states) ≡ total → (codes ≡ []) ⊎ (states ≡ [])
       → best ≡ total
   best_all best codes states so_far ended =
-      sym (better_none best) ∙ (ap (better best) (sym (⊎_elim (λ e. ap (λ cs. best_of waits class cs states) e) (λ e. ap (best_of waits class codes) e ∙ none codes) ended)) ∙ so_far)
+      sym (better_none best) ∙ (ap (better best) (sym (⊎_elim (λ e. ap (λ cs. best_of offers class cs states) e) (λ e. ap (best_of offers class codes) e ∙ none codes) ended)) ∙ so_far)
     where
-      none : (cs : List Code) → best_of waits class cs [] ≡ None
+      none : (cs : List Code) → best_of offers class cs [] ≡ None
       none [] = refl
       none (c ∷ cs) = refl

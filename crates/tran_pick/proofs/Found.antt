@@ -15,6 +15,7 @@ use Rattle.model_system.specs.declared.code.Code.{Code}
 use Rattle.model_system.specs.declared.code_state.CodeState.{CodeState}
 use Rattle.model_system.specs.Codes.{code_at}
 use Rattle.model_machine.specs.Pick.{Candidate, candidate_by, candidate_of, is_code_served, goes_first, better, best_of, pick_among}
+use Rattle.tran_pick.specs.RegionPick.{IsFirstFree}
 use Rattle.tm_types.proofs.Ordered.{equal_from}
 
 -- ---- the message
@@ -76,6 +77,13 @@ first_is_free code qs id ordered e = by (find (is_free_of code) qs) refl e
         (subst (λ found. IsSomeAnd found (λ r. r.holder ≡ None)) (sym (found_by_id (is_free_of code) qs q ordered is))
         (no_holder q.holder (and_parts (bytes_eq q.message.code code) (is_none q.holder) passes).1))
 
+pub free_first : (code : List ℕ) (qs : List Queued) → AreInOrder qs → IfSome (first_free code qs) (λ id. IsFirstFree qs code id)
+free_first code qs ordered = by (first_free code qs) refl
+  where
+    by : (found : Option ℕ) → first_free code qs ≡ found → IfSome found (λ id. IsFirstFree qs code id)
+    by (Some id) e = record { first = e; free = first_is_free code qs id ordered e; ordered = ordered }
+    by None e = tt
+
 -- where an id is below all others, none of these has it
 pub none_above : (code : List ℕ) (id : ℕ) (qs : List Queued) → AllByRecursion (λ k. nat_cmp id k ≡ Less) (ids_of qs) → AllByRecursion (λ q. has_id id q ≡ true → q.message.code ≡ code) qs
 none_above code id [] below = tt
@@ -126,9 +134,9 @@ first_code code codes =
     let name : List ℕ = code.transaction.code in
     ap (λ b. is_some (cond b (Some code) (code_at codes name))) ((bytes_eq-Decides name name).1 refl)
 
-candidate_code : (waits : List ℕ → Option ℕ) (class : ℕ) (code : Code) (codes : List Code) (state : CodeState)
-    → IfSome (candidate_of waits class code state) (IsOf (code ∷ codes))
-candidate_code waits class code codes state = by (is_code_served class code state) (waits code.transaction.code)
+candidate_code : (offers : Code → Option ℕ) (class : ℕ) (code : Code) (codes : List Code) (state : CodeState)
+    → IfSome (candidate_of offers class code state) (IsOf (code ∷ codes))
+candidate_code offers class code codes state = by (is_code_served class code state) (offers code)
   where
     by : (b : Bool) (first : Option ℕ) → IfSome (cond b (candidate_by code state first) None) (IsOf (code ∷ codes))
     by false first = tt
@@ -143,21 +151,21 @@ later_code code codes (Some c) h = by (bytes_eq code.transaction.code c.code)
     by true = refl
     by false = h
 
-best_code : (waits : List ℕ → Option ℕ) (class : ℕ) (codes : List Code) (states : List CodeState) → IfSome (best_of waits class codes states) (IsOf codes)
-best_code waits class [] states = tt
-best_code waits class (code ∷ codes) [] = tt
-best_code waits class (code ∷ codes) (state ∷ states) =
-    better_keeps (IsOf (code ∷ codes)) (candidate_of waits class code state) (best_of waits class codes states)
-    (candidate_code waits class code codes state) (later_code code codes (best_of waits class codes states) (best_code waits class codes states))
+best_code : (offers : Code → Option ℕ) (class : ℕ) (codes : List Code) (states : List CodeState) → IfSome (best_of offers class codes states) (IsOf codes)
+best_code offers class [] states = tt
+best_code offers class (code ∷ codes) [] = tt
+best_code offers class (code ∷ codes) (state ∷ states) =
+    better_keeps (IsOf (code ∷ codes)) (candidate_of offers class code state) (best_of offers class codes states)
+    (candidate_code offers class code codes state) (later_code code codes (best_of offers class codes states) (best_code offers class codes states))
 
 -- the code of what is picked is one of the codes
-pub picked_code : (waits : List ℕ → Option ℕ) (classes : List ℕ) (codes : List Code) (states : List CodeState)
-    → IfSome (pick_among waits classes codes states) (λ c. IsSome (code_at codes c.code))
-picked_code waits [] codes states = tt
-picked_code waits (class ∷ classes) codes states =
-    by (best_of waits class codes states) (best_code waits class codes states) (picked_code waits classes codes states)
+pub picked_code : (offers : Code → Option ℕ) (classes : List ℕ) (codes : List Code) (states : List CodeState)
+    → IfSome (pick_among offers classes codes states) (λ c. IsSome (code_at codes c.code))
+picked_code offers [] codes states = tt
+picked_code offers (class ∷ classes) codes states =
+    by (best_of offers class codes states) (best_code offers class codes states) (picked_code offers classes codes states)
   where
-    by : (best : Option Candidate) → IfSome best (IsOf codes) → IfSome (pick_among waits classes codes states) (IsOf codes)
-        → IfSome (option_or best (pick_among waits classes codes states)) (IsOf codes)
+    by : (best : Option Candidate) → IfSome best (IsOf codes) → IfSome (pick_among offers classes codes states) (IsOf codes)
+        → IfSome (option_or best (pick_among offers classes codes states)) (IsOf codes)
     by None h rest = rest
     by (Some c) h rest = h

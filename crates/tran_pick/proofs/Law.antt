@@ -29,65 +29,65 @@ both_none (Some a) (Some b) e = by (goes_first b a) e
     by true f = no_value (Some b) b f refl
     by false f = no_value (Some a) a f refl
 
-module _ (waits : List ℕ → Option ℕ) (class : ℕ) where
-  pub none_from : (codes : List Code) (states : List CodeState) → best_of waits class codes states ≡ None → NoneEligible waits class codes states
+module _ (offers : Code → Option ℕ) (class : ℕ) where
+  pub none_from : (codes : List Code) (states : List CodeState) → best_of offers class codes states ≡ None → NoneEligible offers class codes states
   none_from [] states e c h = h
   none_from (code ∷ codes) [] e c h = h
   none_from (code ∷ codes) (state ∷ states) e c h =
-      let both = both_none (candidate_of waits class code state) (best_of waits class codes states) e in
-      ⊎_elim (λ q. no_value (candidate_of waits class code state) c both.0 q) (none_from codes states both.1 c) h
+      let both = both_none (candidate_of offers class code state) (best_of offers class codes states) e in
+      ⊎_elim (λ q. no_value (candidate_of offers class code state) c both.0 q) (none_from codes states both.1 c) h
 
-  pub first_of : (codes : List Code) (states : List CodeState) (c : Candidate) → best_of waits class codes states ≡ Some c → IsFirstToServe waits class codes states c
+  pub first_of : (codes : List Code) (states : List CodeState) (c : Candidate) → best_of offers class codes states ≡ Some c → IsFirstToServe offers class codes states c
   first_of [] states c e = no_value None c refl e
   first_of (code ∷ codes) [] c e = no_value None c refl e
   first_of (code ∷ codes) (state ∷ states) c e =
-      by (candidate_of waits class code state) (best_of waits class codes states) refl refl e (first_of codes states)
+      by (candidate_of offers class code state) (best_of offers class codes states) refl refl e (first_of codes states)
     where
       Whole : Candidate → Type 0
-      Whole d = IsFirstToServe waits class (code ∷ codes) (state ∷ states) d
+      Whole d = IsFirstToServe offers class (code ∷ codes) (state ∷ states) d
 
-      here : (a : Candidate) → candidate_of waits class code state ≡ Some a → ((d : Candidate) → IsEligible waits class codes states d → goes_first d a ≡ false)
-          → IsFirstToServe waits class (code ∷ codes) (state ∷ states) a
+      here : (a : Candidate) → candidate_of offers class code state ≡ Some a → ((d : Candidate) → IsEligible offers class codes states d → goes_first d a ≡ false)
+          → IsFirstToServe offers class (code ∷ codes) (state ∷ states) a
       here a q others =
           record {
             eligible = inl q;
             before = λ d h. ⊎_elim (λ r. let same : a ≡ d = the_value a d (sym q ∙ r) in subst (λ x. goes_first x a ≡ false) same (not_itself a)) (others d) h;
           }
 
-      later : (b : Candidate) → IsFirstToServe waits class codes states b → ((d : Candidate) → candidate_of waits class code state ≡ Some d → goes_first d b ≡ false)
-          → IsFirstToServe waits class (code ∷ codes) (state ∷ states) b
+      later : (b : Candidate) → IsFirstToServe offers class codes states b → ((d : Candidate) → candidate_of offers class code state ≡ Some d → goes_first d b ≡ false)
+          → IsFirstToServe offers class (code ∷ codes) (state ∷ states) b
       later b h this = record { eligible = inr h.eligible; before = λ d g. ⊎_elim (this d) (h.before d) g }
 
-      by : (o r : Option Candidate) → candidate_of waits class code state ≡ o → best_of waits class codes states ≡ r → better o r ≡ Some c
-          → ((b : Candidate) → best_of waits class codes states ≡ Some b → IsFirstToServe waits class codes states b) → IsFirstToServe waits class (code ∷ codes) (state ∷ states) c
-      by None r q s f rec = later c (rec c (s ∙ f)) (λ d t. no_value (candidate_of waits class code state) d q t)
+      by : (o r : Option Candidate) → candidate_of offers class code state ≡ o → best_of offers class codes states ≡ r → better o r ≡ Some c
+          → ((b : Candidate) → best_of offers class codes states ≡ Some b → IsFirstToServe offers class codes states b) → IsFirstToServe offers class (code ∷ codes) (state ∷ states) c
+      by None r q s f rec = later c (rec c (s ∙ f)) (λ d t. no_value (candidate_of offers class code state) d q t)
       by (Some a) None q s f rec =
-          subst (λ x. IsFirstToServe waits class (code ∷ codes) (state ∷ states) x) (the_value a c f) (here a q (λ d h. absurd (none_from codes states s d h)))
+          subst (λ x. IsFirstToServe offers class (code ∷ codes) (state ∷ states) x) (the_value a c f) (here a q (λ d h. absurd (none_from codes states s d h)))
       by (Some a) (Some b) q s f rec = choose (goes_first b a) refl f
         where
-          choose : (t : Bool) → goes_first b a ≡ t → cond t (Some b) (Some a) ≡ Some c → IsFirstToServe waits class (code ∷ codes) (state ∷ states) c
+          choose : (t : Bool) → goes_first b a ≡ t → cond t (Some b) (Some a) ≡ Some c → IsFirstToServe offers class (code ∷ codes) (state ∷ states) c
           choose true u g =
-              subst (λ x. IsFirstToServe waits class (code ∷ codes) (state ∷ states) x) (the_value b c g)
+              subst (λ x. IsFirstToServe offers class (code ∷ codes) (state ∷ states) x) (the_value b c g)
               (later b (rec b s) (λ d t. subst (λ x. goes_first x b ≡ false) (the_value a d (sym q ∙ t)) (along_by b a (along_after b a (first_from b a u)))))
           choose false u g =
-              subst (λ x. IsFirstToServe waits class (code ∷ codes) (state ∷ states) x) (the_value a c g)
+              subst (λ x. IsFirstToServe offers class (code ∷ codes) (state ∷ states) x) (the_value a c g)
               (here a q (λ d h. along_by a d (along_along a b d (along_from a b u) (along_from b d ((rec b s).before d h)))))
 
-module _ (waits : List ℕ → Option ℕ) (codes : List Code) (states : List CodeState) where
-  pub picked_from : (classes : List ℕ) (c : Candidate) → pick_among waits classes codes states ≡ Some c → IsPicked waits classes codes states c
+module _ (offers : Code → Option ℕ) (codes : List Code) (states : List CodeState) where
+  pub picked_from : (classes : List ℕ) (c : Candidate) → pick_among offers classes codes states ≡ Some c → IsPicked offers classes codes states c
   picked_from [] c e = no_value None c refl e
-  picked_from (class ∷ classes) c e = by (best_of waits class codes states) refl e (picked_from classes c)
+  picked_from (class ∷ classes) c e = by (best_of offers class codes states) refl e (picked_from classes c)
     where
-      by : (o : Option Candidate) → best_of waits class codes states ≡ o → option_or o (pick_among waits classes codes states) ≡ Some c
-          → (pick_among waits classes codes states ≡ Some c → IsPicked waits classes codes states c) → IsPicked waits (class ∷ classes) codes states c
-      by None q f rec = inr (none_from waits class codes states q, rec f)
-      by (Some b) q f rec = inl (first_of waits class codes states c (q ∙ f))
+      by : (o : Option Candidate) → best_of offers class codes states ≡ o → option_or o (pick_among offers classes codes states) ≡ Some c
+          → (pick_among offers classes codes states ≡ Some c → IsPicked offers classes codes states c) → IsPicked offers (class ∷ classes) codes states c
+      by None q f rec = inr (none_from offers class codes states q, rec f)
+      by (Some b) q f rec = inl (first_of offers class codes states c (q ∙ f))
 
-  pub nothing_from : (classes : List ℕ) → pick_among waits classes codes states ≡ None → NonePicked waits classes codes states
+  pub nothing_from : (classes : List ℕ) → pick_among offers classes codes states ≡ None → NonePicked offers classes codes states
   nothing_from [] e = tt
-  nothing_from (class ∷ classes) e = by (best_of waits class codes states) refl e (nothing_from classes)
+  nothing_from (class ∷ classes) e = by (best_of offers class codes states) refl e (nothing_from classes)
     where
-      by : (o : Option Candidate) → best_of waits class codes states ≡ o → option_or o (pick_among waits classes codes states) ≡ None
-          → (pick_among waits classes codes states ≡ None → NonePicked waits classes codes states) → NonePicked waits (class ∷ classes) codes states
-      by None q f rec = (none_from waits class codes states q, rec f)
+      by : (o : Option Candidate) → best_of offers class codes states ≡ o → option_or o (pick_among offers classes codes states) ≡ None
+          → (pick_among offers classes codes states ≡ None → NonePicked offers classes codes states) → NonePicked offers (class ∷ classes) codes states
+      by None q f rec = (none_from offers class codes states q, rec f)
       by (Some b) q f rec = no_value (Some b) b f refl

@@ -1,3 +1,4 @@
 pub mod Better
 pub mod Found
 pub mod Law
+pub mod Serial

@@ -1,7 +1,6 @@
 //! Codes that a region may serve.
 ghost use Rattle.std.specs.Prelude.{◌≡◌, if◌then◌else◌, IfSome};
-ghost use Rattle.model_messages.specs.Queue.{first_free};
-ghost use Rattle.tran_pick.specs.RegionPick.{IsFirstFree};
+ghost use Rattle.tran_pick.specs.RegionPick.{offered_in, IsFirstFree};
 ghost use Rattle.model_machine.specs.Pick.{current_priority, is_code_served, candidate_of, better, goes_first};
 
 use model_system::{Code, CodeState};
@@ -9,8 +8,8 @@ use msg_queues::Queues;
 use std::marker::Model;
 use tm_types::Name;
 
-/// A code that a region may serve, with the priority that counts now and its first message that no
-/// region has.
+/// A code that a region may serve, with the priority that counts now and the message that it
+/// offers.
 #[derive(Debug, Drop)]
 pub struct Candidate {
     code: Name,
@@ -64,15 +63,28 @@ fn is_served(class: u8, code: &Code, state: &CodeState) -> bool
     state.class == class && !state.stopped && current_priority(code, state) > 0
 }
 
+/// The message that a code offers: its first one that no region has. A serial code offers none while
+/// a region has a message of it.
+fn offered(code: &Code, queues: &Queues) -> Option<u64>
+    ensures value { result ≡ offered_in queues.now.queued code.now }
+    ensures free { IfSome result (λ id. IsFirstFree queues.now.queued code.now.transaction.code id) }
+{
+    let transaction = &code.transaction;
+    if transaction.serial && queues.has_held(&transaction.code) {
+        return None;
+    }
+    queues.first_free(&transaction.code)
+}
+
 /// The code as a candidate of the class, or None where it isn't one.
 pub fn candidate_of(class: u8, code: &Code, state: &CodeState, queues: &Queues) -> Option<Candidate>
-    ensures value { result ≡ candidate_of (λ name. first_free name queues.now.queued) class code.now state.now }
+    ensures value { result ≡ candidate_of (offered_in queues.now.queued) class code.now state.now }
     ensures free { IfSome result (λ c. IsFirstFree queues.now.queued c.code c.id) }
 {
     if !is_served(class, code, state) {
         return None;
     }
-    match queues.first_free(&code.transaction.code) {
+    match offered(code, queues) {
         Some(id) => Some(Candidate {
             code: code.transaction.code,
             priority: current_priority(code, state),

@@ -1,7 +1,7 @@
 use Rattle.std.proofs.Common.{sym, subst}
 use Rattle.std.specs.Prelude.{IfSome}
 use Rattle.tran_pick.specs.RegionPick.{IsFirstFree}
-use Rattle.region_work.proofs.Firsts.{free_first}
+use Rattle.tran_pick.proofs.Found.{free_first}
 use Rattle.region_work.proofs.next.first_free.Goals as goal
 
 pub returns-clause-free : goal.returns-clause-free

@@ -1,13 +1,14 @@
 use Rattle.std.proofs.Common.{◌≡◌, ◌≤◌, ◌<◌, [], Some, None, length, sym, subst, ap, ◌∙◌}
 use Rattle.std.specs.List.{slice_get}
 use Rattle.model_data.specs.Record.{rows_spelling, record_limit}
+use Rattle.model_data.specs.Rows.{record_of}
 use Rattle.seg_rows.specs.StoreRefused.{set_refusal}
 use Rattle.seg_rows.specs.declared.rows.StoreRefused.TheVariants.{RootLimit, RecordTooLong}
 use Rattle.seg_rows.proofs.Kept.{passed}
 use Rattle.seg_store.specs.ChangedSlots.{Kept, with_changed_number}
 use Rattle.seg_store.specs.Slots.{first_slot_of, slot_for, slot_of_root, lowest_free, rows_of_slots}
 use Rattle.seg_store.proofs.Numbers.{lowest_first}
-use Rattle.seg_store.proofs.SlotRows.{due_full, due_long, due_fits, room_new, free_at, root_new}
+use Rattle.seg_store.proofs.SlotRows.{record_none, due_full, due_long, due_fits, room_new, free_at, root_new}
 use Rattle.seg_store.proofs.store.Store.add.Goals as goal
 
 pub returns-in_default-clause-refused : goal.returns-in_default-clause-refused
@@ -61,3 +62,10 @@ returns-clause-changed c =
     let taken : slot_for c.args.root.now c.args.self.now.slots ≡ Some c.in-Some.slot =
     ap (λ o. first_slot_of o (lowest_free c.args.self.now.slots)) c.requires.new ∙ low' in
     c.fill.ensures.changed ∙ sym (ap (λ o. with_changed_number o c.args.self.now.changed) taken)
+
+pub returns-clause-was : goal.returns-clause-was
+returns-clause-was c =
+    let new : slot_of_root c.args.root.now c.self.inside.slots.items ≡ None = subst (λ (s : Kept). slot_of_root c.args.root.now s.slots ≡ None) (sym c.self.view_is) c.requires.new in
+    c.new.ensures
+    ∙ sym (subst (λ (s : Kept). record_of c.args.root.now (rows_of_slots s.slots) ≡ []) c.self.view_is
+    (record_none c.self.inside.dbd c.self.inside.slots.items c.args.root.now c.self.invariant.indexed.valid new))
