@@ -102,7 +102,7 @@ impl<D: Disk> LoggedMachine<D> {
         ensures answers { IsAnswered self.now.machine self.now.machine (QuietEntry result) }
     {
         let _regions = self.parts.region_count();
-        self.is_quiet()
+        self.parts.is_quiet()
     }
 
     /// Makes the `n`-th write from now fail and the disk stop. It answers false where the disk can't be told so.

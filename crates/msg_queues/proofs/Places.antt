@@ -1,5 +1,5 @@
 -- Ids with flags, as they are kept.
-use Rattle.std.proofs.Common.{◌≡◌, ℕ, ◌+◌, ◌≤◌, ◌++◌, ◌∷◌, [], List, refl, sym, ◌∙◌, ap, subst, arith, Bool, true, false, cond, not, ◌||◌, Option, Some, None, eqb, ltb, length}
+use Rattle.std.proofs.Common.{◌≡◌, ℕ, suc, ◌+◌, ◌≤◌, ◌++◌, ◌∷◌, [], List, refl, sym, ◌∙◌, ap, subst, arith, Bool, true, false, cond, not, ◌||◌, Option, Some, None, eqb, ltb, length}
 use Rattle.std.specs.Prelude.{count_by}
 use Rattle.std.specs.List.{AllByRecursion}
 use Rattle.std.specs.List.Sorted.{IsStrictlySortedBy}
@@ -110,12 +110,12 @@ pub held_where_fewer : (es : List (ℕ × Bool)) → ltb (unheld_count es) (leng
 held_where_fewer [] = refl
 held_where_fewer (e ∷ es) = by e.1 (held_where_fewer es)
   where
-    by : (b : Bool) → ltb (unheld_count es) (length es) ≡ any_held_id es → ltb (count_by (λ held. not held) (b ∷ values_of es)) (length es + 1) ≡ (b || any_held_id es)
+    by : (b : Bool) → ltb (unheld_count es) (length es) ≡ any_held_id es → ltb (count_by (λ held. not held) (b ∷ values_of es)) (suc (length es)) ≡ (b || any_held_id es)
     by true rest =
-        lt-ltb (count_by (λ held. not held) (true ∷ values_of es)) (length es + 1)
+        lt-ltb (count_by (λ held. not held) (true ∷ values_of es)) (suc (length es))
         (omega (arith, sum_by-cons id_weight true (values_of es), count_by-le-length (λ held. not held) (values_of es), length-values_of es))
     by false rest =
-        one_more (unheld_count es) (length es) (count_by (λ held. not held) (false ∷ values_of es)) (length es + 1) (omega (arith, sum_by-cons id_weight false (values_of es))) refl ∙ rest
+        one_more (unheld_count es) (length es) (count_by (λ held. not held) (false ∷ values_of es)) (suc (length es)) (omega (arith, sum_by-cons id_weight false (values_of es))) (omega arith) ∙ rest
 
 pub free_within : (es : List (ℕ × Bool)) (free : ℕ) → AreIdsCounted es free → free ≤ length es
 free_within es free h = omega (arith, h.counted, count_by-le-length (λ held. not held) (values_of es), length-values_of es)

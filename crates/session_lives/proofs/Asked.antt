@@ -26,6 +26,7 @@ use Rattle.tm_control.specs.ControlOnDisk.{ControlOnDisk, control_spent_now}
 use Rattle.tm_control.specs.ControlCalls.{StaysSo, AddsBy, AddedNothing, TellsSpent, StaysSpent}
 use Rattle.session_lives.specs.declared.called.Called.{Called}
 use Rattle.model_session.specs.Lives.{ends_life, is_disk_fault}
+use Rattle.session_lives.specs.ToldNumbers.{ShowsNumber, ShowsTold}
 use Rattle.session_lives.specs.AskedControl.{called_by, call_ended_by, CallLooks, IsSpentUp, IsAsked}
 
 -- an entry with a fault
@@ -122,18 +123,20 @@ module _ {D : Type 0} (old new : ControlOnDisk D) where
 module _ {D : Type 0} (state : D → DiskState) where
   asked_of_fault : (fault : Option ControlFault) (entry : Entry) (old new : ControlOnDisk D) (text : List ℕ) → ends_life entry ≡ false → fault_in entry ≡ fault
       → TellsSpent (control_spent_now old) fault → StaysSpent fault old new
-      → AddsBy state fault old new entry → text ≡ entry_text old.control.system (control_moment old.control) entry → IsAsked state (Call (call_of entry)) old new text (called_by fault)
-  asked_of_fault None entry old new text on is spent same adds printed = record { entry = entry; asked = refl; answered = adds; goes_on = on; printed = printed }
-  asked_of_fault (Some Disk) entry old new text on is spent same adds printed = record { entry = entry; asked = refl; fault = disk_fault_is entry is; broke = adds }
-  asked_of_fault (Some NoMemory) entry old new text on is spent same adds printed = adds
-  asked_of_fault (Some (SpentCounter counter)) entry old new text on is spent same adds printed = (adds, spent_up old new counter spent same, fault_looks entry (SpentCounter counter) is)
+      → AddsBy state fault old new entry → text ≡ entry_text old.control.system (control_moment old.control) entry → ShowsTold new.control.system entry (state new.disk)
+      → IsAsked state (Call (call_of entry)) old new text (called_by fault)
+  asked_of_fault None entry old new text on is spent same adds printed told = record { entry = entry; asked = refl; answered = adds; goes_on = on; printed = printed; told = told }
+  asked_of_fault (Some Disk) entry old new text on is spent same adds printed told = record { entry = entry; asked = refl; fault = disk_fault_is entry is; broke = adds }
+  asked_of_fault (Some NoMemory) entry old new text on is spent same adds printed told = adds
+  asked_of_fault (Some (SpentCounter counter)) entry old new text on is spent same adds printed told = (adds, spent_up old new counter spent same, fault_looks entry (SpentCounter counter) is)
 
   -- a call that was made and ends no life, with what is printed where it was answered
   pub asked_call : (entry : Entry) (old new : ControlOnDisk D) (text : List ℕ) (called : Called) → ends_life entry ≡ false → called ≡ called_by (fault_in entry)
       → TellsSpent (control_spent_now old) (fault_in entry) → StaysSpent (fault_in entry) old new
-      → AddsBy state (fault_in entry) old new entry → text ≡ entry_text old.control.system (control_moment old.control) entry → IsAsked state (Call (call_of entry)) old new text called
-  asked_call entry old new text called on is spent same adds printed =
-      subst (λ c. IsAsked state (Call (call_of entry)) old new text c) (sym is) (asked_of_fault (fault_in entry) entry old new text on refl spent same adds printed)
+      → AddsBy state (fault_in entry) old new entry → text ≡ entry_text old.control.system (control_moment old.control) entry → ShowsTold new.control.system entry (state new.disk)
+      → IsAsked state (Call (call_of entry)) old new text called
+  asked_call entry old new text called on is spent same adds printed told =
+      subst (λ c. IsAsked state (Call (call_of entry)) old new text c) (sym is) (asked_of_fault (fault_in entry) entry old new text on refl spent same adds printed told)
 
   -- a call that met a fault
   pub asked_fault : (fault : ControlFault) (entry : Entry) (old new : ControlOnDisk D) (text : List ℕ) (called : Called) → ends_life entry ≡ false → fault_in entry ≡ Some fault
@@ -148,11 +151,12 @@ module _ {D : Type 0} (state : D → DiskState) where
   asked_ahead : (fault : Option ControlFault) (entry : Entry) (old new : ControlOnDisk D) (text : List ℕ) → ends_life entry ≡ false → fault_in entry ≡ fault
       → TellsSpent (control_spent_now old) fault → StaysSpent fault old new
       → AddsBy state fault old new entry → (May old.control.system (control_moment old.control) entry → text ≡ entry_text old.control.system (control_moment old.control) entry)
+      → ShowsTold new.control.system entry (state new.disk)
       → IsAsked state (Call (call_of entry)) old new text (called_by fault)
-  asked_ahead None entry old new text on is spent same adds printed = record { entry = entry; asked = refl; answered = adds; goes_on = on; printed = printed adds.adds.may }
-  asked_ahead (Some Disk) entry old new text on is spent same adds printed = record { entry = entry; asked = refl; fault = disk_fault_is entry is; broke = adds }
-  asked_ahead (Some NoMemory) entry old new text on is spent same adds printed = adds
-  asked_ahead (Some (SpentCounter counter)) entry old new text on is spent same adds printed = (adds, spent_up old new counter spent same, fault_looks entry (SpentCounter counter) is)
+  asked_ahead None entry old new text on is spent same adds printed told = record { entry = entry; asked = refl; answered = adds; goes_on = on; printed = printed adds.adds.may; told = told }
+  asked_ahead (Some Disk) entry old new text on is spent same adds printed told = record { entry = entry; asked = refl; fault = disk_fault_is entry is; broke = adds }
+  asked_ahead (Some NoMemory) entry old new text on is spent same adds printed told = adds
+  asked_ahead (Some (SpentCounter counter)) entry old new text on is spent same adds printed told = (adds, spent_up old new counter spent same, fault_looks entry (SpentCounter counter) is)
 
   -- a command whose text was made before, by the answer at its place
   pub asked_command : (command : Command) (answer : Result Answer CommandRefused) (old new : ControlOnDisk D) (text : List ℕ) (called : Called)
@@ -161,33 +165,35 @@ module _ {D : Type 0} (state : D → DiskState) where
   asked_command command answer old new text called is spent same adds printed =
       let entry : Entry = Commanded command answer in
       subst (λ c. IsAsked state (Call (call_of entry)) old new text c) (sym is)
-      (asked_ahead (fault_in entry) entry old new text refl refl spent same adds (λ may. printed ∙ sym (ap (entry_text old.control.system (control_moment old.control)) may.answer)))
+      (asked_ahead (fault_in entry) entry old new text refl refl spent same adds (λ may. printed ∙ sym (ap (entry_text old.control.system (control_moment old.control)) may.answer)) tt)
 
-  -- a checkpoint, by its answer; behind a freeze a crash leaves the shown disk alone
+  -- a checkpoint, by its answer; the disk shows its number, and behind a freeze a crash leaves the shown disk alone
   checked_by : {P : ℕ → Type 0} (freeze : Bool) (answer : Result ℕ CheckpointRefused) (old new : ControlOnDisk D) (text : List ℕ)
       → TellsSpent (control_spent_now old) (fault_in (Checked freeze answer)) → StaysSpent (fault_in (Checked freeze answer)) old new
       → AddsBy state (fault_in (Checked freeze answer)) old new (Checked freeze answer) → IfOk answer P → ((number : ℕ) → P number → Only (state new.disk).shown (state new.disk))
+      → ((number : ℕ) → P number → ShowsNumber new.control.system number (state new.disk))
       → text ≡ checkpoint_text freeze answer → IsAsked state (Call (CheckpointCall freeze)) old new text (call_ended_by (ends_life (Checked freeze answer)) (fault_in (Checked freeze answer)))
-  checked_by true (Ok number) old new text spent same adds taken only printed =
-      record { entry = Checked true (Ok number); asked = refl; answered = adds; ends = refl; printed = printed; only = only number taken }
-  checked_by false (Ok number) old new text spent same adds taken only printed =
-      record { entry = Checked false (Ok number); asked = refl; answered = adds; goes_on = refl; printed = printed }
-  checked_by true (Err (CheckpointFault fault)) old new text spent same adds taken only printed =
+  checked_by true (Ok number) old new text spent same adds taken only shows printed =
+      record { entry = Checked true (Ok number); asked = refl; answered = adds; ends = refl; printed = printed; only = only number taken; told = shows number taken }
+  checked_by false (Ok number) old new text spent same adds taken only shows printed =
+      record { entry = Checked false (Ok number); asked = refl; answered = adds; goes_on = refl; printed = printed; told = shows number taken }
+  checked_by true (Err (CheckpointFault fault)) old new text spent same adds taken only shows printed =
       asked_fault fault (Checked true (Err (CheckpointFault fault))) old new text (called_by (Some fault)) refl refl refl spent same adds
-  checked_by false (Err (CheckpointFault fault)) old new text spent same adds taken only printed =
+  checked_by false (Err (CheckpointFault fault)) old new text spent same adds taken only shows printed =
       asked_fault fault (Checked false (Err (CheckpointFault fault))) old new text (called_by (Some fault)) refl refl refl spent same adds
-  checked_by true (Err (BusyRegion region id)) old new text spent same adds taken only printed =
-      record { entry = Checked true (Err (BusyRegion region id)); asked = refl; answered = adds; goes_on = refl; printed = printed }
-  checked_by false (Err (BusyRegion region id)) old new text spent same adds taken only printed =
-      record { entry = Checked false (Err (BusyRegion region id)); asked = refl; answered = adds; goes_on = refl; printed = printed }
+  checked_by true (Err (BusyRegion region id)) old new text spent same adds taken only shows printed =
+      record { entry = Checked true (Err (BusyRegion region id)); asked = refl; answered = adds; goes_on = refl; printed = printed; told = tt }
+  checked_by false (Err (BusyRegion region id)) old new text spent same adds taken only shows printed =
+      record { entry = Checked false (Err (BusyRegion region id)); asked = refl; answered = adds; goes_on = refl; printed = printed; told = tt }
 
   pub asked_checkpoint : {P : ℕ → Type 0} (freeze : Bool) (answer : Result ℕ CheckpointRefused) (old new : ControlOnDisk D) (text : List ℕ) (called : Called)
       → called ≡ call_ended_by (ends_life (Checked freeze answer)) (fault_in (Checked freeze answer))
       → TellsSpent (control_spent_now old) (fault_in (Checked freeze answer)) → StaysSpent (fault_in (Checked freeze answer)) old new
       → AddsBy state (fault_in (Checked freeze answer)) old new (Checked freeze answer) → IfOk answer P → ((number : ℕ) → P number → Only (state new.disk).shown (state new.disk))
+      → ((number : ℕ) → P number → ShowsNumber new.control.system number (state new.disk))
       → text ≡ checkpoint_text freeze answer → IsAsked state (Call (CheckpointCall freeze)) old new text called
-  asked_checkpoint {P = P} freeze answer old new text called is spent same adds taken only printed =
-      subst (λ c. IsAsked state (Call (CheckpointCall freeze)) old new text c) (sym is) (checked_by {P = P} freeze answer old new text spent same adds taken only printed)
+  asked_checkpoint {P = P} freeze answer old new text called is spent same adds taken only shows printed =
+      subst (λ c. IsAsked state (Call (CheckpointCall freeze)) old new text c) (sym is) (checked_by {P = P} freeze answer old new text spent same adds taken only shows printed)
 
   -- what stays over two calls
   pub stays_so : (a : ControlOnDisk D) → StaysSo state a a

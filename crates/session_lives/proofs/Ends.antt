@@ -30,6 +30,7 @@ use Rattle.session_lives.specs.declared.place.Kept.{Kept}
 use Rattle.session_lives.specs.RunningSession.{life_of, last_life_of, last_up, kept_steps, outage_of, session_at, session_setting, CountsDown, CountsFirst, HoldsSession, IsDownSound}
 use Rattle.session_lives.specs.ControlCounts.{CountsUp}
 use Rattle.session_lives.specs.DiskCuts.{AreCuts}
+use Rattle.session_lives.specs.ToldNumbers.{numbers_in, numbers_told, numbers_of, numbers_so_far, AreShown}
 use Rattle.session_lives.specs.Openings.{GoesDown}
 use Rattle.session_lives.proofs.Asked.{disk_fault_is, fault_is}
 use Rattle.model_session.proofs.Ending.{answered_end, faulted_end}
@@ -243,12 +244,21 @@ module _ {D : Type 0} (state : D → DiskState) (system : System) (source : List
       (subst (λ (s : System). CountsUpTo s (high + call_raises * measure (session_at [] (Up c) old)) image) system_is
       (h.images image (subst (λ d. (state d).may_leave image) down.closes.disk_is (down.laid.no_more image left))))
 
+  -- the numbers that were told by then
+  numbers_down : (cut : List ℕ) (old new : Kept) (stopped : Bool) (idle : Idle D) → GoesDown state c old new stopped idle
+      → numbers_so_far (session_at cut (Down idle) new) ≡ numbers_told (map life_of old.lives.items) ++ numbers_in c.control.history
+  numbers_down cut old new stopped idle down =
+      ap (λ (lives : List LifeState). numbers_told lives ++ numbers_of (option_map last_life_of idle.last)) (same_kept old new down.lives)
+      ∙ ap (λ (last : Option Life). numbers_told (map life_of old.lives.items) ++ numbers_of (option_map last_life_of last)) down.last
+      ∙ ap (λ (entries : List Entry). numbers_told (map life_of old.lives.items) ++ numbers_in entries) down.closes.history
+
   -- a life that has ended leaves all sound
   pub down_sound : Only (state handed).shown (state handed) → c.text ≡ source → sectors_needed system ≤ (state handed).size → (cut : List ℕ) (old new : Kept) (stopped : Bool) (idle : Idle D)
-      → AreCuts state cut handed idle.disk → GoesDown state c old new stopped idle → IsSameDisk (state handed) (state c.disk)
+      → AreCuts state cut handed idle.disk → AreShown state system (numbers_told (map life_of old.lives.items) ++ numbers_in c.control.history) handed idle.disk
+      → GoesDown state c old new stopped idle → IsSameDisk (state handed) (state c.disk)
       → AreLegal system (map life_of old.lives.items) → AreStops (state handed).faults new.stops.items (state c.disk).faults
       → IsSystem system → ((high : ℕ) → CountsFirst system high (state handed) → CountsUp state (high + call_raises * measure (session_at [] (Up c) old)) c) → IsDownSound state system source handed cut idle new
-  down_sound alone text_is size cut old new stopped idle cuts down same legal stops valid counts =
+  down_sound alone text_is size cut old new stopped idle cuts told down same legal stops valid counts =
       let disk : IsSameDisk (state handed) (state down.disk) = subst (λ d. IsSameDisk (state handed) (state d)) (sym down.closes.disk_is) same in
       let faults : (state idle.disk).faults ≡ (state c.disk).faults = down.laid.faults ∙ ap (λ d. (state d).faults) down.closes.disk_is in
       let outage : outage_of idle ≡ outage_with (Some (last_up c)) false stopped = outage_is state c old new stopped idle (last_up c) down refl refl refl in
@@ -277,6 +287,7 @@ module _ {D : Type 0} (state : D → DiskState) (system : System) (source : List
         valid = valid;
         counts = λ high first. down_counts old new stopped idle down high (counts high first);
         cuts = cuts;
+        told = subst (λ (numbers : List ℕ). AreShown state system numbers handed idle.disk) (sym (numbers_down cut old new stopped idle down)) told;
       }
 
   -- a stop begins where the one before it had ended

@@ -1,5 +1,6 @@
 pub mod Counting
 pub mod Cutting
+pub mod Telling
 pub mod Asked
 pub mod Replies
 pub mod Turned

@@ -8,7 +8,7 @@ use Rattle.model_system.specs.System.{System}
 use Rattle.model_machine.specs.Machine.{start_of}
 use Rattle.model_machine.specs.History.{moment_after, control_moment}
 use Rattle.model_image.specs.RecoveredState.{Recovers}
-use Rattle.model_session.specs.Lives.{LifeState, AreLegal, HasAnswered, kept_life, with_life}
+use Rattle.model_session.specs.Lives.{LifeState, LastLife, AreLegal, HasAnswered, kept_life, with_life}
 use Rattle.model_session.specs.SessionState.{Stop, AreStops}
 use Rattle.model_session.specs.SessionState.Standing.{Up as StandsUp}
 use Rattle.tm_control.specs.ControlOnDisk.{ControlOnDisk, LastsBy}
@@ -19,6 +19,8 @@ use Rattle.session_lives.specs.declared.place.Place.{Place}
 use Rattle.session_lives.specs.declared.place.Kept.{Kept}
 use Rattle.session_lives.specs.declared.place.Session.{Session}
 use Rattle.session_lives.specs.DiskCuts.{AreCuts}
+use Rattle.session_lives.specs.ToldNumbers.{numbers_told, numbers_of, AreShown}
+use Rattle.session_lives.proofs.Telling.{with_numbers}
 use Rattle.session_lives.specs.RunningSession.{life_of, last_life_of, last_up, kept_steps, session_at, HoldsSession, IsUpReady, IsSessionReady, IsReadyAt, IsUpSound, IsDownSound, IsSoundAt}
 use Rattle.session_lives.specs.ClosedSession.{listed, IsClosedUp, IsClosedDown, IsClosedAt, IsSessionClosed, Remains, SessionLeaves}
 use Rattle.session_lives.proofs.Ends.{same_life, answered_by, answered_of, numbered_by}
@@ -33,6 +35,12 @@ some_life None some = some
 some_life (Some life) some = refl
 
 module _ {D : Type 0} (state : D → DiskState) (system : System) (source : List ℕ) (handed : D) (cut : List ℕ) where
+  told_all : (disk held : D) (lives before : List LifeState) (last : Option LastLife) (kept : ℕ) → lives ≡ with_life before last kept → disk ≡ held
+      → AreShown state system (numbers_told before ++ numbers_of last) handed held → AreShown state system (numbers_told lives) handed disk
+  told_all disk held lives before last kept all same shown =
+      subst (λ (d : D). AreShown state system (numbers_told lives) handed d) (sym same)
+      (subst (λ (numbers : List ℕ). AreShown state system numbers handed held) (sym (ap numbers_told all ∙ with_numbers before last kept)) shown)
+
   down_remains : (idle : Idle D) (kept : Kept) (disk : D) (lives : List Life) (stops : List Stop) → IsDownSound state system source handed cut idle kept
       → IsClosedDown idle kept disk lives stops → Remains state system source handed disk (session_at cut (Down idle) kept) lives stops
   down_remains idle kept disk lives stops sound over =
@@ -48,6 +56,7 @@ module _ {D : Type 0} (state : D → DiskState) (system : System) (source : List
         numbered = λ image left. sound.numbered image (subst (λ d. (state d).may_leave image) over.disk_is left);
         enough = λ some. sound.size (some_life idle.last some);
         cuts = subst (λ (d : D). AreCuts state cut handed d) (sym over.disk_is) sound.cuts;
+        told = told_all disk idle.disk (map life_of lives) (map life_of kept.lives.items) (option_map last_life_of idle.last) (kept_steps idle.last) all over.disk_is sound.told;
       }
 
   up_holds : (control : ControlOnDisk D) (up : Bool) → up ≡ true → control.control.system ≡ system → LastsBy up control.control control.checkpoint control.text (state control.disk) → (image : Image)
@@ -79,6 +88,7 @@ module _ {D : Type 0} (state : D → DiskState) (system : System) (source : List
             (subst (λ n. AreStops (state handed).faults kept.stops.items n) sound.began sound.stops));
         enough = λ some. sound.size;
         cuts = subst (λ (d : D). AreCuts state cut handed d) (sym over.closes.disk_is) sound.cuts;
+        told = told_all disk control.disk (map life_of lives) (map life_of kept.lives.items) (Some (last_up control)) over.life.kept all over.closes.disk_is sound.told;
         numbered = λ image left.
             numbered_by state system source handed control sound.system_is control.up image over.lasts (subst (λ d. (state d).may_leave image) over.closes.disk_is left);
         images = λ image left. up_holds control control.up ready.up sound.system_is over.lasts image (subst (λ d. (state d).may_leave image) over.closes.disk_is left);

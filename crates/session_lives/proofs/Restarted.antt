@@ -1,6 +1,6 @@
 -- A system that was down, and what a restart comes to.
 use Rattle.std.proofs.Common.{◌≡◌, ◌⊎◌, ℕ, suc, ◌+◌, ◌*◌, ◌-◌, ◌≤◌, ◌<◌, max, Bool, true, false, List, [], ◌∷◌, ◌++◌, map, sym, ◌∙◌, ap, subst, refl, arith, inl, inr, ⊎_elim}
-use Rattle.std.proofs.lemmas.List.{map-append}
+use Rattle.std.proofs.lemmas.List.{append-nil, map-append}
 use Rattle.std.proofs.lemmas.Bool.{cases_Bool, eq-eqb}
 use Rattle.std.specs.Prelude.{◌==◌, if◌then◌else◌, Option, Some, None, Result, Ok, Err}
 use Rattle.std.specs.Option.{option_map, is_some}
@@ -52,11 +52,13 @@ use Rattle.session_lives.specs.declared.place.Kept.{Kept}
 use Rattle.session_lives.specs.declared.place.Session.{Session}
 use Rattle.session_lives.specs.RunningSession.{life_of, last_life_of, last_up, kept_steps, outage_of, session_at, session_of, session_down, session_setting, CountsDown, CountsFirst, LeadsBy, IsBrokenAs, IsRefusedFirst, IsOfDefinition, IsEmptyImage, IsRight, IsOfText, HoldsSession, IsNumberedAt, IsDownSound, IsSessionSound, IsSoundAt, error_of}
 use Rattle.session_lives.specs.ControlCounts.{CountsUp}
+use Rattle.session_lives.specs.ToldNumbers.{numbers_told, numbers_so_far, IsSince, AreShown}
 use Rattle.session_lives.proofs.Counting.{stands_more}
 use Rattle.session_lives.proofs.Told.{told_text, one_restart, no_restart}
 use Rattle.session_lives.specs.Openings.{how_of, life_kept_by, with_last_life, HasOpened, StaysIdle, HasFailed, HasGone, RefusesSpent, IsOpeningTold, IsRefusalTold, IsRestartedSo, IsLookedAt, CountsOn, UndoneBy, IsServedSo, asked_restart}
 use Rattle.session_lives.proofs.Ends.{picks_with, same_state, outage_with, life_with, same_life, stops_one, rose_from}
 use Rattle.session_lives.proofs.Cutting.{cuts_stay, cuts_one, uncut_stays}
+use Rattle.session_lives.proofs.Telling.{with_numbers, since_on, shown_stay}
 
 some_is : (a b : Bool) → Some b ≡ Some a → a ≡ b
 some_is a b e = cc
@@ -264,6 +266,18 @@ module _ {D : Type 0} (state : D → DiskState) (is_disk : (disk : D) → IsDisk
             (up_to_more system (bound high + 1) (high + call_raises * measure (session_at cut (Up gone.control) session.kept)) image more (raised gone.control.disk gone.counts high first image left));
       }
 
+  -- ---- the numbers that were told
+
+  told_then : (disk : D) (numbers : List ℕ) → numbers ≡ numbers_so_far before → IsSince (state idle.disk) (state disk) → AreShown state system numbers handed disk
+  told_then disk numbers same since =
+      subst (λ (ns : List ℕ). AreShown state system ns handed disk) (sym same) (shown_stay state system (numbers_so_far before) handed idle.disk disk sound.told since)
+
+  opened_numbers : (cold : Bool) (gone : HasOpened state idle old cold session) → numbers_so_far (session_at cut (Up gone.control) session.kept) ≡ numbers_so_far before
+  opened_numbers cold gone =
+      ap numbers_so_far (sym (ap (λ p. session_at cut p session.kept) gone.place) ∙ opened_state cold gone)
+      ∙ append-nil (numbers_told (with_life (map life_of old.lives.items) outage.last (count_of idle.last cold gone.control.control.opening.steps)))
+      ∙ with_numbers (map life_of old.lives.items) outage.last (count_of idle.last cold gone.control.control.opening.steps)
+
   opened_sound : (cold : Bool) → HasOpened state idle old cold session → IsSessionSound state system source handed cut session
   opened_sound cold gone =
       subst (λ p. IsSoundAt state system source handed cut p session.kept) (sym gone.place) (record {
@@ -280,6 +294,8 @@ module _ {D : Type 0} (state : D → DiskState) (is_disk : (disk : D) → IsDisk
         valid = sound.valid;
         counts = opened_counts cold gone;
         cuts = cuts_stay state cut handed idle.disk gone.control.disk sound.cuts (uncut_stays (state idle.disk) (state gone.control.disk) gone.opens.stays);
+        told = told_then gone.control.disk (numbers_so_far (session_at cut (Up gone.control) session.kept)) (opened_numbers cold gone)
+            (record { same = stays_is_same (state idle.disk) (state gone.control.disk) gone.opens.stays; later = gone.opens.any_moment.later });
       })
 
   -- ---- the disk failed
@@ -430,6 +446,10 @@ module _ {D : Type 0} (state : D → DiskState) (is_disk : (disk : D) → IsDisk
         counts = failed_counts cold gone;
         cuts = cuts_one state cut old.pick handed gone.disk gone.after.disk
             (cuts_stay state cut handed idle.disk gone.disk sound.cuts (uncut_stays (state idle.disk) (state gone.disk) gone.back.stays)) gone.cut;
+        told = told_then gone.after.disk (numbers_so_far (session_at cut_failed (Down gone.after) session.kept))
+            (ap numbers_so_far (sym (ap (λ p. session_at cut_failed p session.kept) gone.place) ∙ failed_state cold gone))
+            (since_on (state idle.disk) (state gone.disk) (state gone.after.disk)
+            (record { same = stays_is_same (state idle.disk) (state gone.disk) gone.back.stays; later = gone.back.any_moment.later }) (record { same = gone.cut.same; later = gone.cut.elapses.later }));
       })
 
   -- ---- all is as it was
@@ -469,6 +489,9 @@ module _ {D : Type 0} (state : D → DiskState) (is_disk : (disk : D) → IsDisk
         valid = sound.valid;
         counts = idle_counts idles;
         cuts = cuts_stay state cut handed idle.disk idles.after.disk sound.cuts (uncut_stays (state idle.disk) (state idles.after.disk) idles.wrote.keeps.stays);
+        told = told_then idles.after.disk (numbers_so_far (session_at cut (Down idles.after) session.kept))
+            (ap numbers_so_far (sym (ap (λ p. session_at cut p session.kept) idles.place) ∙ idle_state idles))
+            (record { same = stays_is_same (state idle.disk) (state idles.after.disk) idles.wrote.keeps.stays; later = idles.wrote.keeps.elapses.later });
       })
 
   -- ---- a disk that can't be opened

@@ -29,11 +29,13 @@ use Rattle.session_law.specs.Measures.{call_raises, lives_measure, measure}
 use Rattle.session_law.specs.SpentCounters.{HasSpent, IsSpentAt}
 use Rattle.session_lives.specs.ControlCounts.{CountsUp, KeepsPace}
 use Rattle.session_lives.specs.DiskCuts.{AreCuts}
+use Rattle.session_lives.specs.ToldNumbers.{numbers_in, numbers_told, ShowsTold, IsSince, AreShown}
 use Rattle.session_lives.specs.RunningSession.{life_of, last_up, session_at, session_of, session_up, session_setting, CountsFirst, IsUpReady, IsUpSound, IsSessionSound, IsSoundAt, IsReadyAt, LeadsBy}
 use Rattle.session_lives.specs.AskedControl.{IsAsked, DoesAsked, Freezes, AskedFails, PowersOff, Undoes, IsSpentUp, LooksAtCounters, pick_by}
 use Rattle.session_lives.specs.Openings.{IsEndable, HasEndedLife, IsAloneBy, IsCallSettled, CountsOn, IsServedSo}
 use Rattle.session_lives.proofs.Counting.{counts_more}
 use Rattle.session_lives.proofs.Cutting.{cuts_stay, cuts_one}
+use Rattle.session_lives.proofs.Telling.{numbers_more, fault_numbers, turns_numbers, shown_stay, shown_none, shown_entry, shown_behind}
 use Rattle.session_lives.proofs.Ends.{picks_with, state_with, up_state, up_with, ended_state, broken_state, down_sound, stop_behind, no_stop}
 use Rattle.session_lives.proofs.Picks.{pick_broke, pick_undone, pick_spent}
 
@@ -113,6 +115,100 @@ module _ {D : Type 0} (state : D → DiskState) (system : System) (source : List
   begun_in : (most : ℕ) (turns : List Entry) → IsBrokenOff most a.control.system (control_moment a.control) turns → IsBrokenOff most system (now_in system (last_up a)) turns
   begun_in most turns begun = subst (λ s. IsBrokenOff most s (moment_after s (start_of s a.control.opening) a.control.history) turns) sound.system_is begun
 
+  -- ---- the numbers that were told
+
+  abbrev Told : Type 0
+  Told = AreShown state system (numbers_told (map life_of kept.lives.items) ++ numbers_in b.control.history) handed b.disk
+
+  since_now : IsSince (state a.disk) (state b.disk)
+  since_now = record { same = stays.disk; later = stays.later }
+
+  told_with : (entries : List Entry) → b.control.history ≡ a.control.history ++ entries → AreShown state system (numbers_in entries) a.disk b.disk → Told
+  told_with entries history shown =
+      shown_behind state system (map life_of old.lives.items) (map life_of kept.lives.items) a.control.history b.control.history entries handed a.disk b.disk
+      (ap (λ v. map life_of v.items) lives) history sound.told shown
+
+  told_same : b.control.history ≡ a.control.history → Told
+  told_same history = told_with [] (history ∙ sym (append-nil a.control.history)) since_now
+
+  told_entry : (entry : Entry) → b.control.history ≡ a.control.history ++ entry ∷ [] → ShowsTold b.control.system entry (state b.disk) → Told
+  told_entry entry history shows =
+      told_with (entry ∷ []) history
+      (shown_entry state system entry a.disk b.disk since_now (subst (λ (s : System). ShowsTold s entry (state b.disk)) (stays.system ∙ sound.system_is) shows))
+
+  told_none : (entries : List Entry) → b.control.history ≡ a.control.history ++ entries → numbers_in entries ≡ [] → Told
+  told_none entries history none = told_with entries history (shown_none state system (numbers_in entries) a.disk b.disk none since_now)
+
+  told_done : (asked : Asked) → DoesAsked state asked a b text → Told
+  told_done (Bad rule) does_it = told_same does_it.0.adds.history
+  told_done (BadCommand rule) does_it = told_same does_it.0.adds.history
+  told_done (Stopped terminal number reason) does_it = told_same does_it.0.adds.history
+  told_done (Call call) told = told_entry told.entry told.answered.adds.history told.told
+  told_done (Quiet most) turned = told_none turned.turns turned.adds.history (turns_numbers a.control.system 0 (control_moment a.control) turned.turns turned.quieted.turns)
+  told_done (AskedPower pick) never = absurd never
+  told_done (PowerIn writes pick) does_it = told_same does_it.0.adds.history
+  told_done Restart does_it = told_same does_it.0.adds.history
+  told_done ColdStart does_it = told_same does_it.0.adds.history
+
+  told_frozen : (asked : Asked) → Freezes state asked a b text → Told
+  told_frozen (Bad rule) never = absurd never
+  told_frozen (BadCommand rule) never = absurd never
+  told_frozen (Stopped terminal number reason) never = absurd never
+  told_frozen (Call call) frozen = told_entry frozen.entry frozen.answered.adds.history frozen.told
+  told_frozen (Quiet most) never = absurd never
+  told_frozen (AskedPower pick) never = absurd never
+  told_frozen (PowerIn writes pick) never = absurd never
+  told_frozen Restart never = absurd never
+  told_frozen ColdStart never = absurd never
+
+  told_power : (asked : Asked) (pick : ℕ) → PowersOff state asked pick a b text → Told
+  told_power (Bad rule) pick never = absurd never
+  told_power (BadCommand rule) pick never = absurd never
+  told_power (Stopped terminal number reason) pick never = absurd never
+  told_power (Call call) pick never = absurd never
+  told_power (Quiet most) pick never = absurd never
+  told_power (AskedPower asked) pick (same, unchanged, added, printed) = told_same added.adds.history
+  told_power (PowerIn writes picked) pick never = absurd never
+  told_power Restart pick never = absurd never
+  told_power ColdStart pick never = absurd never
+
+  told_failed : (asked : Asked) → AskedFails state asked a b → Told
+  told_failed (Bad rule) never = absurd never
+  told_failed (BadCommand rule) never = absurd never
+  told_failed (Stopped terminal number reason) never = absurd never
+  told_failed (Call call) failed = told_none (failed.entry ∷ []) failed.broke.history (fault_numbers failed.entry failed.fault)
+  told_failed (Quiet most) failed =
+      told_none (failed.turns ++ failed.entry ∷ []) failed.history
+      (numbers_more failed.turns (failed.entry ∷ [])
+      ∙ ap (λ (numbers : List ℕ). numbers ++ numbers_in (failed.entry ∷ [])) (turns_numbers a.control.system 0 (control_moment a.control) failed.turns failed.begun.turns)
+      ∙ fault_numbers failed.entry failed.fault)
+  told_failed (AskedPower pick) never = absurd never
+  told_failed (PowerIn writes pick) never = absurd never
+  told_failed Restart never = absurd never
+  told_failed ColdStart never = absurd never
+
+  told_undone : (asked : Asked) → Undoes state asked a b → Told
+  told_undone (Bad rule) added = told_same added.adds.history
+  told_undone (BadCommand rule) added = told_same added.adds.history
+  told_undone (Stopped terminal number reason) added = told_same added.adds.history
+  told_undone (Call call) added = told_same added.adds.history
+  told_undone (Quiet most) (inl added) = told_same added.adds.history
+  told_undone (Quiet most) (inr stand) = told_none stand.turns stand.adds.history (turns_numbers a.control.system 0 (control_moment a.control) stand.turns stand.begun.turns)
+  told_undone (AskedPower pick) added = told_same added.adds.history
+  told_undone (PowerIn writes pick) added = told_same added.adds.history
+  told_undone Restart added = told_same added.adds.history
+  told_undone ColdStart added = told_same added.adds.history
+
+  -- and behind a life's end
+  told_left : (over : HasEndedLife state b kept None false session) → Told → AreShown state system (numbers_told (map life_of kept.lives.items) ++ numbers_in b.control.history) handed over.idle.disk
+  told_left over told = subst (λ (d : D). AreShown state system (numbers_told (map life_of kept.lives.items) ++ numbers_in b.control.history) handed d) (sym over.disk) told
+
+  told_cut : {stopped : Bool} (pick : ℕ) → (over : HasEndedLife state b kept (Some pick) stopped session) → Told
+      → AreShown state system (numbers_told (map life_of kept.lives.items) ++ numbers_in b.control.history) handed over.idle.disk
+  told_cut pick over told =
+      shown_stay state system (numbers_told (map life_of kept.lives.items) ++ numbers_in b.control.history) handed b.disk over.idle.disk told
+      (record { same = over.disk.same; later = over.disk.elapses.later })
+
   -- ---- how far it counts
 
   -- up to where the lives before and the stops have brought it
@@ -129,8 +225,8 @@ module _ {D : Type 0} (state : D → DiskState) (system : System) (source : List
 
   -- ---- what is sound behind it
 
-  pub up_sound : session ≡ session_up b kept → (state b.disk).faults ≡ (state a.disk).faults → IsSessionSound state system source handed cut session
-  up_sound on calm =
+  pub up_sound : session ≡ session_up b kept → (state b.disk).faults ≡ (state a.disk).faults → Told → IsSessionSound state system source handed cut session
+  up_sound on calm told =
       subst (λ (s : Session D). IsSoundAt state system source handed cut s.place s.kept) (sym on)
       (record {
         handed_alone = sound.handed_alone;
@@ -144,6 +240,7 @@ module _ {D : Type 0} (state : D → DiskState) (system : System) (source : List
         valid = sound.valid;
         counts = counts_now;
         cuts = cuts_now;
+        told = told;
       })
 
   same_now : IsSameDisk (state handed) (state b.disk)
@@ -158,18 +255,20 @@ module _ {D : Type 0} (state : D → DiskState) (system : System) (source : List
   began_before : b.began ≡ (state a.disk).faults
   began_before = stays.began ∙ sound.began
 
-  pub power_sound : {by : Option ℕ} (cut_then : List ℕ) → (over : HasEndedLife state b kept by false session) → AreCuts state cut_then handed over.idle.disk → (state b.disk).faults ≡ (state a.disk).faults
+  pub power_sound : {by : Option ℕ} (cut_then : List ℕ) → (over : HasEndedLife state b kept by false session) → AreCuts state cut_then handed over.idle.disk
+      → AreShown state system (numbers_told (map life_of kept.lives.items) ++ numbers_in b.control.history) handed over.idle.disk → (state b.disk).faults ≡ (state a.disk).faults
       → IsSessionSound state system source handed cut_then session
-  power_sound cut_then over cuts calm =
+  power_sound cut_then over cuts told calm =
       subst (λ p. IsSoundAt state system source handed cut_then p session.kept) (sym over.place)
-      (down_sound state system source handed b (stays.system ∙ sound.system_is) sound.handed_alone (stays.text ∙ sound.text_is) sound.size cut_then kept session.kept false over.idle cuts over.down same_now legal_now
+      (down_sound state system source handed b (stays.system ∙ sound.system_is) sound.handed_alone (stays.text ∙ sound.text_is) sound.size cut_then kept session.kept false over.idle cuts told over.down same_now legal_now
       (no_stop state system source handed b (stays.system ∙ sound.system_is) kept session.kept over.idle over.down stops_now (began_before ∙ sym calm)) sound.valid counts_now)
 
-  pub broke_sound : {by : Option ℕ} (cut_then : List ℕ) → (over : HasEndedLife state b kept by true session) → AreCuts state cut_then handed over.idle.disk → Rose (state a.disk).faults (state b.disk).faults
+  pub broke_sound : {by : Option ℕ} (cut_then : List ℕ) → (over : HasEndedLife state b kept by true session) → AreCuts state cut_then handed over.idle.disk
+      → AreShown state system (numbers_told (map life_of kept.lives.items) ++ numbers_in b.control.history) handed over.idle.disk → Rose (state a.disk).faults (state b.disk).faults
       → IsSessionSound state system source handed cut_then session
-  broke_sound cut_then over cuts rose =
+  broke_sound cut_then over cuts told rose =
       subst (λ p. IsSoundAt state system source handed cut_then p session.kept) (sym over.place)
-      (down_sound state system source handed b (stays.system ∙ sound.system_is) sound.handed_alone (stays.text ∙ sound.text_is) sound.size cut_then kept session.kept true over.idle cuts over.down same_now legal_now
+      (down_sound state system source handed b (stays.system ∙ sound.system_is) sound.handed_alone (stays.text ∙ sound.text_is) sound.size cut_then kept session.kept true over.idle cuts told over.down same_now legal_now
       (stop_behind state system source handed b (stays.system ∙ sound.system_is) kept session.kept over.idle (state a.disk).faults over.down stops_now began_before stays.disk.faults rose) sound.valid counts_now)
 
   -- ---- what was served
@@ -376,30 +475,35 @@ module _ {D : Type 0} (state : D → DiskState) (system : System) (source : List
       → LeadsBy state (λ setting old new. IsServedSo asked text served setting old new) system source handed cut (session_up a old) session
   served_up asked Answered served does_it pick (on, printed) =
       subst (λ s. LeadsBy state (λ setting old new. IsServedSo asked text s setting old new) system source handed cut (session_up a old) session) (sym printed)
-      (record { cut_now = cut; goes = does asked does_it pick on; sound = up_sound on (calm_done asked does_it) })
+      (record { cut_now = cut; goes = does asked does_it pick on; sound = up_sound on (calm_done asked does_it) (told_done asked does_it) })
   served_up asked Frozen served frozen pick (over, printed) =
       subst (λ s. LeadsBy state (λ setting old new. IsServedSo asked text s setting old new) system source handed cut (session_up a old) session) (sym printed)
-      (record { cut_now = cut; goes = freezes asked frozen pick over; sound = power_sound cut over (cuts_left over) (calm_frozen asked frozen) })
+      (record { cut_now = cut; goes = freezes asked frozen pick over; sound = power_sound cut over (cuts_left over) (told_left over (told_frozen asked frozen)) (calm_frozen asked frozen) })
   served_up asked (Power pick) served power is (over, printed) =
       subst (λ s. LeadsBy state (λ setting old new. IsServedSo asked text s setting old new) system source handed cut (session_up a old) session) (sym printed)
-      (record { cut_now = cut ++ pick ∷ []; goes = powers asked pick power over; sound = power_sound (cut ++ pick ∷ []) over (cuts_with pick over) (calm_power asked pick power) })
+      (record {
+        cut_now = cut ++ pick ∷ [];
+        goes = powers asked pick power over;
+        sound = power_sound (cut ++ pick ∷ []) over (cuts_with pick over) (told_cut pick over (told_power asked pick power)) (calm_power asked pick power);
+      })
   served_up asked Broke served failed pick (over, broke) =
       subst (λ s. LeadsBy state (λ setting old new. IsServedSo asked text s setting old new) system source handed cut (session_up a old) session) (sym broke)
       (record {
         cut_now = cut_stopped;
         goes = fails asked failed over;
         sound = broke_sound cut_stopped over
-            (subst (λ n. AreCuts state (cut ++ n ∷ []) handed over.idle.disk) (pick ∙ pick_broke asked (state a.disk).can_arm old.pick) (cuts_with kept.pick over)) (rose_in asked failed);
+            (subst (λ n. AreCuts state (cut ++ n ∷ []) handed over.idle.disk) (pick ∙ pick_broke asked (state a.disk).can_arm old.pick) (cuts_with kept.pick over))
+            (told_cut kept.pick over (told_failed asked failed)) (rose_in asked failed);
       })
   served_up asked Memory served undone pick (on, why) =
       subst (λ s. LeadsBy state (λ setting old new. IsServedSo asked text s setting old new) system source handed cut (session_up a old) session) (sym why)
-      (record { cut_now = cut; goes = (undoes asked undone (pick ∙ pick_undone asked (state a.disk).can_arm old.pick) on, tt); sound = up_sound on (calm_undone asked undone) })
+      (record { cut_now = cut; goes = (undoes asked undone (pick ∙ pick_undone asked (state a.disk).can_arm old.pick) on, tt); sound = up_sound on (calm_undone asked undone) (told_undone asked undone) })
   served_up asked Spent served (undone, spent, looks) pick (on, why) =
       subst (λ s. LeadsBy state (λ setting old new. IsServedSo asked text s setting old new) system source handed cut (session_up a old) session) (sym why)
       (record {
         cut_now = cut;
         goes = (undoes asked undone (pick ∙ pick_spent asked (state a.disk).can_arm old.pick) on, (spent_now_at on (up_undone state a b asked undone) spent, counts_on asked looks on));
-        sound = up_sound on (calm_undone asked undone);
+        sound = up_sound on (calm_undone asked undone) (told_undone asked undone);
       })
 
 -- ---- what is ready behind it

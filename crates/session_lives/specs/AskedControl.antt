@@ -15,6 +15,7 @@ use Rattle.model_session.specs.Lives.{ends_life, is_disk_fault}
 use Rattle.model_machine.specs.declared.counts.Counter.{Counter}
 use Rattle.tm_control.specs.ControlOnDisk.{ControlOnDisk, control_spent_now}
 use Rattle.tm_control.specs.ControlCalls.{Answered as IsAnswered, BrokeOff, AddedNothing, HasArmed, StaysSo}
+use Rattle.session_lives.specs.ToldNumbers.{ShowsTold}
 use Rattle.session_lives.specs.declared.called.Called.{Called}
 use Rattle.session_lives.specs.declared.called.Called.TheVariants.{Answered, Frozen, Power, Broke, Memory, Spent}
 
@@ -36,13 +37,14 @@ abbrev pub call_ended_by : Bool → Option ControlFault → Called
 call_ended_by true fault = Frozen
 call_ended_by false fault = called_by fault
 
--- A call was answered by an entry, whose text is to be printed.
+-- A call was answered by an entry, whose text is to be printed. Where it tells of a checkpoint, the disk shows that number.
 pub record IsAnswerTold {D : Type 0} (state : D → DiskState) (call : ControlCall) (old new : ControlOnDisk D) (text : List ℕ) : Type 0 where
   pub entry : Entry
   pub asked : call_of entry ≡ call
   pub answered : IsAnswered state old new entry
   pub goes_on : ends_life entry ≡ false
   pub printed : text ≡ entry_text old.control.system (control_moment old.control) entry
+  pub told : ShowsTold new.control.system entry (state new.disk)
 
 -- So was a freeze, behind which a crash leaves the shown disk alone.
 pub record IsFrozen {D : Type 0} (state : D → DiskState) (call : ControlCall) (old new : ControlOnDisk D) (text : List ℕ) : Type 0 where
@@ -52,6 +54,7 @@ pub record IsFrozen {D : Type 0} (state : D → DiskState) (call : ControlCall) 
   pub ends : ends_life entry ≡ true
   pub printed : text ≡ entry_text old.control.system (control_moment old.control) entry
   pub only : Only (state new.disk).shown (state new.disk)
+  pub told : ShowsTold new.control.system entry (state new.disk)
 
 -- The disk failed in a call.
 pub record IsFailed {D : Type 0} (state : D → DiskState) (call : ControlCall) (old new : ControlOnDisk D) : Type 0 where

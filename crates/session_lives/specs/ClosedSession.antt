@@ -15,6 +15,7 @@ use Rattle.session_lives.specs.declared.place.Place.TheVariants.{Up, Down, Moved
 use Rattle.session_lives.specs.declared.place.Kept.{Kept}
 use Rattle.session_lives.specs.declared.place.Session.{Session}
 use Rattle.session_lives.specs.DiskCuts.{AreCuts}
+use Rattle.session_lives.specs.ToldNumbers.{numbers_told, AreShown}
 use Rattle.session_lives.specs.RunningSession.{life_of, session_of, session_setting, HoldsSession, IsNumberedAt, IsSessionSound}
 
 -- the disk has sectors enough for the system
@@ -52,7 +53,7 @@ abbrev pub IsSessionClosed : {D : Type 0} → (D → DiskState) → Session D �
 IsSessionClosed state session disk lives stops = IsClosedAt state session.place session.kept disk lives stops
 
 -- What is left of a session that stood so at its end, and what was kept of it. The disk is the one that was handed in, cut with
--- the picks of the session. Where a life has begun, it has sectors enough.
+-- the picks of the session, and has shown the numbers that were told. Where a life has begun, it has sectors enough.
 pub record Remains {D : Type 0} (state : D → DiskState) (system : System) (source : List ℕ) (handed disk : D) (last : SessionState) (lives : List Life) (stops : List Stop) : Type 0 where
   pub lives_are : AreAllLives system last (map life_of lives)
   pub legal : AreLegal system (map life_of lives)
@@ -63,6 +64,7 @@ pub record Remains {D : Type 0} (state : D → DiskState) (system : System) (sou
   pub numbered : (image : Image) → (state disk).may_leave image → IsNumberedAt (session_setting state system source handed) last.standing image
   pub enough : is_some (last_life last.standing) ≡ true → HasSectors system (state handed)
   pub cuts : AreCuts state last.picks.cut handed disk
+  pub told : AreShown state system (numbers_told (map life_of lives)) handed disk
 
 -- So it is, whatever disk was handed in, and with whatever picks it was cut.
 abbrev pub SessionLeaves : {D : Type 0} → (D → DiskState) → Session D → D → List Life → List Stop → Type 0

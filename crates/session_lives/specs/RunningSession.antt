@@ -30,6 +30,7 @@ use Rattle.session_lives.specs.declared.place.Kept.{Kept}
 use Rattle.session_lives.specs.declared.place.Session.{Session}
 use Rattle.session_lives.specs.ControlCounts.{CountsUp}
 use Rattle.session_lives.specs.DiskCuts.{AreCuts}
+use Rattle.session_lives.specs.ToldNumbers.{numbers_so_far, AreShown}
 
 -- ---- as a state
 
@@ -216,7 +217,8 @@ abbrev pub IsSessionReady : {D : Type 0} → (D → DiskState) → Session D →
 IsSessionReady state session = IsReadyAt state session.place session.kept
 
 -- The system is up. The stops lie behind one another, and before its life, in which the disk hasn't failed. It counts no further than up to where the disk counts
--- that was handed in, and 4,096 more for each opening, entry and stop. The disk was cut with these picks since it was handed in.
+-- that was handed in, and 4,096 more for each opening, entry and stop. The disk was cut with these picks since it was handed in,
+-- and has shown the numbers that were told.
 pub record IsUpSound {D : Type 0} (state : D → DiskState) (system : System) (source : List ℕ) (handed : D) (cut : List ℕ) (control : ControlOnDisk D) (kept : Kept) : Type 0 where
   pub handed_alone : Only (state handed).shown (state handed)
   pub system_is : control.control.system ≡ system
@@ -229,6 +231,7 @@ pub record IsUpSound {D : Type 0} (state : D → DiskState) (system : System) (s
   pub valid : IsSystem system
   pub counts : (high : ℕ) → CountsFirst system high (state handed) → CountsUp state (high + call_raises * measure (session_at cut (Up control) kept)) control
   pub cuts : AreCuts state cut handed control.disk
+  pub told : AreShown state system (numbers_so_far (session_at cut (Up control) kept)) handed control.disk
 
 -- No life has begun, and the image is one that was handed in.
 pub record IsHanded {D : Type 0} (state : D → DiskState) (handed : D) (standing : Standing) (image : Image) : Type 0 where
@@ -261,7 +264,8 @@ abbrev pub IsOfText : {D : Type 0} → (D → DiskState) → System → List ℕ
 IsOfText state system source handed standing image = IsRight state system source handed standing image ⊎ IsHanded state handed standing image
 
 -- The system is down, and the disk holds what the outage allows, with a checkpoint of no lower number than is known. Once a life has begun it has sectors enough. It counts no further
--- than up to where it counted when it was handed in, and 4,096 more for each opening, entry and stop. It was cut with these picks since.
+-- than up to where it counted when it was handed in, and 4,096 more for each opening, entry and stop. It was cut with these picks since, and has shown the
+-- numbers that were told.
 pub record IsDownSound {D : Type 0} (state : D → DiskState) (system : System) (source : List ℕ) (handed : D) (cut : List ℕ) (idle : Idle D) (kept : Kept) : Type 0 where
   pub handed_alone : Only (state handed).shown (state handed)
   pub system_is : idle.system ≡ system
@@ -277,6 +281,7 @@ pub record IsDownSound {D : Type 0} (state : D → DiskState) (system : System) 
   pub valid : IsSystem system
   pub counts : (high : ℕ) → CountsFirst system high (state handed) → CountsDown system (high + call_raises * measure (session_at cut (Down idle) kept)) (state idle.disk)
   pub cuts : AreCuts state cut handed idle.disk
+  pub told : AreShown state system (numbers_so_far (session_at cut (Down idle) kept)) handed idle.disk
 
 abbrev pub IsSoundAt : {D : Type 0} → (D → DiskState) → System → List ℕ → D → List ℕ → Place D → Kept → Type 0
 IsSoundAt state system source handed cut (Up control) kept = IsUpSound state system source handed cut control kept

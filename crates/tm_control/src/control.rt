@@ -273,7 +273,7 @@ impl<D: Disk> Control<D> {
         requires up { self.old.up ≡ true }
         requires room { 0 < self.old.control.room }
         ensures value { result ≡ is_machine_quiet self.old.control.system (control_moment self.old.control) }
-        ensures adds { Shows D.state self.old self.new (Quiet result) }
+        ensures adds { Shows D.state self.old self.new (Quiet (is_machine_quiet self.old.control.system (control_moment self.old.control))) }
         ensures lasts { Lasts D.state self.new }
     {
         let _before = self.machine.is_served();

@@ -6,7 +6,7 @@ use Rattle.std.specs.Option.{option_map, option_map_or}
 use Rattle.std.specs.Str.{bytes_eq}
 use Rattle.std.proofs.lemmas.Slice.Eq.{bytes_eq-Decides}
 use Rattle.tm_types.specs.declared.command.LastingCommand.{LastingCommand}
-use Rattle.tm_types.specs.declared.command.LastingCommand.TheVariants.{StartTransaction, StopTransaction, StartTerminal, StopTerminal, DequeueFirst, DequeueAll, Exit}
+use Rattle.tm_types.specs.declared.command.LastingCommand.TheVariants.{StartTransaction, StopTransaction, StartTerminal, StopTerminal, DequeueFirst, DequeueAll, Exit, AssignClass, AssignPriority}
 use Rattle.tm_types.specs.declared.message.Message.{Message}
 use Rattle.model_messages.specs.declared.conversation.Conversation.{Conversation}
 use Rattle.model_messages.specs.declared.conversation.TerminalConversation.{TerminalConversation}
@@ -17,9 +17,10 @@ use Rattle.model_messages.specs.Queue.{free_count, messages_of}
 use Rattle.model_system.specs.declared.code_state.CodeState.{CodeState}
 use Rattle.model_system.specs.Lists.{change_at}
 use Rattle.model_system.specs.System.{System}
-use Rattle.system_types.specs.Codes.{is_state_of, stopped_state}
+use Rattle.system_types.specs.Codes.{is_state_of, classed_state, ranked_state, stopped_state}
+use Rattle.model_machine.specs.declared.lasting.CodeSetting.{CodeSetting}
 use Rattle.model_machine.specs.Machine.{Moment, moment_with, setting_of, setting_place, terminal_place}
-use Rattle.model_machine.specs.LastingSteps.{applied, with_conversing, stopped_code, stopped_terminal}
+use Rattle.model_machine.specs.LastingSteps.{applied, with_conversing, classed_code, ranked_code, stopped_code, stopped_terminal}
 use Rattle.model_machine.specs.LastingSteps.LastingStep.{Commands}
 use Rattle.model_machine.specs.Trial.{Given}
 use Rattle.program_rows.specs.DatabasesState.{DatabasesState}
@@ -88,20 +89,22 @@ setting_at states code =
     ap (λ k. cond (nat_lt k (length (settings_of states))) (Some k) None) (prefix_of (λ s. not (bytes_eq s.code code)) setting_of states)
     ∙ ap (λ m. cond (nat_lt (prefix_len (λ (s : CodeState). not (bytes_eq s.code code)) states) m) (Some (prefix_len (λ (s : CodeState). not (bytes_eq s.code code)) states)) None) (length_map setting_of states)
 
-set_settings : (stopped : Bool) (states : List CodeState) (code : List ℕ)
-    → settings_of (change_at states (position (is_state_of code) states) (stopped_state stopped)) ≡ change_at (settings_of states) (setting_place (settings_of states) code) (stopped_code stopped)
-set_settings stopped states code =
-    map_changed setting_of (stopped_state stopped) (stopped_code stopped) (λ s. refl) states (position (is_state_of code) states)
-    ∙ ap (λ p. change_at (settings_of states) p (stopped_code stopped)) (sym (setting_at states code))
+set_settings : (change : CodeState → CodeState) (other : CodeSetting → CodeSetting) → ((state : CodeState) → setting_of (change state) ≡ other (setting_of state)) → (states : List CodeState) (code : List ℕ)
+    → settings_of (change_at states (position (is_state_of code) states) change) ≡ change_at (settings_of states) (setting_place (settings_of states) code) other
+set_settings change other same states code =
+    map_changed setting_of change other same states (position (is_state_of code) states)
+    ∙ ap (λ p. change_at (settings_of states) p other) (sym (setting_at states code))
 
 pub settings_then : (command : LastingCommand) (states : List CodeState) → settings_of (states_set command states) ≡ command_set command (settings_of states)
-settings_then (StartTransaction code) states = set_settings false states code
-settings_then (StopTransaction code) states = set_settings true states code
+settings_then (StartTransaction code) states = set_settings (stopped_state false) (stopped_code false) (λ s. refl) states code
+settings_then (StopTransaction code) states = set_settings (stopped_state true) (stopped_code true) (λ s. refl) states code
 settings_then (StartTerminal terminal) states = refl
 settings_then (StopTerminal terminal) states = refl
 settings_then (DequeueFirst terminal) states = refl
 settings_then (DequeueAll terminal) states = refl
 settings_then (Exit terminal) states = refl
+settings_then (AssignClass code class) states = set_settings (classed_state class) (classed_code class) (λ s. refl) states code
+settings_then (AssignPriority code priority) states = set_settings (ranked_state priority) (ranked_code priority) (λ s. refl) states code
 
 flags_then : (command : LastingCommand) (states : List CodeState) → flags_of (states_set command states) ≡ flags_of states
 flags_then (StartTransaction code) states = map_kept (λ s. s.raised) (stopped_state false) (λ s. refl) states (position (is_state_of code) states)
@@ -111,6 +114,8 @@ flags_then (StopTerminal terminal) states = refl
 flags_then (DequeueFirst terminal) states = refl
 flags_then (DequeueAll terminal) states = refl
 flags_then (Exit terminal) states = refl
+flags_then (AssignClass code class) states = map_kept (λ s. s.raised) (classed_state class) (λ s. refl) states (position (is_state_of code) states)
+flags_then (AssignPriority code priority) states = map_kept (λ s. s.raised) (ranked_state priority) (λ s. refl) states (position (is_state_of code) states)
 
 size_then : (command : LastingCommand) (states : List CodeState) → length (states_set command states) ≡ length states
 size_then (StartTransaction code) states = length_kept (stopped_state false) states (position (is_state_of code) states)
@@ -120,6 +125,8 @@ size_then (StopTerminal terminal) states = refl
 size_then (DequeueFirst terminal) states = refl
 size_then (DequeueAll terminal) states = refl
 size_then (Exit terminal) states = refl
+size_then (AssignClass code class) states = length_kept (classed_state class) states (position (is_state_of code) states)
+size_then (AssignPriority code priority) states = length_kept (ranked_state priority) states (position (is_state_of code) states)
 
 -- ---- a conversation ends
 
@@ -222,6 +229,8 @@ module _ (system : System) (tables : TablesState) (states : List CodeState) (reg
   done_parts (DequeueFirst terminal) free = tables_then (command_done (DequeueFirst terminal) tables) states refl refl refl refl refl refl
   done_parts (DequeueAll terminal) free = tables_then (command_done (DequeueAll terminal) tables) states refl refl refl refl refl refl
   done_parts (Exit terminal) free = exit_then terminal free
+  done_parts (AssignClass code class) free = tables_then (command_done (AssignClass code class) tables) (states_set (AssignClass code class) states) refl refl refl refl (flags_then (AssignClass code class) states) (size_then (AssignClass code class) states)
+  done_parts (AssignPriority code priority) free = tables_then (command_done (AssignPriority code priority) tables) (states_set (AssignPriority code priority) states) refl refl refl refl (flags_then (AssignPriority code priority) states) (size_then (AssignPriority code priority) states)
 
   same_queues : (command : LastingCommand) → (command_done command tables).queues ≡ tables.queues
   same_queues (StartTransaction code) = refl
@@ -231,6 +240,8 @@ module _ (system : System) (tables : TablesState) (states : List CodeState) (reg
   same_queues (DequeueFirst terminal) = refl
   same_queues (DequeueAll terminal) = refl
   same_queues (Exit terminal) = refl
+  same_queues (AssignClass code class) = refl
+  same_queues (AssignPriority code priority) = refl
 
   pub same_databases : (command : LastingCommand) → (command_done command tables).databases ≡ tables.databases
   same_databases (StartTransaction code) = refl
@@ -240,6 +251,8 @@ module _ (system : System) (tables : TablesState) (states : List CodeState) (reg
   same_databases (DequeueFirst terminal) = refl
   same_databases (DequeueAll terminal) = refl
   same_databases (Exit terminal) = refl
+  same_databases (AssignClass code class) = refl
+  same_databases (AssignPriority code priority) = refl
 
   module _ (command : LastingCommand) (free : EndsNoneBusy command (lasting_of (settings_of states) tables)) (tables' : TablesState) (states' : List CodeState)
       (done : tables' ≡ command_done command tables) (applies : AppliesCommand command tables tables') (set : states' ≡ states_set command states) where

@@ -8,14 +8,18 @@ use Rattle.std.proofs.lemmas.List.Sums.{length-filter}
 use Rattle.std.proofs.lemmas.Bool.{eqb-true, eq-eqb, ne_eqb}
 use Rattle.tm_types.specs.declared.message.Message.{Message}
 use Rattle.model_messages.specs.declared.queued.Queued.{Queued}
-use Rattle.model_messages.specs.Queue.{IsNewId, has_id, is_free_of, queued_at, queued_message, messages_of, with_message, with_holder, without_id_queued, first_free, free_count}
-use Rattle.model_messages.specs.Waiting.{is_waiting, first_waiting, count_waiting}
+use Rattle.model_messages.specs.Queue.{IsNewId, has_id, is_free_of, queued_at, queued_message, messages_of, with_message, with_holder, without_id_queued, first_free, free_count, any_held}
+use Rattle.model_messages.specs.Waiting.{is_waiting, first_waiting, count_waiting, any_worked_on}
 use Rattle.model_messages.proofs.Laws.{message_found, found_behind, found_without, found_held, found_own}
 use Rattle.model_messages.specs.declared.conversation.TerminalConversation.{TerminalConversation}
 use Rattle.model_system.specs.System.{System}
+use Rattle.model_system.specs.declared.code.Code.{Code}
 use Rattle.program_rows.specs.DatabasesState.{DatabasesState}
 use Rattle.model_machine.specs.Trial.{Given}
 use Rattle.model_machine.specs.Machine.{Slot, has_message, is_held}
+use Rattle.model_machine.specs.MachineCalls.{offered_among}
+use Rattle.model_machine.specs.Pick.{offered_by}
+use Rattle.tran_pick.specs.RegionPick.{offered_in}
 use Rattle.region_work.specs.declared.region.Busy.{Busy}
 use Rattle.region_work.specs.RegionWork.{IsWork, given_in}
 use Rattle.tm_machine.specs.Parts.{work_slot, work_slots, IsAtWork, AreHoldersTold, AreAtWork}
@@ -41,6 +45,19 @@ first_free_is code slots (q ∷ qs) told =
         ≡ option_map (λ (p : Queued). p.message.id) (if b then Some q else find (is_free_of code) qs)
     by true rest = refl
     by false rest = rest
+
+-- a region has a message of the code by the slots exactly where it has one by the queues
+any_held_is : (code : List ℕ) (slots : List (Option Slot)) (queued : List Queued) → AreHoldersTold slots queued
+    → any_worked_on (is_held slots) code (messages_of queued) ≡ any_held code queued
+any_held_is code slots [] told = refl
+any_held_is code slots (q ∷ qs) told = λ i. (bytes_eq q.message.code code && told.0 i) || any_held_is code slots qs told.1 i
+
+-- a code offers the same by the slots and by the queues
+pub offered_is : (slots : List (Option Slot)) (queued : List Queued) → AreHoldersTold slots queued → (code : Code)
+    → offered_among slots (messages_of queued) code ≡ offered_in queued code
+offered_is slots queued told code =
+    let name : List ℕ = code.transaction.code in
+    λ i. offered_by code.transaction (any_held_is name slots queued told i) (first_free_is name slots queued told i)
 
 free_length : (code : List ℕ) (slots : List (Option Slot)) (queued : List Queued) → AreHoldersTold slots queued
     → length (filter (is_waiting (is_held slots) code) (messages_of queued)) ≡ length (filter (is_free_of code) queued)

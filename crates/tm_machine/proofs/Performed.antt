@@ -129,6 +129,8 @@ ends_none old (command.DequeueAll name) answer is lasting e = subst (λ l. EndsN
 ends_none old (command.Exit name) answer is lasting e =
     subst (λ l. EndsNoneBusy l old.moment.lasting) (sym (some_is lasting (lasts.Exit name) e))
     (exit_there (is_some (terminal_at old.moment.lasting.terminals name)) name (conversation_at name old.moment.lasting.conversations) (busy_id name old.moment.lasting.messages) answer is)
+ends_none old (command.AssignClass code class) answer is lasting e = subst (λ l. EndsNoneBusy l old.moment.lasting) (sym (some_is lasting (lasts.AssignClass code class) e)) tt
+ends_none old (command.AssignPriority code priority) answer is lasting e = subst (λ l. EndsNoneBusy l old.moment.lasting) (sym (some_is lasting (lasts.AssignPriority code priority) e)) tt
 ends_none old (command.DisplayTransaction code) answer is lasting e = cc
 ends_none old (command.DisplayTerminal name) answer is lasting e = cc
 ends_none old command.DisplayActive answer is lasting e = cc

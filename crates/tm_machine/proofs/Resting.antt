@@ -3,12 +3,12 @@ use Rattle.std.proofs.Common.{◌≡◌, ℕ, zero, suc, ◌+◌, ◌-◌, ◌�
 use Rattle.std.specs.Prelude.{Option, Some, None, is_some, nat_lt, slice_get}
 use Rattle.std.specs.Option.{option_map}
 use Rattle.std.proofs.Math.ListN.{drop_of_length-le}
-use Rattle.model_messages.specs.Queue.{first_free}
 use Rattle.model_system.specs.declared.code_state.CodeState.{CodeState}
 use Rattle.model_system.specs.System.{System}
 use Rattle.model_machine.specs.Machine.{Moment, Slot}
 use Rattle.model_machine.specs.Pick.{Candidate, pick_of}
 use Rattle.model_machine.specs.MachineCalls.{rests, all_rest, pick_now, need_now}
+use Rattle.tran_pick.specs.RegionPick.{offered_in}
 use Rattle.tran_pick.specs.declared.picked.Pick.{Pick}
 use Rattle.lasting_state.specs.Tables.{TablesState}
 use Rattle.region_work.specs.declared.region.Busy.{Busy}
@@ -45,7 +45,7 @@ map_some None = refl
 
 module _ (system : System) (tables : TablesState) (states : List CodeState) (regions : List (Option Busy)) (region : ℕ)
     (parts : AreParts system tables states regions) (work : Option Busy) (get : slice_get regions (region - 1) ≡ Some work)
-    (picked : Option Pick) (value : picked ≡ option_map pick_with (pick_of system region states (λ name. first_free name tables.queues.queued))) where
+    (picked : Option Pick) (value : picked ≡ option_map pick_with (pick_of system region states (offered_in tables.queues.queued))) where
   -- a region rests by its work, what it could pick, and whether there is room
   pub rests_is : rests system (moment_now system tables states regions region parts) region
       ≡ (not (is_some work) && (not (is_some picked) || nat_lt system.qbytes (need_now (moment_now system tables states regions region parts))))

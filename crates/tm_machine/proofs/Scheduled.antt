@@ -6,8 +6,7 @@ use Rattle.std.specs.Prelude.{Option, Some, None, IsSome, IsSomeAnd, if◌then�
 use Rattle.std.specs.Option.{option_map, option_and_then, IfSome}
 use Rattle.tm_types.specs.declared.message.Message.{Message}
 use Rattle.model_messages.specs.declared.queued.Queued.{Queued}
-use Rattle.model_messages.specs.Queue.{queued_at, messages_of, with_holder, first_free, free_count}
-use Rattle.model_messages.specs.Waiting.{first_waiting}
+use Rattle.model_messages.specs.Queue.{queued_at, messages_of, with_holder, free_count}
 use Rattle.model_messages.proofs.Laws.{messages_held}
 use Rattle.model_system.specs.declared.code_state.CodeState.{CodeState}
 use Rattle.model_system.specs.System.{System}
@@ -18,22 +17,22 @@ use Rattle.model_system.specs.Jobs.{Job, job_of, job_by, job_with, program_at}
 use Rattle.model_machine.specs.declared.entry.ControlCall.TheVariants.{Turn}
 use Rattle.model_machine.specs.declared.entry.Turned.{Turned}
 use Rattle.model_machine.specs.declared.entry.Turned.TheVariants.{Scheduled, Idle, Held}
-use Rattle.model_machine.specs.Machine.{Moment, Slot, is_held, slot_at, raised_now, moment_with}
+use Rattle.model_machine.specs.Machine.{Moment, Slot, slot_at, raised_now, moment_with}
 use Rattle.model_machine.specs.Pick.{Candidate, pick_of}
 use Rattle.model_machine.specs.Requests.{BreaksRingsAt, table_after}
 use Rattle.tm_machine.specs.Turns.{IsRegionTurned}
-use Rattle.model_machine.specs.MachineCalls.{pick_now, need_now, schedule_answer, slot_after, turn_by, turn_answer, After}
+use Rattle.model_machine.specs.MachineCalls.{offered_among, pick_now, need_now, schedule_answer, slot_after, turn_by, turn_answer, After}
 use Rattle.model_machine.specs.Flags.{all_followed}
 use Rattle.model_machine.proofs.Flags.{states_again}
 use Rattle.model_machine.proofs.Picks.{pick_same}
-use Rattle.tran_pick.specs.RegionPick.{IsFirstFree}
+use Rattle.tran_pick.specs.RegionPick.{offered_in, IsFirstFree}
 use Rattle.tran_pick.proofs.Found.{first_codes}
 use Rattle.tran_pick.specs.declared.picked.Pick.{Pick}
 use Rattle.lasting_state.specs.Tables.{TablesState, lasting_of, message_held}
 use Rattle.region_work.specs.declared.region.Busy.{Busy}
 use Rattle.region_work.specs.RegionWork.{given_in, IsWork, calls_made}
 use Rattle.tm_machine.specs.Parts.{work_slot, work_slots, settings_of, flags_of, AreHoldersTold, AreAtWork, AreConversations, AreParts}
-use Rattle.tm_machine.proofs.Linked.{first_free_is, take_told, take_at_work, set_length, set_slots, get_slots}
+use Rattle.tm_machine.proofs.Linked.{offered_is, take_told, take_at_work, set_length, set_slots, get_slots}
 use Rattle.tm_machine.proofs.Free.{count_held, or_none}
 use Rattle.tm_machine.proofs.Conversing.{found_holds}
 use Rattle.tm_machine.proofs.Leaving.{moment_is, moment_stays, turn_leaves}
@@ -76,16 +75,17 @@ module _ (system : System) (tables : TablesState) (states : List CodeState) (reg
   abbrev pub moment_now : Moment
   moment_now = record { lasting = lasting_of (settings_of states) tables; slots = work_slots regions; enqueues = tables.databases.table; raised = flags_of states }
 
-  pub pick_is : pick_now system moment_now region ≡ pick_of system region states (λ name. first_free name tables.queues.queued)
+  pub pick_is : pick_now system moment_now region ≡ pick_of system region states (offered_in tables.queues.queued)
   pick_is =
-      ap (λ ss. pick_of system region ss (λ code. first_waiting (is_held (work_slots regions)) code (messages_of tables.queues.queued))) (states_again states)
-      ∙ pick_same system region states _ _ (λ name. first_free_is name (work_slots regions) tables.queues.queued parts.told)
+      ap (λ ss. pick_of system region ss (offered_among (work_slots regions) (messages_of tables.queues.queued))) (states_again states)
+      ∙ pick_same system region states (offered_among (work_slots regions) (messages_of tables.queues.queued)) (offered_in tables.queues.queued)
+      (offered_is (work_slots regions) tables.queues.queued parts.told)
 
-  pub none_picked : (result : Option Pick) → result ≡ None → result ≡ option_map pick_with (pick_of system region states (λ name. first_free name tables.queues.queued))
+  pub none_picked : (result : Option Pick) → result ≡ None → result ≡ option_map pick_with (pick_of system region states (offered_in tables.queues.queued))
       → pick_now system moment_now region ≡ None
   none_picked result e value = pick_is ∙ none_map _ (sym e ∙ value)
 
-  pub some_picked : (result : Option Pick) (p : Pick) → result ≡ Some p → result ≡ option_map pick_with (pick_of system region states (λ name. first_free name tables.queues.queued))
+  pub some_picked : (result : Option Pick) (p : Pick) → result ≡ Some p → result ≡ option_map pick_with (pick_of system region states (offered_in tables.queues.queued))
       → IsSomeAnd (pick_now system moment_now region) (λ c. (c.code ≡ p.code) × (c.id ≡ p.id))
   some_picked result p e value = rw pick_is (some_map _ p (sym e ∙ value))
 

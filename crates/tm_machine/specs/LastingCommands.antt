@@ -2,11 +2,11 @@
 use Rattle.std.specs.Prelude.{◌≡◌, ⊤, ℕ, ◌<◌, ◌≤◌, true, false, None, List, ◌++◌, length, position}
 use Rattle.std.specs.List.{AllByRecursion}
 use Rattle.tm_types.specs.declared.command.LastingCommand.{LastingCommand}
-use Rattle.tm_types.specs.declared.command.LastingCommand.TheVariants.{StartTransaction, StopTransaction, Exit}
+use Rattle.tm_types.specs.declared.command.LastingCommand.TheVariants.{StartTransaction, StopTransaction, Exit, AssignClass, AssignPriority}
 use Rattle.model_messages.specs.ConversationInput.{busy_id}
 use Rattle.model_system.specs.declared.code_state.CodeState.{CodeState}
 use Rattle.model_system.specs.Lists.{change_at}
-use Rattle.system_types.specs.Codes.{is_state_of, stopped_state}
+use Rattle.system_types.specs.Codes.{is_state_of, classed_state, ranked_state, stopped_state}
 use Rattle.model_machine.specs.Machine.{LastingState, Moment, moment_with}
 use Rattle.model_machine.specs.LastingSteps.{applied}
 use Rattle.model_machine.specs.LastingSteps.LastingStep.{Commands}
@@ -23,6 +23,8 @@ EndsNoneBusy _ lasting = ⊤
 abbrev pub states_set : LastingCommand → List CodeState → List CodeState
 states_set (StartTransaction code) states = change_at states (position (is_state_of code) states) (stopped_state false)
 states_set (StopTransaction code) states = change_at states (position (is_state_of code) states) (stopped_state true)
+states_set (AssignClass code class) states = change_at states (position (is_state_of code) states) (classed_state class)
+states_set (AssignPriority code priority) states = change_at states (position (is_state_of code) states) (ranked_state priority)
 states_set _ states = states
 
 -- The step was done, and nothing else.

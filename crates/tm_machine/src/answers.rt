@@ -35,6 +35,14 @@ pub fn answer_to(
         Command::DequeueFirst(terminal) => Ok(first_dequeued(parts, terminal)),
         Command::DequeueAll(terminal) => Ok(all_dequeued(parts, terminal)),
         Command::Exit(terminal) => Ok(exited(parts, terminal)),
+        Command::AssignClass(code, class) => {
+            Ok(of_code(parts, code, Answer::AssignedClass(*code, *class)))
+        }
+        Command::AssignPriority(code, priority) => Ok(of_code(
+            parts,
+            code,
+            Answer::AssignedPriority(*code, *priority),
+        )),
         Command::Checkpoint => Ok(Ok(Answer::Up)),
         Command::Freeze => Ok(Ok(Answer::Up)),
         Command::EmergencyRestart => Ok(Ok(Answer::Up)),

@@ -87,6 +87,10 @@ fn lasting_command(command: &Command) -> Option<LastingCommand>
         Command::DequeueFirst(terminal) => Some(LastingCommand::DequeueFirst(*terminal)),
         Command::DequeueAll(terminal) => Some(LastingCommand::DequeueAll(*terminal)),
         Command::Exit(terminal) => Some(LastingCommand::Exit(*terminal)),
+        Command::AssignClass(code, class) => Some(LastingCommand::AssignClass(*code, *class)),
+        Command::AssignPriority(code, priority) => {
+            Some(LastingCommand::AssignPriority(*code, *priority))
+        }
         _ => None,
     }
 }

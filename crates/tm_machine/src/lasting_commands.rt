@@ -32,7 +32,7 @@ impl Parts {
     }
 }
 
-/// Stops or starts the code that a command names.
+/// Stops or starts the code that a command names, or gives it another class or normal priority.
 fn set_states(codes: &mut Codes, command: &LastingCommand)
     ensures { codes.new ≡ states_set command.now codes.old }
 {
@@ -44,5 +44,7 @@ fn set_states(codes: &mut Codes, command: &LastingCommand)
         LastingCommand::DequeueFirst(_) => {}
         LastingCommand::DequeueAll(_) => {}
         LastingCommand::Exit(_) => {}
+        LastingCommand::AssignClass(code, class) => codes.set_class(code, *class),
+        LastingCommand::AssignPriority(code, priority) => codes.set_priority(code, *priority),
     }
 }

@@ -29,6 +29,7 @@ use Rattle.session_lives.specs.declared.place.Place.TheVariants.{Up, Down, Moved
 use Rattle.session_lives.specs.declared.place.Kept.{Kept}
 use Rattle.session_lives.specs.declared.place.Session.{Session}
 use Rattle.session_lives.specs.RunningSession.{life_of, last_life_of, kept_steps, outage_of, standing_of, session_at, session_of, session_setting, error_of, IsDownSound, IsSessionSound, IsSoundAt, Leads, LeadsBy}
+use Rattle.session_lives.specs.ToldNumbers.{numbers_so_far, AreShown}
 use Rattle.session_lives.specs.Openings.{HasGone, HasOpened, StaysIdle}
 use Rattle.session_lives.specs.ClosedSession.{HasSectors, listed, IsClosedDown, IsClosedAt, IsSessionClosed, Remains, SessionLeaves}
 use Rattle.session_lives.proofs.Ends.{same_state, outage_with, picks_with}
@@ -58,6 +59,15 @@ module _ {D : Type 0} (state : D → DiskState) (is_disk : (disk : D) → IsDisk
   first_same : IsSameDisk (state handed) (state b.idle.disk)
   first_same = subst (λ d. IsSameDisk (state handed) (state d)) (sym b.disk_is) (same_itself (state handed))
 
+  first_outage : outage_of b.idle ≡ no_life
+  first_outage =
+      ap (λ l. outage_with (option_map last_life_of l) b.idle.emptied b.idle.stopped) b.last_is ∙ ap (λ e. outage_with None e b.idle.stopped) b.emptied_is ∙ ap (outage_with None false) b.stopped_is
+
+  first_state : session_at [] (Down b.idle) b.kept ≡ unbegun
+  first_state =
+      same_state [] (map life_of b.kept.lives.items) [] b.kept.stops.items (picks_with [] 0) (picks_with [] b.kept.pick) (StandsDown no_life) (StandsDown (outage_of b.idle))
+      (ap (map life_of) b.lives) b.stops (ap (picks_with []) b.pick) (ap StandsDown first_outage)
+
   -- no life has begun
   first_sound : IsDownSound state system text handed [] b.idle b.kept
   first_sound = record {
@@ -83,16 +93,9 @@ module _ {D : Type 0} (state : D → DiskState) (is_disk : (disk : D) → IsDisk
     counts = λ high first image left.
         up_to_more system high (high + call_raises * measure (session_at [] (Down b.idle) b.kept)) image (omega arith) (first.images image (subst (λ d. (state d).may_leave image) b.disk_is left));
     cuts = record { same = first_same; cuts = ap (λ d. (state d).cuts) b.disk_is };
+    told = subst (λ (numbers : List ℕ). AreShown state system numbers handed b.idle.disk) (sym (ap numbers_so_far first_state))
+        (record { same = first_same; later = omega (arith, ap (λ d. (state d).clock) b.disk_is) });
   }
-
-  first_outage : outage_of b.idle ≡ no_life
-  first_outage =
-      ap (λ l. outage_with (option_map last_life_of l) b.idle.emptied b.idle.stopped) b.last_is ∙ ap (λ e. outage_with None e b.idle.stopped) b.emptied_is ∙ ap (outage_with None false) b.stopped_is
-
-  first_state : session_at [] (Down b.idle) b.kept ≡ unbegun
-  first_state =
-      same_state [] (map life_of b.kept.lives.items) [] b.kept.stops.items (picks_with [] 0) (picks_with [] b.kept.pick) (StandsDown no_life) (StandsDown (outage_of b.idle))
-      (ap (map life_of) b.lives) b.stops (ap (picks_with []) b.pick) (ap StandsDown first_outage)
 
   begins_by : (opening : Opening) → HasGone state b.idle b.kept false session opening → refusal opening ≡ None
       → BeginsSession (session_setting state system text handed) (session_of (cut_opening [] b.kept opening) session)
@@ -295,6 +298,7 @@ module _ {D : Type 0} (state : D → DiskState) (system : System) (source : List
     stops_are = rest.stops_are;
     same = rest.same;
     cuts = rest.cuts;
+    told = rest.told;
     counted = rest.counted;
     images = rest.images;
     numbered = rest.numbered;

@@ -31,6 +31,7 @@ use Rattle.tm_session.specs.Outcome.Ending.{NotBegun}
 use Rattle.session_lives.specs.RunningSession.{life_of, session_setting, HoldsSession, IsNumberedAt, error_of, IsFoundAs, IsOfDefinition, IsValidDisk as IsValid, IsOpenedDisk as IsOpened}
 use Rattle.session_lives.specs.ClosedSession.{HasSectors}
 use Rattle.session_lives.specs.DiskCuts.{AreCuts}
+use Rattle.session_lives.specs.ToldNumbers.{numbers_told, AreShown}
 pub use Rattle.session_lives.specs.RunningSession.{CountsDisk}
 
 -- the disk has sectors enough, and could be opened where it tells its contents
@@ -62,7 +63,8 @@ AskNoColdStart system blocks = AllByRecursion (λ (block : Block). asked_of syst
 -- a life began so. Once a life has begun the disk has sectors enough, and where no cold start was asked for, the first life began with
 -- what the disk held, whatever openings had failed before. The disk that is handed back is the one that was handed in: its size, whether
 -- it tells its contents and whether it can be armed are the same, and its counts haven't fallen. It was cut with just the picks that the
--- session asks for, and no more often. Blocks of lines were
+-- session asks for, and no more often; and where it tells its contents, it has shown the number of each checkpoint that is told, in
+-- their order. Blocks of lines were
 -- served, each the source's next one, and what is printed for them, and nothing else, was written. They led through the lives
 -- and the stops that are told, and each image that a crash of the disk may leave as it is handed back recovers to what the
 -- session's standing allows: the state after a front of the last life's lasting steps that has all that were answered, and
@@ -92,6 +94,7 @@ pub record HasLived {D : Type 0} (state : D → DiskState) (system : System) (so
   pub stops_are : stops ≡ last.stops
   pub same : IsSameDisk (state handed) (state disk)
   pub cuts : AreCuts state last.picks.cut handed disk
+  pub told : AreShown state system (numbers_told lives) handed disk
   pub counted : AreStops (state handed).faults stops (state disk).faults
   pub images : (image : Image) → (state disk).may_leave image → HoldsSession state system source handed last.standing image
   pub numbered : (image : Image) → (state disk).may_leave image → IsNumberedAt (session_setting state system source handed) last.standing image

@@ -6,8 +6,8 @@ use Rattle.model_machine.specs.LastingSteps.LastingStep.{Commands}
 use Rattle.log_replay.specs.ReplayRules.{RecordLeaves, lasting_in}
 use Rattle.log_replay.proofs.replaying.replay_command.Goals as goal
 
-pub in_default-do_spelled-requires-clause-assigned : goal.in_default-do_spelled-requires-clause-assigned
-in_default-do_spelled-requires-clause-assigned c = ((c.in-Some.ensures.spelled _).0 refl).assigned
+pub do_spelled-requires-clause-assigned : goal.do_spelled-requires-clause-assigned
+do_spelled-requires-clause-assigned c = ((c.in-Some.ensures.spelled _).0 refl).assigned
 
 pub returns-in-Some-clause-leaves : goal.returns-in-Some-clause-leaves
 returns-in-Some-clause-leaves c =

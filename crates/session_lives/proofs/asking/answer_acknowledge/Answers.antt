@@ -12,7 +12,7 @@ pub returns-clause-asked : goal.returns-clause-asked
 returns-clause-asked g c =
     let printed : c.ack_line.new.out.text ≡ ack_text c.args.terminal.now c.args.number c.acknowledge-answer.result = search rules in
     asked_call g.D.Disk.state (Acked c.args.terminal.now c.args.number c.acknowledge-answer.result) c.args.control.now c.acknowledge-answer.new.self c.ack_line.new.out.text
-    c.ack_called.result refl (c.ack_called.ensures c.args.terminal.now c.args.number) c.acknowledge-answer.ensures.spent c.acknowledge-answer.ensures.nothing c.acknowledge-answer.ensures.adds printed
+    c.ack_called.result refl (c.ack_called.ensures c.args.terminal.now c.args.number) c.acknowledge-answer.ensures.spent c.acknowledge-answer.ensures.nothing c.acknowledge-answer.ensures.adds printed tt
 
 pub returns-clause-pace : goal.returns-clause-pace
 returns-clause-pace g c =

@@ -13,7 +13,7 @@ pub returns-clause-asked : goal.returns-clause-asked
 returns-clause-asked g c =
     let printed : c.input_line.new.out.text ≡ input_text c.args.terminal.now c.args.number (shown_word (code_word c.args.segments)) c.input-answer.result = search rules in
     asked_call g.D.Disk.state (Accept c.args.terminal.now c.args.number c.args.segments c.input-answer.result) c.args.control.now c.input-answer.new.self c.input_line.new.out.text
-    c.input_called.result refl (c.input_called.ensures c.args.terminal.now c.args.number c.args.segments) c.input-answer.ensures.spent c.input-answer.ensures.nothing c.input-answer.ensures.adds printed
+    c.input_called.result refl (c.input_called.ensures c.args.terminal.now c.args.number c.args.segments) c.input-answer.ensures.spent c.input-answer.ensures.nothing c.input-answer.ensures.adds printed tt
 
 pub returns-clause-pace : goal.returns-clause-pace
 returns-clause-pace g c =

@@ -20,6 +20,7 @@ returns-in-Ok-clause-asked g c =
       answered = rw c.in-Ok.is at c.turn-answer.ensures.adds;
       goes_on = refl;
       printed = c.turned_line.ensures ∙ ap (λ t. t ++ turned_text c.databases.result.now c.args.region c.in-Ok.turned) empty ∙ ap (λ d. turned_text d c.args.region c.in-Ok.turned) databases;
+      told = tt;
     }
 
 pub returns-in-Err-clause-asked : goal.returns-in-Err-clause-asked

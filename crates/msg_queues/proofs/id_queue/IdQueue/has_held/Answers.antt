@@ -1,4 +1,4 @@
-use Rattle.std.proofs.Common.{ap, ◌∙◌, length, ltb}
+use Rattle.std.proofs.Common.{ap, ◌∙◌, ltb}
 use Rattle.msg_queues.specs.Places.{unheld_count}
 use Rattle.msg_queues.proofs.Places.{held_where_fewer}
 use Rattle.msg_queues.proofs.id_queue.IdQueue.has_held.Goals as goal
