@@ -1,10 +1,10 @@
 -- Each call ends a message of a serial code only where it is the lowest.
-use Rattle.std.proofs.Common.{◌≡◌, ℕ, zero, suc, ◌+◌, ◌-◌, ◌*◌, ◌<◌, ◌≤◌, Bool, true, false, ◌&&◌, List, [], ◌∷◌, ◌++◌, Option, Some, None, length, take, map, filter, refl, sym, ap, ◌∙◌, subst, cond, arith}
-use Rattle.std.specs.Prelude.{Result, Ok, Err, if◌then◌else◌, nat_le, nat_lt, find, filter_map, replicate, slice_get, slice_set, All, AllPairs}
+use Rattle.std.proofs.Common.{◌≡◌, ℕ, zero, suc, ◌+◌, ◌-◌, ◌*◌, ◌<◌, ◌≤◌, Bool, true, false, ◌&&◌, List, [], ◌∷◌, ◌++◌, Option, Some, None, map, filter, refl, sym, ap, ◌∙◌, subst, cond, arith}
+use Rattle.std.specs.Prelude.{Result, Ok, Err, if◌then◌else◌, nat_le, nat_lt, find, filter_map, slice_get, slice_set, All, AllPairs}
 use Rattle.std.specs.List.{AllByRecursion, cons_option}
 use Rattle.std.specs.Option.{is_some, option_map, option_map_or, option_and_then, unwrap_or}
 use Rattle.std.specs.Str.{bytes_eq}
-use Rattle.std.proofs.lemmas.List.{length-append, map-append}
+use Rattle.std.proofs.lemmas.List.{map-append}
 use Rattle.std.proofs.lemmas.List.Elements.{filter-append, filter_map-append}
 use Rattle.std.proofs.lemmas.List.Kept.{AllPairs-cons}
 use Rattle.std.proofs.lemmas.Slice.Eq.{bytes_eq-Decides}
@@ -37,8 +37,8 @@ use Rattle.model_machine.specs.declared.entry.Turned.TheVariants.{Idle, Held, Sc
 use Rattle.model_machine.specs.CommandAnswers.{CommandAnswer, command_answer, lasting_command, state_now, steps_by}
 use Rattle.model_machine.specs.History.{after_entry, call_of, moment_after, victims_in}
 use Rattle.model_machine.specs.LastingSteps.{LastingStep, KeptInput, abend_outputs, all_sent, applied, commanded, discarded_pad, finished_by, input_message, kept_input, output_sent, replied, switched, with_pad_by, without_message}
-use Rattle.model_machine.specs.LastingSteps.LastingStep.{Accepts, Acknowledges, Completes, Discards, Commands}
-use Rattle.model_machine.specs.Machine.{LastingState, Moment, Slot, content, busy_slots, is_held, message_at, output_at, slot_at, start_of, states_of}
+use Rattle.model_machine.specs.LastingSteps.LastingStep.{Completes, Discards}
+use Rattle.model_machine.specs.Machine.{LastingState, Moment, Slot, content, busy_slots, is_held, message_at, output_at, slot_at, states_of}
 use Rattle.model_machine.specs.MachineCalls.{AtWork, accepted_step, acknowledged_step, ack_answer, blocked_answer, ended_step, ending_step, input_answer, lasting_step, may_go_on, need_now, next_among, next_message, offered_among, pick_now, schedule_answer, slot_after, slot_answer, slot_work, slots_after, step_in_turn, sync_answer, turn_by, turn_step, unless_blocked, work_answer}
 use Rattle.model_machine.specs.Pick.{Candidate, offered_by}
 use Rattle.model_machine.specs.Requests.{blocked_now, without_victims}
@@ -46,7 +46,6 @@ use Rattle.model_machine.specs.Trial.{Advance, Trial, outputs_of, pad_of}
 use Rattle.model_machine.specs.Trial.Advance.{Goes, Stops}
 use Rattle.model_machine.specs.Trial.WorkEnd.{Ends, Syncs, Abends}
 use Rattle.session_law.specs.SerialOrder.{DoneStep, ended_id, ended_ids, ended_message, step_done, steps_in}
-use Rattle.session_law.proofs.SerialMessages.{CodeFrom}
 use Rattle.session_law.proofs.SerialPicks.{IfOffered, IsOffered, pick_offered}
 use Rattle.session_law.proofs.SerialSlots.{HasSlot, Serves, again, freed, gone_of, gone_other, has_its_id, more, none_worked_on, slot_above, taken, victims_freed}
 
@@ -304,10 +303,10 @@ module _ (system : System) (code : List ℕ) (serial : AllByRecursion (SerialIf 
           let least : ℕ = behind low (ended_ids code (step_done moment.lasting step)) in (
             ended.ids,
             takes code least after.messages after.next_id moment.slots (region - 1) ended.serves (record slot { taken = slot.taken + 1; id = next; calls = 0 })
-            (next_waits after (code_at system.codes slot.code) (state_now system moment slot.code) next e)
-            (λ of.
-            none_worked_on code least after.messages after.next_id moment.slots (region - 1) ended.serves slot busy of (ended.past of)
-            (λ place second has its. h.alone place (region - 1) second slot has busy its of)),
+                (next_waits after (code_at system.codes slot.code) (state_now system moment slot.code) next e)
+                (λ of.
+                none_worked_on code least after.messages after.next_id moment.slots (region - 1) ended.serves slot busy of (ended.past of)
+                (λ place second has its. h.alone place (region - 1) second slot has busy its of)),
           )
 
       ended_goes : (trial : Trial) (advance : Advance) → GoesOn (ended_step slot trial advance) (set region (slot_after (work_answer system moment slot trial advance) (Some slot)))
@@ -342,7 +341,7 @@ module _ (system : System) (code : List ℕ) (serial : AllByRecursion (SerialIf 
     turn_goes region victims None e = (
       tt,
       victims_freed code low moment.lasting.messages moment.lasting.next_id victims (set region (slot_after (schedule_answer (pick_now system moment region) (need_now moment) system.qbytes) None))
-      (empty_goes region (pick_now system moment region) (pick_offered (SerialIf code) (offered_among moment.slots moment.lasting.messages) system region (states_of moment) serial)),
+          (empty_goes region (pick_now system moment region) (pick_offered (SerialIf code) (offered_among moment.slots moment.lasting.messages) system region (states_of moment) serial)),
     )
     turn_goes region victims (Some slot) e = busy_goes region slot (busy_at moment.slots (region - 1) slot e) victims (blocked_now system moment region slot)
 
@@ -363,7 +362,7 @@ module _ (system : System) (code : List ℕ) (serial : AllByRecursion (SerialIf 
     command_goes (Some command) (Ok answer) = (
       tt,
       subst (λ (messages : List Message). Serves code low messages (commanded command moment.lasting).next_id moment.slots) (sym (commanded_messages command moment.lasting))
-      (subst (λ (next : ℕ). Serves code low moment.lasting.messages next moment.slots) (sym (commanded_next command moment.lasting)) h),
+          (subst (λ (next : ℕ). Serves code low moment.lasting.messages next moment.slots) (sym (commanded_next command moment.lasting)) h),
     )
     command_goes step (Err refused) = (tt, h)
 
