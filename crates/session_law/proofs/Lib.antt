@@ -20,3 +20,4 @@ pub mod SerialPicks
 pub mod SerialSlots
 pub mod SerialSteps
 pub mod SerialOrder
+pub mod FoundInOrder

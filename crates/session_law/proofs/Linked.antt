@@ -14,6 +14,7 @@ use Rattle.model_session.specs.SessionState.{Picks, cut_with, cut_at_stop, Setti
 use Rattle.model_session.specs.SessionState.Standing.{Up, Down}
 use Rattle.model_session.specs.Session.{OpensSession, OpensAbove, ServedBy, IsServedUp, IsServedDown, IsRestarted, AreServed, BeginsSession, IsSessionBegun, IsBegunBy}
 use Rattle.session_law.specs.SentAgain.{alone, IsOpenedBehind, AreLinked}
+use Rattle.session_law.proofs.SentAgain.{OpenedWith}
 
 -- ---- linked lives
 
@@ -34,15 +35,27 @@ one_linked system [] a b leaves linked = (leaves, (tt, tt))
 one_linked system (life ∷ []) a b leaves linked = (linked.0, one_linked system [] a b leaves linked.1)
 one_linked system (life ∷ next ∷ lives) a b leaves linked = (linked.0, one_linked system (next ∷ lives) a b leaves linked.1)
 
+-- ---- the first life
+
+same_first : (P : LastingState → Type 0) (lives : List LifeState) (a b : LifeState) → a.opening ≡ b.opening → OpenedWith P (lives ++ a ∷ []) → OpenedWith P (lives ++ b ∷ [])
+same_first P [] a b same h = subst P same h
+same_first P (life ∷ lives) a b same h = h
+
+first_stays : (P : LastingState → Type 0) (lives : List LifeState) (a b : LifeState) → OpenedWith P (lives ++ a ∷ []) → OpenedWith P ((lives ++ a ∷ []) ++ b ∷ [])
+first_stays P [] a b h = h
+first_stays P (life ∷ lives) a b h = h
+
 -- ---- where a session stands
 
 abbrev is_emptied : Standing → Bool
 is_emptied (Up life) = false
 is_emptied (Down outage) = outage.emptied
 
--- The lives so far are linked, however many steps of the last one are kept; there is none before the first; and no cold start broke off.
-pub record IsChained (system : System) (state : SessionState) : Type 0 where
-  pub linked : (kept : ℕ) → AreLinked system (with_life state.lives (last_life state.standing) kept)
+-- The lives so far are linked, however many steps of the last one are kept, and the first opened with what was handed in; there is none
+-- before the first; and no cold start broke off.
+pub record IsChained (setting : Setting) (state : SessionState) : Type 0 where
+  pub linked : (kept : ℕ) → AreLinked setting.system (with_life state.lives (last_life state.standing) kept)
+  pub begins : (kept : ℕ) → OpenedWith setting.begins (with_life state.lives (last_life state.standing) kept)
   pub first : last_life state.standing ≡ None → state.lives ≡ []
   pub warm : is_emptied state.standing ≡ false
 
@@ -51,7 +64,7 @@ none_some o life some none = let never : Some life ≡ None = sym some ∙ none 
 
 module _ (setting : Setting) (tells : setting.tells ≡ true) where
   abbrev Chained : SessionState → Type 0
-  Chained state = IsChained setting.system state
+  Chained state = IsChained setting state
 
   same_chained : (old new : SessionState) → new ≡ old → Chained old → Chained new
   same_chained old new same chained = subst Chained (sym same) chained
@@ -64,6 +77,10 @@ module _ (setting : Setting) (tells : setting.tells ≡ true) where
         subst (λ (o : Option LastLife). AreLinked setting.system (with_life old.lives o kept)) (sym is)
         (same_opening setting.system old.lives (kept_life life kept) (kept_life (longer life entries) kept) refl refl
         (subst (λ (s : Standing). AreLinked setting.system (with_life old.lives (last_life s) kept)) at (chained.linked kept)));
+    begins = λ kept.
+        subst (λ (o : Option LastLife). OpenedWith setting.begins (with_life old.lives o kept)) (sym is)
+        (same_first setting.begins old.lives (kept_life life kept) (kept_life (longer life entries) kept) refl
+        (subst (λ (s : Standing). OpenedWith setting.begins (with_life old.lives (last_life s) kept)) at (chained.begins kept)));
     first = λ none. absurd (none_some (last_life standing) (longer life entries) is none);
     warm = warm;
   }
@@ -89,7 +106,7 @@ module _ (setting : Setting) (tells : setting.tells ≡ true) where
   up_chained (Power pick) old life new text at chained (same, printed) =
       subst Chained (sym same)
       (goes_chained old life [] old.stops (cut_with pick old.picks) (Down (record { last = Some (longer life []); emptied = false; stopped = false })) at chained refl refl)
-  up_chained (PowerIn writes pick) old life new text at chained (same, printed) = subst Chained (sym same) (record { linked = chained.linked; first = chained.first; warm = chained.warm })
+  up_chained (PowerIn writes pick) old life new text at chained (same, printed) = subst Chained (sym same) (record { linked = chained.linked; begins = chained.begins; first = chained.first; warm = chained.warm })
   up_chained Restart old life new text at chained (same, printed) = same_chained old new same chained
   up_chained ColdStart old life new text at chained (same, printed) = same_chained old new same chained
 
@@ -107,6 +124,15 @@ module _ (setting : Setting) (tells : setting.tells ≡ true) where
   opened_linked lives (Some life) emptied stopped kept next checkpoint state first warm linked (inr empty) above = let never : true ≡ false = sym empty.broke_off ∙ warm in cc
   opened_linked lives (Some life) emptied stopped kept next checkpoint state first warm linked (inl leaves) (inl broke_off) = let never : true ≡ false = sym broke_off ∙ warm in cc
 
+  opened_begins : (lives : List LifeState) (last : Option LastLife) (emptied stopped : Bool) (kept next checkpoint : ℕ) (state : LastingState) → (last ≡ None → lives ≡ []) → emptied ≡ false
+      → OpenedWith setting.begins (with_life lives last kept) → MayBeFound setting (record { last = last; emptied = emptied; stopped = stopped }) kept state
+      → OpenedWith setting.begins (with_life lives last kept ++ kept_life (record { opening = state; checkpoint = checkpoint; history = [] }) next ∷ [])
+  opened_begins lives None emptied stopped kept next checkpoint state first warm begins (inl found) =
+      subst (λ (ls : List LifeState). OpenedWith setting.begins (ls ++ kept_life (record { opening = state; checkpoint = checkpoint; history = [] }) next ∷ [])) (sym (first refl)) found
+  opened_begins lives None emptied stopped kept next checkpoint state first warm begins (inr empty) = let never : true ≡ false = sym empty.broke_off ∙ warm in cc
+  opened_begins lives (Some life) emptied stopped kept next checkpoint state first warm begins found =
+      first_stays setting.begins lives (kept_life life kept) (kept_life (record { opening = state; checkpoint = checkpoint; history = [] }) next) begins
+
   opens_chained : (old : SessionState) (outage : Outage) (new : SessionState) → old.standing ≡ Down outage → Chained old → OpensSession false setting old outage new → Chained new
   opens_chained old outage new at chained opens =
       subst Chained (sym opens.goes) (record {
@@ -114,6 +140,10 @@ module _ (setting : Setting) (tells : setting.tells ≡ true) where
             opened_linked old.lives outage.last outage.emptied outage.stopped opens.kept kept opens.checkpoint opens.state
             (λ none. chained.first (ap last_life at ∙ none)) (sym (ap is_emptied at) ∙ chained.warm)
             (subst (λ (s : Standing). AreLinked setting.system (with_life old.lives (last_life s) opens.kept)) at (chained.linked opens.kept)) (opens.may tells) (opens.above tells);
+        begins = λ kept.
+            opened_begins old.lives outage.last outage.emptied outage.stopped opens.kept kept opens.checkpoint opens.state
+            (λ none. chained.first (ap last_life at ∙ none)) (sym (ap is_emptied at) ∙ chained.warm)
+            (subst (λ (s : Standing). OpenedWith setting.begins (with_life old.lives (last_life s) opens.kept)) at (chained.begins opens.kept)) (opens.may tells);
         first = λ none. absurd (none_some (Some (record { opening = opens.state; checkpoint = opens.checkpoint; history = [] })) (record { opening = opens.state; checkpoint = opens.checkpoint; history = [] }) refl none);
         warm = refl;
       })
@@ -123,6 +153,7 @@ module _ (setting : Setting) (tells : setting.tells ≡ true) where
   restart_chained old outage new text at chained (inr (inl (fails, printed))) =
       subst Chained (sym fails.ends) (record {
         linked = λ kept. subst (λ (s : Standing). AreLinked setting.system (with_life old.lives (last_life s) kept)) at (chained.linked kept);
+        begins = λ kept. subst (λ (s : Standing). OpenedWith setting.begins (with_life old.lives (last_life s) kept)) at (chained.begins kept);
         first = λ none. chained.first (ap last_life at ∙ none);
         warm = sym (ap is_emptied at) ∙ chained.warm;
       })
@@ -152,11 +183,11 @@ module _ (setting : Setting) (tells : setting.tells ≡ true) where
       blocks_chained blocks one.mid new one.later warm.1 one.on (block_chained (asked_of setting.system block) old one.mid one.first warm.0 old.standing refl one.here chained)
 
   unbegun_chained : Chained unbegun
-  unbegun_chained = record { linked = λ kept. tt; first = λ none. refl; warm = refl }
+  unbegun_chained = record { linked = λ kept. tt; begins = λ kept. tt; first = λ none. refl; warm = refl }
 
   first_chained : (first : SessionState) → BeginsSession setting first → Chained first
   first_chained first (inl opens) = opens_chained unbegun no_life first refl unbegun_chained opens
-  first_chained first (inr fails) = subst Chained (sym fails.ends) (record { linked = λ kept. tt; first = λ none. refl; warm = refl })
+  first_chained first (inr fails) = subst Chained (sym fails.ends) (record { linked = λ kept. tt; begins = λ kept. tt; first = λ none. refl; warm = refl })
 
   -- turns of a QUIET that broke off
   begun_chained : (asked : Asked) (old : SessionState) (standing : Standing) (new : SessionState) → old.standing ≡ standing → IsBegunBy asked setting.system old standing new → Chained old → Chained new
@@ -177,9 +208,19 @@ module _ (setting : Setting) (tells : setting.tells ≡ true) where
   left_chained [] mid last (inr same) chained = same_chained mid last same chained
   left_chained (block ∷ others) mid last (inr one) chained = begun_chained (asked_of setting.system block) mid mid.standing last refl one chained
 
-  -- All lives are linked.
+  -- All lives are linked, and the first opened with what was handed in.
+  all_chained : (blocks others : List Block) (first mid last : SessionState) (text : List ℕ) → BeginsSession setting first → AreServed setting blocks first mid text
+      → (last ≡ mid) ⊎ IsSessionBegun setting.system others mid last → AllByRecursion (λ (block : Block). asked_of setting.system block ≢ ColdStart) blocks → Chained last
+  all_chained blocks others first mid last text begins served left warm = left_chained others mid last left (blocks_chained blocks first mid text warm served (first_chained first begins))
+
   pub lives_linked : (blocks others : List Block) (first mid last : SessionState) (text : List ℕ) (lives : List LifeState) → BeginsSession setting first → AreServed setting blocks first mid text
       → (last ≡ mid) ⊎ IsSessionBegun setting.system others mid last → AllByRecursion (λ (block : Block). asked_of setting.system block ≢ ColdStart) blocks → AreAllLives setting.system last lives → AreLinked setting.system lives
   lives_linked blocks others first mid last text lives begins served left warm all =
-      let chained : Chained last = left_chained others mid last left (blocks_chained blocks first mid text warm served (first_chained first begins)) in
+      let chained : Chained last = all_chained blocks others first mid last text begins served left warm in
       subst (AreLinked setting.system) (sym all.are) (chained.linked all.count)
+
+  pub lives_begin : (blocks others : List Block) (first mid last : SessionState) (text : List ℕ) (lives : List LifeState) → BeginsSession setting first → AreServed setting blocks first mid text
+      → (last ≡ mid) ⊎ IsSessionBegun setting.system others mid last → AllByRecursion (λ (block : Block). asked_of setting.system block ≢ ColdStart) blocks → AreAllLives setting.system last lives → OpenedWith setting.begins lives
+  lives_begin blocks others first mid last text lives begins served left warm all =
+      let chained : Chained last = all_chained blocks others first mid last text begins served left warm in
+      subst (OpenedWith setting.begins) (sym all.are) (chained.begins all.count)

@@ -8,9 +8,14 @@ use Rattle.tm_types.specs.declared.message.Message.{Message}
 use Rattle.model_messages.specs.Waiting.{is_waiting, any_worked_on}
 use Rattle.model_machine.specs.Machine.{message_at}
 use Rattle.model_machine.specs.LastingSteps.{without_message}
-use Rattle.session_law.specs.SerialOrder.{IdsAscend}
 
 -- ---- all messages
+
+-- ids ascend, and are below the next one
+abbrev pub IdsAscend : ℕ → List Message → Type 0
+IdsAscend next [] = Unit {0}
+IdsAscend next (message ∷ []) = message.id < next
+IdsAscend next (message ∷ later ∷ messages) = (message.id < later.id) × IdsAscend next (later ∷ messages)
 
 -- Their ids ascend from this one on, below the next one.
 abbrev pub AreFrom : ℕ → ℕ → List Message → Type 0

@@ -17,8 +17,9 @@ use Rattle.model_session.specs.Lives.{LifeState}
 use Rattle.system_types.specs.ValidSystem.{IsSystem}
 use Rattle.system_types.proofs.Indexed.{found_at}
 use Rattle.session_law.specs.SentAgain.{IsOpenedBehind, AreLinked}
-use Rattle.session_law.specs.SerialOrder.{BeginsInOrder, DoneStep, EndsInOrder, all_kept_steps, ended_ids, kept_steps, step_done, steps_in}
-use Rattle.session_law.proofs.SerialMessages.{AreFrom, CodeFrom, ascend_from, code_all}
+use Rattle.session_law.specs.SerialOrder.{DoneStep, EndsInOrder, all_kept_steps, ended_ids, kept_steps, step_done, steps_in}
+use Rattle.session_law.proofs.SentAgain.{OpenedWith}
+use Rattle.session_law.proofs.SerialMessages.{AreFrom, CodeFrom, IdsAscend, ascend_from, code_all}
 use Rattle.session_law.proofs.SerialSteps.{Rise, SerialIf, ServesAt, behind, entries_go, ids_append, pairs_rise, rise_front, rise_on}
 
 -- ---- the steps of a life
@@ -143,7 +144,12 @@ serial_codes system valid name code found serial =
 
 -- ---- all of it
 
-pub ends_in_order : (system : System) → IsSystem system → (lives : List LifeState) → BeginsInOrder lives → AreLinked system lives → EndsInOrder system lives
+-- ids ascend, below the next one
+abbrev pub IsInOrder : LastingState → Type 0
+IsInOrder lasting = IdsAscend lasting.next_id lasting.messages
+
+-- So it is where the first life opened with messages in the order of their ids.
+pub ends_in_order : (system : System) → IsSystem system → (lives : List LifeState) → OpenedWith IsInOrder lives → AreLinked system lives → EndsInOrder system lives
 ends_in_order system valid [] begins linked = λ name code found serial. pairs_rise 0 [] tt
 ends_in_order system valid (life ∷ lives) begins linked = λ name code found serial.
     let codes : AllByRecursion (SerialIf name) system.codes = serial_codes system valid name code found serial in

@@ -60,15 +60,3 @@ abbrev pub EndsInOrder : System → List LifeState → Type 0
 EndsInOrder system lives =
     (name : List ℕ) (code : Code) → code_at system.codes name ≡ Some code → code.transaction.serial ≡ true
     → AllPairs (λ earlier later. earlier < later) (ended_ids name (all_kept_steps system lives))
-
--- ---- what the first life opened with
-
--- ids ascend, and are below the next one
-abbrev pub IdsAscend : ℕ → List Message → Type 0
-IdsAscend next [] = Unit {0}
-IdsAscend next (message ∷ []) = message.id < next
-IdsAscend next (message ∷ later ∷ messages) = (message.id < later.id) × IdsAscend next (later ∷ messages)
-
-abbrev pub BeginsInOrder : List LifeState → Type 0
-BeginsInOrder [] = Unit {0}
-BeginsInOrder (life ∷ lives) = IdsAscend life.opening.next_id life.opening.messages
