@@ -35,7 +35,7 @@ returns-clause-near g c =
     (search rules)
 
 pub returns-then-is_err-clause-resends : goal.returns-then-is_err-clause-resends
-returns-then-is_err-clause-resends g c = answered_as_kept g.D.Disk.state c.args.disk c.unbegun.result.disk c.unbegun.result.stops c.unbegun.result.lives
+returns-then-is_err-clause-resends g c = answered_as_kept g.D.Disk.state g.met.D.Disk.is_disk c.args.disk c.unbegun.result.disk c.unbegun.result.stops c.unbegun.result.lives
 
 pub returns-clause-resends : goal.returns-clause-resends
-returns-clause-resends g c = answered_as_kept g.D.Disk.state c.args.disk c.serve-outcome.result.disk c.serve-outcome.result.stops c.serve-outcome.result.lives
+returns-clause-resends g c = answered_as_kept g.D.Disk.state g.met.D.Disk.is_disk c.args.disk c.serve-outcome.result.disk c.serve-outcome.result.stops c.serve-outcome.result.lives
