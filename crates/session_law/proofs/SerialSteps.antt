@@ -304,10 +304,10 @@ module _ (system : System) (code : List ℕ) (serial : AllByRecursion (SerialIf 
           let least : ℕ = behind low (ended_ids code (step_done moment.lasting step)) in (
             ended.ids,
             takes code least after.messages after.next_id moment.slots (region - 1) ended.serves (record slot { taken = slot.taken + 1; id = next; calls = 0 })
-            (next_waits after (code_at system.codes slot.code) (state_now system moment slot.code) next e)
-            (λ of.
-            none_worked_on code least after.messages after.next_id moment.slots (region - 1) ended.serves slot busy of (ended.past of)
-            (λ place second has its. h.alone place (region - 1) second slot has busy its of)),
+                (next_waits after (code_at system.codes slot.code) (state_now system moment slot.code) next e)
+                (λ of.
+                none_worked_on code least after.messages after.next_id moment.slots (region - 1) ended.serves slot busy of (ended.past of)
+                (λ place second has its. h.alone place (region - 1) second slot has busy its of)),
           )
 
       ended_goes : (trial : Trial) (advance : Advance) → GoesOn (ended_step slot trial advance) (set region (slot_after (work_answer system moment slot trial advance) (Some slot)))
@@ -342,7 +342,7 @@ module _ (system : System) (code : List ℕ) (serial : AllByRecursion (SerialIf 
     turn_goes region victims None e = (
       tt,
       victims_freed code low moment.lasting.messages moment.lasting.next_id victims (set region (slot_after (schedule_answer (pick_now system moment region) (need_now moment) system.qbytes) None))
-      (empty_goes region (pick_now system moment region) (pick_offered (SerialIf code) (offered_among moment.slots moment.lasting.messages) system region (states_of moment) serial)),
+          (empty_goes region (pick_now system moment region) (pick_offered (SerialIf code) (offered_among moment.slots moment.lasting.messages) system region (states_of moment) serial)),
     )
     turn_goes region victims (Some slot) e = busy_goes region slot (busy_at moment.slots (region - 1) slot e) victims (blocked_now system moment region slot)
 
@@ -363,7 +363,7 @@ module _ (system : System) (code : List ℕ) (serial : AllByRecursion (SerialIf 
     command_goes (Some command) (Ok answer) = (
       tt,
       subst (λ (messages : List Message). Serves code low messages (commanded command moment.lasting).next_id moment.slots) (sym (commanded_messages command moment.lasting))
-      (subst (λ (next : ℕ). Serves code low moment.lasting.messages next moment.slots) (sym (commanded_next command moment.lasting)) h),
+          (subst (λ (next : ℕ). Serves code low moment.lasting.messages next moment.slots) (sym (commanded_next command moment.lasting)) h),
     )
     command_goes step (Err refused) = (tt, h)
 
