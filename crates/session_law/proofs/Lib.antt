@@ -15,3 +15,8 @@ pub mod SentAgain
 pub mod Linked
 pub mod ShownAgain
 pub mod NumberedReplies
+pub mod SerialMessages
+pub mod SerialPicks
+pub mod SerialSlots
+pub mod SerialSteps
+pub mod SerialOrder

@@ -1,11 +1,10 @@
 -- The messages of a serial code end in the order of their ids, over all lives.
-use Rattle.std.proofs.Common.{◌≡◌, ℕ, zero, suc, ◌+◌, ◌-◌, ◌<◌, ◌≤◌, Bool, true, List, [], ◌∷◌, ◌++◌, Option, Some, None, length, take, drop, refl, sym, ap, ◌∙◌, subst, arith, append_assoc, append-nil}
-use Rattle.std.specs.Prelude.{position, find, replicate, slice_get, AllPairs}
+use Rattle.std.proofs.Common.{◌≡◌, ℕ, zero, suc, ◌+◌, ◌-◌, ◌≤◌, true, List, [], ◌∷◌, ◌++◌, Option, Some, None, length, take, drop, refl, sym, ap, ◌∙◌, subst, arith, append_assoc, append-nil}
+use Rattle.std.specs.Prelude.{replicate, slice_get}
 use Rattle.std.specs.List.{AllByRecursion}
 use Rattle.std.specs.Option.{option_map_or, option_and_then}
 use Rattle.std.specs.Str.{bytes_eq}
 use Rattle.std.proofs.lemmas.List.{length-append, take-append-drop, take-append-le, take_all}
-use Rattle.tm_types.specs.declared.message.Message.{Message}
 use Rattle.model_system.specs.declared.code.Code.{Code}
 use Rattle.model_system.specs.Codes.{code_at, code_place}
 use Rattle.model_system.specs.System.{System}
@@ -20,7 +19,6 @@ use Rattle.system_types.proofs.Indexed.{found_at}
 use Rattle.session_law.specs.SentAgain.{IsOpenedBehind, AreLinked}
 use Rattle.session_law.specs.SerialOrder.{BeginsInOrder, DoneStep, EndsInOrder, all_kept_steps, ended_ids, kept_steps, step_done, steps_in}
 use Rattle.session_law.proofs.SerialMessages.{AreFrom, CodeFrom, ascend_from, code_all}
-use Rattle.session_law.proofs.SerialSlots.{HasSlot, Serves}
 use Rattle.session_law.proofs.SerialSteps.{Rise, SerialIf, ServesAt, behind, entries_go, ids_append, pairs_rise, rise_front, rise_on}
 
 -- ---- the steps of a life

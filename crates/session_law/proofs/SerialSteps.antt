@@ -1,10 +1,10 @@
 -- Each call ends a message of a serial code only where it is the lowest.
-use Rattle.std.proofs.Common.{◌≡◌, ℕ, zero, suc, ◌+◌, ◌-◌, ◌*◌, ◌<◌, ◌≤◌, Bool, true, false, ◌&&◌, List, [], ◌∷◌, ◌++◌, Option, Some, None, length, take, map, filter, refl, sym, ap, ◌∙◌, subst, cond, arith}
-use Rattle.std.specs.Prelude.{Result, Ok, Err, if◌then◌else◌, nat_le, nat_lt, find, filter_map, replicate, slice_get, slice_set, All, AllPairs}
+use Rattle.std.proofs.Common.{◌≡◌, ℕ, zero, suc, ◌+◌, ◌-◌, ◌*◌, ◌<◌, ◌≤◌, Bool, true, false, ◌&&◌, List, [], ◌∷◌, ◌++◌, Option, Some, None, map, filter, refl, sym, ap, ◌∙◌, subst, cond, arith}
+use Rattle.std.specs.Prelude.{Result, Ok, Err, if◌then◌else◌, nat_le, nat_lt, find, filter_map, slice_get, slice_set, All, AllPairs}
 use Rattle.std.specs.List.{AllByRecursion, cons_option}
 use Rattle.std.specs.Option.{is_some, option_map, option_map_or, option_and_then, unwrap_or}
 use Rattle.std.specs.Str.{bytes_eq}
-use Rattle.std.proofs.lemmas.List.{length-append, map-append}
+use Rattle.std.proofs.lemmas.List.{map-append}
 use Rattle.std.proofs.lemmas.List.Elements.{filter-append, filter_map-append}
 use Rattle.std.proofs.lemmas.List.Kept.{AllPairs-cons}
 use Rattle.std.proofs.lemmas.Slice.Eq.{bytes_eq-Decides}
@@ -37,8 +37,8 @@ use Rattle.model_machine.specs.declared.entry.Turned.TheVariants.{Idle, Held, Sc
 use Rattle.model_machine.specs.CommandAnswers.{CommandAnswer, command_answer, lasting_command, state_now, steps_by}
 use Rattle.model_machine.specs.History.{after_entry, call_of, moment_after, victims_in}
 use Rattle.model_machine.specs.LastingSteps.{LastingStep, KeptInput, abend_outputs, all_sent, applied, commanded, discarded_pad, finished_by, input_message, kept_input, output_sent, replied, switched, with_pad_by, without_message}
-use Rattle.model_machine.specs.LastingSteps.LastingStep.{Accepts, Acknowledges, Completes, Discards, Commands}
-use Rattle.model_machine.specs.Machine.{LastingState, Moment, Slot, content, busy_slots, is_held, message_at, output_at, slot_at, start_of, states_of}
+use Rattle.model_machine.specs.LastingSteps.LastingStep.{Completes, Discards}
+use Rattle.model_machine.specs.Machine.{LastingState, Moment, Slot, content, busy_slots, is_held, message_at, output_at, slot_at, states_of}
 use Rattle.model_machine.specs.MachineCalls.{AtWork, accepted_step, acknowledged_step, ack_answer, blocked_answer, ended_step, ending_step, input_answer, lasting_step, may_go_on, need_now, next_among, next_message, offered_among, pick_now, schedule_answer, slot_after, slot_answer, slot_work, slots_after, step_in_turn, sync_answer, turn_by, turn_step, unless_blocked, work_answer}
 use Rattle.model_machine.specs.Pick.{Candidate, offered_by}
 use Rattle.model_machine.specs.Requests.{blocked_now, without_victims}
@@ -46,7 +46,6 @@ use Rattle.model_machine.specs.Trial.{Advance, Trial, outputs_of, pad_of}
 use Rattle.model_machine.specs.Trial.Advance.{Goes, Stops}
 use Rattle.model_machine.specs.Trial.WorkEnd.{Ends, Syncs, Abends}
 use Rattle.session_law.specs.SerialOrder.{DoneStep, ended_id, ended_ids, ended_message, step_done, steps_in}
-use Rattle.session_law.proofs.SerialMessages.{CodeFrom}
 use Rattle.session_law.proofs.SerialPicks.{IfOffered, IsOffered, pick_offered}
 use Rattle.session_law.proofs.SerialSlots.{HasSlot, Serves, again, freed, gone_of, gone_other, has_its_id, more, none_worked_on, slot_above, taken, victims_freed}
 

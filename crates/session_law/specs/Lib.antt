@@ -5,3 +5,4 @@ pub mod Measures
 pub mod SpentCounters
 pub mod SentAgain
 pub mod ShownAgain
+pub mod SerialOrder

@@ -12,6 +12,7 @@ use Rattle.session_law.specs.SentAgain.{AreLinked}
 use Rattle.session_law.proofs.Linked.{lives_linked}
 use Rattle.session_law.proofs.SentAgain.{inputs_known}
 use Rattle.session_law.proofs.NumberedReplies.{replies_shown}
+use Rattle.session_law.proofs.SerialOrder.{ends_in_order}
 use Rattle.session_lives.specs.RunningSession.{life_of, session_setting}
 use Rattle.tm_session.specs.declared.outcome.Ended.{Ended}
 use Rattle.tm_session.specs.Outcome.{is_undone, left_if}
@@ -29,7 +30,12 @@ module _ {D : Type 0} (state : D → DiskState) (handed disk : D) (stops : List 
       let linked : AreLinked system lives =
       lives_linked (session_setting state system source handed) tells h.blocks h.others h.first h.mid h.last h.text lives h.begins h.session
       (left_either (is_undone ended) system h.others h.mid h.last h.unprinted) warm h.lives_are in
-      record { linked = linked; inputs = inputs_known system lives linked h.legal; replies = replies_shown system lives linked h.legal }
+      record {
+        linked = linked;
+        inputs = inputs_known system lives linked h.legal;
+        replies = replies_shown system lives linked h.legal;
+        serial = λ begins. ends_in_order system h.valid lives begins linked;
+      }
 
   pub answered_as_kept : (lives : List Life) → AnswersAsKept state handed disk lives stops
   answered_as_kept lives ended told left old new session tells warm =
