@@ -247,7 +247,7 @@ DOINGS = [
     *(([[Command(text)]], (5, 7, 2, 2, 1, PAD, [3, 4])) for text in (b"/STOP TRANSACTION ECHO", b"/START TRANSACTION TALK", b"/STOP LTERM T2", b"/START LTERM T1")),
     *(([[Command(b"/DEQUEUE LTERM T1 " + word)]], (5, 7, 2, 2, 1, PAD, [3, 4])) for word in (b"PURGE1", b"PURGE")),
     *(([[Command(b"/ASSIGN TRANSACTION " + words)]], (5, 7, 2, 2, 1, PAD, [3, 4])) for words in (b"ECHO CLASS 255", b"TALK CLASS 10", b"ROWS PRIORITY 0", b"GET PRIORITY 14")),
-    ([[Command(b"/ASSIGN TRANSACTION ECHO CLASS 7")], [Command(b"/ASSIGN TRANSACTION ECHO CLASS 1")]], (5, 8, 2, 2, 1, PAD, [3, 4])),
+    ([[Command(b"/ASSIGN TRANSACTION ECHO CLASS 7"), Command(b"/ASSIGN TRANSACTION ECHO CLASS 1")]], (5, 8, 2, 2, 1, PAD, [3, 4])),
     ([[Completed(9, 4), end(9), Command(b"/EXIT T2")]], (5, 8, 2, 2, 1, None, [3])),
     ([[Command(b"/EXIT T1")]], (5, 7, 2, 2, 1, PAD, [3, 4])),
 ]
