@@ -1,5 +1,5 @@
 -- The messages of a state that an image recovers to stand in the order of their ids.
-use Rattle.std.proofs.Common.{◌≡◌, ℕ, ◌<◌, Bool, true, false, not, ◌&&◌, List, [], ◌∷◌, Option, Some, None, refl, sym, ap, ◌∙◌, subst, nat_lt}
+use Rattle.std.proofs.Common.{◌≡◌, ℕ, Bool, true, false, not, List, [], ◌∷◌, Option, Some, None, refl, subst, nat_lt}
 use Rattle.std.specs.Prelude.{Result, Ok, Err}
 use Rattle.std.specs.Option.{option_map, option_and_then}
 use Rattle.std.proofs.lemmas.Bool.{ltb-true}
@@ -16,7 +16,7 @@ use Rattle.model_machine.specs.Machine.{LastingState, empty_state}
 use Rattle.model_image.specs.Areas.{log_first, snapshot_area, snapshot_first}
 use Rattle.model_image.specs.CutRecords.{records_cut}
 use Rattle.model_image.specs.Faults.{Fault, in_sector, or_fault, unless_any, unless_fault}
-use Rattle.model_image.specs.Replay.{Replay, replay_all, replay_of, replay_one}
+use Rattle.model_image.specs.Replay.{Replay, replay_all, replay_one}
 use Rattle.model_image.specs.RecoveredState.{Recovers, later_sector, log_from, snapshot_from, state_by_restart, state_from, state_with}
 use Rattle.model_image.specs.Slots.{image_rows_from}
 use Rattle.model_image.specs.Snapshot.{snapshot_rules, snapshot_state}

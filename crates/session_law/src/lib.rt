@@ -11,9 +11,10 @@
 //! is what the terminal is shown. An input is answered, and leaves what lasts, by its first 17 texts and by how many it
 //! has (proofs/Long).
 //!
-//! Serial codes (specs/SerialOrder; proofs/SerialMessages, SerialPicks, SerialSlots, SerialSteps, SerialOrder). At most one
-//! region has a message of a serial code, and that is the one with the lowest id. So in the lasting steps that are kept,
-//! over all lives, the messages of such a code are completed or abended in the ascending order of their ids.
+//! Serial codes (specs/SerialOrder; proofs/SerialMessages, SerialPicks, SerialSlots, SerialSteps, SerialOrder, FoundInOrder).
+//! At most one region has a message of a serial code, and that is the one with the lowest id. So in the lasting steps
+//! that are kept, over all lives, the messages of such a code are completed or abended in the ascending order of their
+//! ids. The first life opens with what was handed in, and an image recovers to a state only with messages in that order.
 //!
 //! Counters (specs/Counts, Measures, SpentCounters; proofs/Entries, Blocks, Spent). A unit sends at most 32 outputs, so
 //! an entry raises the next id, each terminal's next reply and the lasting steps by at most 32. Lines make no more
