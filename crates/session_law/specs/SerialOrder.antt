@@ -21,10 +21,10 @@ pub record DoneStep : Type 0 where
   pub step : LastingStep
   pub on : LastingState
 
--- those of these entries, in their order
 abbrev pub step_done : LastingState → LastingStep → List DoneStep
 step_done lasting step = record { step = step; on = lasting } ∷ []
 
+-- those of these entries, in their order
 abbrev pub steps_in : System → Moment → List Entry → List DoneStep
 steps_in system moment [] = []
 steps_in system moment (entry ∷ entries) =

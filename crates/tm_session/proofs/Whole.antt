@@ -298,7 +298,7 @@ module _ {D : Type 0} (state : D → DiskState) (system : System) (source : List
     stops_are = rest.stops_are;
     same = rest.same;
     cuts = rest.cuts;
-    told = rest.told;
+    numbers_shown = rest.told;
     counted = rest.counted;
     images = rest.images;
     numbered = rest.numbered;

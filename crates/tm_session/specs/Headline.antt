@@ -94,7 +94,7 @@ pub record HasLived {D : Type 0} (state : D → DiskState) (system : System) (so
   pub stops_are : stops ≡ last.stops
   pub same : IsSameDisk (state handed) (state disk)
   pub cuts : AreCuts state last.picks.cut handed disk
-  pub told : AreShown state system (numbers_told lives) handed disk
+  pub numbers_shown : AreShown state system (numbers_told lives) handed disk
   pub counted : AreStops (state handed).faults stops (state disk).faults
   pub images : (image : Image) → (state disk).may_leave image → HoldsSession state system source handed last.standing image
   pub numbered : (image : Image) → (state disk).may_leave image → IsNumberedAt (session_setting state system source handed) last.standing image
