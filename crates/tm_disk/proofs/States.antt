@@ -1,11 +1,11 @@
 -- The calls of a disk in memory, as its trait sees them.
 use Rattle.std.proofs.Common.{◌≡◌, ℕ, ◌+◌, ◌<◌, ◌≤◌, List, [], ◌∷◌, ◌++◌, length, drop, refl, sym, ◌∙◌, ap, subst, inl, inr, ⊎_elim, arith, length-append, Option, None}
-use Rattle.std.specs.Prelude.{Result, Ok, Err, is_err, OnOk, false}
+use Rattle.std.specs.Prelude.{Result, Ok, Err, is_err, OnOk, OnErr, true, false}
 use Rattle.std.proofs.lemmas.Bool.Decides.{nat_tests}
 use Rattle.tm_disk.specs.Disk.{Image, Elapses, Keeps, MayHaveWritten, HasWritten, IsCut, Cuts, cut_once, one_less}
-use Rattle.tm_disk.proofs.Words.{keeps_same, lessens_one, lessens_same}
+use Rattle.tm_disk.proofs.Words.{keeps_same, made_none, made_one}
 use Rattle.tm_disk.specs.Count.{raised}
-use Rattle.tm_disk.specs.Contents.{contents_now, past_of, ContentsGoOn, HasSettled, Settles}
+use Rattle.tm_disk.specs.Contents.{contents_now, past_of, ContentsGoOn, StaysAt, HasSettled, Settles}
 use Rattle.tm_disk.specs.Moments.{DiskMoment, shown_of, IsImageLeft, WasLeft, settled_by, after_write, writes_to}
 use Rattle.tm_disk.specs.MomentLaws.{length-shown_of, length-picked, shown_is_left}
 use Rattle.tm_disk.specs.MemState.{mem_state}
@@ -37,7 +37,7 @@ mem_elapses now next past grown f f' w w' s s' c c' is = record {
 
 keeps_synced : (now : DiskMoment) (past grown : List DiskMoment) (f w : ℕ) (s : Option ℕ) (c : Cuts) → grown ≡ past ++ now ∷ [] → Keeps (mem_state now past f w s c) (mem_state (settled_by Synced now) grown f w s c)
 keeps_synced now past grown f w s c is = record {
-  stays = record { size = length-shown_of now.synced now.since; tells = refl; can_arm = refl; faults = omega arith; writes = omega arith; stop = lessens_same s; cuts = refl };
+  stays = record { size = length-shown_of now.synced now.since; tells = refl; can_arm = refl; faults = omega arith; writes = omega arith; stop = made_none (mem_state now past f w s c) (mem_state (settled_by Synced now) grown f w s c) refl refl; cuts = refl };
   elapses = mem_elapses now (settled_by Synced now) past grown f f w w s s c c is;
   no_more = λ image left. subst (IsImageLeft now) (sym (synced_alone (settled_by Synced now) image refl left)) (shown_is_left now);
   shown = refl;
@@ -123,11 +123,12 @@ cut_cuts old new f w pick s c settles =
 
 tries_write : (now : DiskMoment) (past grown : List DiskMoment) (write : Written) (f f' w : ℕ) (s : Option ℕ) (c : Cuts) → f ≤ f' → grown ≡ past ++ now ∷ [] → MayHaveWritten write.at write.content (mem_state now past f w s c) (mem_state (after_write write now) grown f' (raised w) (one_less s) c)
 tries_write now past grown write f f' w s c le is = record {
-  stays = record { size = refl; tells = refl; can_arm = refl; faults = le; writes = raised_more w; stop = lessens_one s; cuts = refl };
+  stays = record { size = refl; tells = refl; can_arm = refl; faults = le; writes = raised_more w; stop = made_one (mem_state now past f w s c) (mem_state (after_write write now) grown f' (raised w) (one_less s) c) refl refl; cuts = refl };
   elapses = mem_elapses now (after_write write now) past grown f f' w (raised w) s (one_less s) c c is;
   follows = record { from = λ image left. let b = write_comes now write image left in record { before = b.before; left = b.left; by = b.by } };
   shown = λ tells. inr (shown_of-push now.synced now.since write);
   writes = raised_within w;
+  counted = refl;
   until_stop = refl;
 }
 
@@ -171,3 +172,28 @@ cut_moment old new pick settles =
 pub at_ok : {T E : Type 0} (r : Result T E) (P : Type 0) → is_err r ≡ false → OnOk r P → P
 at_ok (Ok x) P e on = on
 at_ok (Err x) P e on = cc
+
+pub at_err : {T E : Type 0} (r : Result T E) (P : Type 0) → is_err r ≡ true → OnErr r P → P
+at_err (Ok x) P e on = cc
+at_err (Err x) P e on = on
+
+-- a write that wasn't made counts as one
+pub write_missed : (contents : Contents) (at : ℕ) (sector : List ℕ) (f f' w : ℕ) (s : Option ℕ) (c : Cuts) → f ≤ f' → MayHaveWritten at sector (mem_state (contents_now contents) (past_of contents) f w s c) (mem_state (contents_now contents) (past_of contents) f' (raised w) (one_less s) c)
+write_missed contents at sector f f' w s c le =
+    let old = mem_state (contents_now contents) (past_of contents) f w s c in
+    let new = mem_state (contents_now contents) (past_of contents) f' (raised w) (one_less s) c in
+    record {
+      stays = record { size = refl; tells = refl; can_arm = refl; faults = le; writes = raised_more w; stop = made_one old new refl refl; cuts = refl };
+      elapses = record { later = omega arith; nothing_else = λ time image early left. inl left; keeps = λ time image early left. left };
+      follows = record { from = λ image left. record { before = image; left = left; by = inl refl } };
+      shown = λ tells. inl refl;
+      writes = raised_within w;
+      counted = refl;
+      until_stop = refl;
+    }
+
+pub write_starved : (old new : Contents) (at : ℕ) (sector : List ℕ) (f f' w : ℕ) (s : Option ℕ) (c : Cuts) → f ≤ f' → StaysAt old new → MayHaveWritten at sector (mem_state (contents_now old) (past_of old) f w s c) (mem_state (contents_now new) (past_of new) f' (raised w) (one_less s) c)
+write_starved old new at sector f f' w s c le same =
+    subst (λ (m : DiskMoment). MayHaveWritten at sector (mem_state (contents_now old) (past_of old) f w s c) (mem_state m (past_of new) f' (raised w) (one_less s) c)) (sym same.now)
+    (subst (λ (l : List DiskMoment). MayHaveWritten at sector (mem_state (contents_now old) (past_of old) f w s c) (mem_state (contents_now old) l f' (raised w) (one_less s) c)) (sym same.past)
+    (write_missed old at sector f f' w s c le))

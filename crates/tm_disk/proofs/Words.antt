@@ -1,24 +1,45 @@
 -- How what is said of a disk goes on over the next call.
-use Rattle.std.proofs.Common.{◌≡◌, ℕ, zero, suc, inl, inr, ⊎_elim, refl, sym, arith, ◌∙◌, subst, false, IsFalse, IsTrue}
+use Rattle.std.proofs.Common.{◌≡◌, ◌⊎◌, ℕ, ◌+◌, ◌≤◌, zero, suc, ap, inl, inr, ⊎_elim, refl, sym, arith, ◌∙◌, subst, false, IsFalse, IsTrue}
 use Rattle.std.specs.Prelude.{Option, Some, None}
 use Rattle.std.proofs.lemmas.Bool.{cases_Bool}
-use Rattle.tm_disk.specs.Disk.{Image, DiskState, ComesFrom, IsDisk, IsSameDisk, Lessens, Stays, Elapses, Follows, Within, Only, NoMore, Keeps, one_less}
+use Rattle.tm_disk.specs.Disk.{Image, DiskState, ComesFrom, IsDisk, IsSameDisk, HasMadeWrites, Stays, Elapses, Follows, Within, Only, NoMore, Keeps, one_less, less_by}
+use Rattle.tm_disk.specs.Count.{raised}
+use Rattle.tm_disk.proofs.Counting.{raised_by_one}
 
 -- the writes left until a stop
-pub lessens_same : (stop : Option ℕ) → Lessens stop stop
-lessens_same None = refl
-lessens_same (Some left) = omega arith
+pub less_by_none : (stop : Option ℕ) → stop ≡ less_by 0 stop
+less_by_none None = refl
+less_by_none (Some left) = ap (λ (n : ℕ). Some n) (omega arith)
 
-pub lessens_one : (stop : Option ℕ) → Lessens stop (one_less stop)
-lessens_one None = refl
-lessens_one (Some zero) = omega arith
-lessens_one (Some (suc left)) = omega arith
+pub less_by_one : (stop : Option ℕ) → one_less stop ≡ less_by 1 stop
+less_by_one None = refl
+less_by_one (Some zero) = ap (λ (n : ℕ). Some n) (omega arith)
+less_by_one (Some (suc left)) = ap (λ (n : ℕ). Some n) (omega arith)
 
-pub lessens_on : (a b c : Option ℕ) → Lessens a b → Lessens b c → Lessens a c
-lessens_on None b c one two = subst (λ (stop : Option ℕ). Lessens stop c) one two
-lessens_on (Some left) None c one two = absurd one
-lessens_on (Some left) (Some mid) None one two = absurd two
-lessens_on (Some left) (Some mid) (Some after) one two = omega (arith, one, two)
+pub less_by_both : (a b : ℕ) (stop : Option ℕ) → less_by b (less_by a stop) ≡ less_by (a + b) stop
+less_by_both a b None = refl
+less_by_both a b (Some left) = ap (λ (n : ℕ). Some n) (omega arith)
+
+pub made_none : (old new : DiskState) → new.writes ≡ old.writes → new.until_stop ≡ old.until_stop → HasMadeWrites old new
+made_none old new writes same = record { made = 0; count = inl (omega (arith, writes)); until_stop = same ∙ less_by_none old.until_stop }
+
+pub made_one : (old new : DiskState) → new.writes ≡ raised old.writes → new.until_stop ≡ one_less old.until_stop → HasMadeWrites old new
+made_one old new writes less = record {
+  made = 1;
+  count = subst (λ (n : ℕ). (n ≡ old.writes + 1) ⊎ (18446744073709551615 ≤ n)) (sym writes) (raised_by_one old.writes);
+  until_stop = less ∙ less_by_one old.until_stop;
+}
+
+pub made_on : (old mid new : DiskState) → mid.writes ≤ new.writes → HasMadeWrites old mid → HasMadeWrites mid new → HasMadeWrites old new
+made_on old mid new rises a b = record {
+  made = a.made + b.made;
+  count =
+      ⊎_elim
+      (λ first. ⊎_elim (λ second. inl (omega (arith, first, second))) (λ last. inr last) b.count)
+      (λ last. inr (omega (arith, last, rises)))
+      a.count;
+  until_stop = b.until_stop ∙ ap (less_by b.made) a.until_stop ∙ less_by_both a.made b.made old.until_stop;
+}
 
 -- the same disk
 pub same_itself : (disk : DiskState) → IsSameDisk disk disk
@@ -37,7 +58,7 @@ pub stays_is_same : (old new : DiskState) → Stays old new → IsSameDisk old n
 stays_is_same old new stays = record { size = stays.size; tells = stays.tells; can_arm = stays.can_arm; faults = stays.faults; writes = stays.writes }
 
 pub stays_same : (old : DiskState) → Stays old old
-stays_same old = record { size = refl; tells = refl; can_arm = refl; faults = omega arith; writes = omega arith; stop = lessens_same old.until_stop; cuts = refl }
+stays_same old = record { size = refl; tells = refl; can_arm = refl; faults = omega arith; writes = omega arith; stop = made_none old old refl refl; cuts = refl }
 
 pub stays_on : (old mid new : DiskState) → Stays old mid → Stays mid new → Stays old new
 stays_on old mid new a b = record {
@@ -46,7 +67,7 @@ stays_on old mid new a b = record {
   can_arm = b.can_arm ∙ a.can_arm;
   faults = omega arith;
   writes = omega arith;
-  stop = lessens_on old.until_stop mid.until_stop new.until_stop a.stop b.stop;
+  stop = made_on old mid new b.writes a.stop b.stop;
   cuts = b.cuts ∙ a.cuts;
 }
 

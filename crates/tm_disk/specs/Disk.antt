@@ -1,5 +1,5 @@
 -- A disk of sectors, and what a crash of it may leave.
-use Rattle.std.specs.Prelude.{◌≡◌, ◌⊎◌, ℕ, suc, zero, ◌+◌, ◌<◌, ◌≤◌, ◌^◌, Bool, true, false, List, [], length, IsTrue, IsFalse, Option, Some, None, slice_index_or, slice_set}
+use Rattle.std.specs.Prelude.{◌≡◌, ◌⊎◌, ℕ, suc, zero, ◌+◌, ◌-◌, ◌<◌, ◌≤◌, ◌^◌, Bool, true, false, List, [], length, IsTrue, IsFalse, Option, Some, None, slice_index_or, slice_set}
 use Rattle.tm_disk.specs.Count.{raised}
 
 -- what stands on a disk: its sectors, each a list of bytes
@@ -92,20 +92,26 @@ pub record IsSameDisk (old new : DiskState) : Type 0 where
   pub faults : old.faults ≤ new.faults
   pub writes : old.writes ≤ new.writes
 
--- A disk that wasn't told to stop isn't told so; one that was stops no later than it would have, and has stopped where it had.
-abbrev pub Lessens : Option ℕ → Option ℕ → Type 0
-Lessens None after = after ≡ None
-Lessens (Some left) None = ⊥
-Lessens (Some left) (Some after) = after ≤ left
+-- the writes left until a stop, after so many more: none once it has stopped
+abbrev pub less_by : ℕ → Option ℕ → Option ℕ
+less_by made None = None
+less_by made (Some left) = Some (left - made)
 
--- It is the same disk: one that wasn't told to stop isn't told so, and a stop to come may be nearer and isn't put off. It wasn't cut.
+-- So many writes were made: the count of writes rose by just them, or stands at the last value that it can have; and where the disk was
+-- told to stop, that is nearer by just them.
+pub record HasMadeWrites (old new : DiskState) : Type 0 where
+  pub made : ℕ
+  pub count : (new.writes ≡ old.writes + made) ⊎ (18446744073709551615 ≤ new.writes)
+  pub until_stop : new.until_stop ≡ less_by made old.until_stop
+
+-- It is the same disk: one that wasn't told to stop isn't told so, and a stop to come is nearer by just the writes that were made. It wasn't cut.
 pub record Stays (old new : DiskState) : Type 0 where
   pub size : new.size ≡ old.size
   pub tells : new.tells ≡ old.tells
   pub can_arm : new.can_arm ≡ old.can_arm
   pub faults : old.faults ≤ new.faults
   pub writes : old.writes ≤ new.writes
-  pub stop : Lessens old.until_stop new.until_stop
+  pub stop : HasMadeWrites old new
   pub cuts : new.cuts ≡ old.cuts
 
 -- Time goes on: a crash since a time might have left what it might have left before, or what it may leave now.
@@ -191,6 +197,7 @@ pub record MayHaveWritten (at : ℕ) (sector : List ℕ) (old new : DiskState) :
   pub follows : Follows (MayWrite at sector) old new
   pub shown : IsTrue old.tells → MayWrite at sector old.shown new.shown
   pub writes : new.writes ≤ old.writes + 1
+  pub counted : new.writes ≡ raised old.writes
   pub until_stop : new.until_stop ≡ one_less old.until_stop
 
 -- A sector was written: a crash leaves each image as it was or with the sector.
