@@ -52,6 +52,7 @@ pub struct PartsView<'a> {
 /// Forces the log, writes each slot that was changed, in ascending order, and syncs; writes the snapshot into the free area,
 /// and syncs; writes the restart sector, which names the snapshot and the other log area, and syncs. The answer is that
 /// restart sector, and the log's writer then stands at the start of that area.
+#[tactic(auto, using(tm_disk::proofs::Words::stays_on))]
 pub fn take<D: Disk>(
     alloc: Global,
     disk: &mut D,

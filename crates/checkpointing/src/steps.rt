@@ -19,6 +19,7 @@ use seg_store::Stores;
 use tm_disk::{Disk, DiskFault};
 
 // Writes the slots that were changed, where the slots stand from the sector `first` on.
+#[tactic(auto, using(tm_disk::proofs::Words::stays_on))]
 fn write_slots<D: Disk>(disk: &mut D, stores: &Stores, first: u32) -> Result<(), DiskFault>
     requires area { first + slot_count stores.now.stores ≤ (D.state disk.old).size }
     requires sectors { AllByRecursion (λ s. s.dbd.sectors ≤ 1) stores.now.stores }
@@ -36,6 +37,7 @@ fn write_slots<D: Disk>(disk: &mut D, stores: &Stores, first: u32) -> Result<(),
 
 /// Writes bytes as the snapshot of a checkpoint into the area of `count` sectors that begins at `first`, and syncs. The
 /// answer is how many sectors they take. `Disk` comes exactly where the disk failed in the call.
+#[tactic(auto, using(tm_disk::proofs::Words::stays_on))]
 pub fn save_snapshot<D: Disk>(
     disk: &mut D,
     first: u32,
@@ -63,6 +65,7 @@ pub fn save_snapshot<D: Disk>(
 
 /// All but the restart sector: forces the log, writes the slots that were changed, and then the snapshot. The
 /// answer is how many sectors the snapshot takes.
+#[tactic(auto, using(tm_disk::proofs::Words::stays_on))]
 pub(crate) fn prepare<D: Disk>(
     disk: &mut D,
     log: &mut LogWriter,

@@ -11,6 +11,7 @@ use tm_types::Dbd;
 
 /// Writes slots of a database into their sectors, in their order, where slot 0 has the sector `first`; the answer is
 /// how many they are. Nothing is synced. `Disk` comes exactly where the disk failed in the call.
+#[tactic(auto, using(tm_disk::proofs::Words::stays_on))]
 pub fn write_slots<D: Disk>(
     disk: &mut D,
     dbd: &Dbd,

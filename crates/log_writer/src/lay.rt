@@ -26,6 +26,7 @@ fn piece(bytes: &[u8], place: usize) -> &[u8]
 }
 
 /// Writes bytes into log sectors from a place on, the first of them with this sequence.
+#[tactic(auto, using(tm_disk::proofs::Words::stays_on))]
 pub fn lay<D: Disk>(
     disk: &mut D,
     at: u32,

@@ -88,6 +88,7 @@ impl LogWriter {
 
     /// Writes what was appended into sectors of its own, and syncs. The answer is how many sectors they are. `Disk` comes
     /// exactly where the disk failed in the call; then the writer is of no use.
+    #[tactic(auto, using(tm_disk::proofs::Words::stays_on))]
     pub fn force<D: Disk>(&mut self, disk: &mut D) -> Result<u32, DiskFault>
         requires area { self.old.first + self.old.count ≤ (D.state disk.old).size }
         requires sequences { self.old.sequence + self.old.count < 2 ^ 64 }

@@ -11,6 +11,7 @@ use tm_disk::{Disk, DiskFault};
 
 /// Zeroes the restart sector, lays the text, the zeros and the snapshot, and writes this restart sector, with a sync behind
 /// each of the three.
+#[tactic(auto, using(tm_disk::proofs::Words::stays_on))]
 pub(crate) fn begin<D: Disk>(
     disk: &mut D,
     places: &Places,

@@ -7,6 +7,7 @@ ghost use Rattle.openings.specs.ColdWrites.{Clears};
 use tm_disk::{Disk, DiskFault, Sector};
 
 /// Zeroes the restart sector, and syncs. At any moment until then it is the one before, or zeros.
+#[tactic(auto, using(tm_disk::proofs::Words::stays_on))]
 pub(crate) fn clear_restart<D: Disk>(disk: &mut D) -> Result<(), DiskFault>
     requires has_a_sector { 0 < (D.state disk.old).size }
     ensures stays { Stays (D.state disk.old) (D.state disk.new) }

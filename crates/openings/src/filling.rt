@@ -7,6 +7,7 @@ ghost use Rattle.openings.specs.ColdWrites.{Fills, text_sectors, text_piece, tex
 use tm_disk::{Disk, DiskFault, SECTOR_BYTES, Sector};
 
 /// Writes zeros into so many sectors from `first` on. No other sector is written.
+#[tactic(auto, using(tm_disk::proofs::Words::stays_on))]
 pub(crate) fn write_zeros<D: Disk>(disk: &mut D, first: u32, count: u32) -> Result<(), DiskFault>
     requires within { first + count ≤ (D.state disk.old).size }
     ensures stays { Stays (D.state disk.old) (D.state disk.new) }
@@ -47,6 +48,7 @@ fn text_sector(text: &[u8], place: usize) -> Sector
 }
 
 /// Writes the text into as many sectors behind the restart sector as it fills, the last of them padded with zeros.
+#[tactic(auto, using(tm_disk::proofs::Words::stays_on))]
 pub(crate) fn write_text<D: Disk>(disk: &mut D, text: &[u8]) -> Result<(), DiskFault>
     requires short { length text.now ≤ 262144 }
     requires within { 65 ≤ (D.state disk.old).size }

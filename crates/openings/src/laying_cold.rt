@@ -22,6 +22,7 @@ pub(crate) struct Places {
 
 /// Writes the text, the zeros of the logs and of the data, and the snapshot of checkpoint 1, and syncs. The restart sector
 /// stays as it is.
+#[tactic(auto, using(tm_disk::proofs::Words::stays_on))]
 pub(crate) fn lay<D: Disk>(
     disk: &mut D,
     places: &Places,

@@ -42,6 +42,7 @@ pub enum RestartFault {
 
 /// Writes the restart sector, and syncs. At any moment until then sector 0 is the one before or this one, whole. Where it
 /// has answered, each image that a crash may leave has this one. `Disk` comes exactly where the disk failed in the call.
+#[tactic(auto, using(tm_disk::proofs::Words::stays_on))]
 pub fn write_restart<D: Disk>(disk: &mut D, value: &RestartSector) -> Result<(), DiskFault>
     requires has_a_sector { 0 < (D.state disk.old).size }
     requires value { IsRestart value.now }

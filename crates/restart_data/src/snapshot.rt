@@ -40,6 +40,7 @@ fn piece(bytes: &[u8], place: usize) -> &[u8]
 /// Writes bytes as the snapshot of a checkpoint into the area of `count` sectors that begins at `first`; a sync makes them
 /// last. The answer is how many sectors they take. No other sector is written. `Disk` comes exactly where the disk
 /// failed in the call.
+#[tactic(auto, using(tm_disk::proofs::Words::stays_on))]
 pub fn write_snapshot<D: Disk>(
     disk: &mut D,
     first: u32,

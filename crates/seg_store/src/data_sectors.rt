@@ -46,6 +46,7 @@ fn seal_rows(rows: &[Row]) -> Sector
 }
 
 /// Writes the records of some slots into their sectors, of which the first belongs to slot 0. Nothing is synced.
+#[tactic(auto, using(tm_disk::proofs::Words::stays_on))]
 pub fn put_slots<D: Disk>(
     disk: &mut D,
     first: u32,

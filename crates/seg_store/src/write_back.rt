@@ -52,6 +52,7 @@ pub fn settle_all(stores: &mut Vec<Store>)
 
 /// Writes the changed slots of the stores in ascending order, where the databases' slots stand one behind the other from the
 /// sector `first` on. The answer is how many they are.
+#[tactic(auto, using(tm_disk::proofs::Words::stays_on))]
 pub fn write_all<D: Disk>(disk: &mut D, first: u32, stores: &Vec<Store>) -> Result<u32, DiskFault>
     requires area { first + kept_slots stores.now.items ≤ (D.state disk.old).size }
     requires sectors { AllByRecursion (λ one. one.dbd.sectors ≤ 1) stores.now.items }

@@ -9,6 +9,7 @@ use system_types::System;
 use tm_disk::{Disk, DiskFault};
 
 // Writes the slots that are given, by database and slot. Nothing is synced.
+#[tactic(auto, using(tm_disk::proofs::Words::stays_on))]
 fn put_all<D: Disk>(disk: &mut D, system: &System, given: &[Slots]) -> Result<(), DiskFault>
     requires areas { data_first system.now (length system.now.databases) ≤ (D.state disk.old).size }
     requires given { AreGiven system.now given.now }
@@ -32,6 +33,7 @@ fn put_all<D: Disk>(disk: &mut D, system: &System, given: &[Slots]) -> Result<()
 }
 
 /// Writes the slots that are given, by database and slot, and syncs.
+#[tactic(auto, using(tm_disk::proofs::Words::stays_on))]
 pub(crate) fn save_slots<D: Disk>(
     disk: &mut D,
     system: &System,

@@ -15,6 +15,7 @@ use system_types::System;
 use tm_disk::{Disk, DiskFault};
 
 // All but the restart sector.
+#[tactic(auto, using(tm_disk::proofs::Words::stays_on))]
 fn prepare<D: Disk>(
     disk: &mut D,
     system: &System,
@@ -47,6 +48,7 @@ fn prepare<D: Disk>(
 /// Writes the slots that are given, by database and slot, and syncs; writes these bytes as the snapshot of the restart
 /// sector `now`, and syncs; and writes that restart sector, and syncs. `Disk` comes exactly where the disk failed in the
 /// call.
+#[tactic(auto, using(tm_disk::proofs::Words::stays_on))]
 pub fn renew<D: Disk>(
     disk: &mut D,
     system: &System,
