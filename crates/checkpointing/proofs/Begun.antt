@@ -24,7 +24,7 @@ use Rattle.restart_data.specs.Fields.{number2_at, are_zeros}
 use Rattle.restart_data.specs.Restart.{restart_in}
 use Rattle.restart_data.specs.Snapshot.{snapshot_in}
 use Rattle.restart_data.proofs.Zeros.{are_zeros-zeros}
-use Rattle.model_image.specs.Areas.{snapshot_area, snapshot_first, log_first, data_first}
+use Rattle.model_image.specs.Areas.{is_single, snapshot_area, snapshot_first, log_first, data_first}
 use Rattle.model_image.specs.CutRecords.{Cut, cut_of, IsRecordCutOff}
 use Rattle.model_image.specs.Faults.{Fault, in_sector, unless_fault}
 use Rattle.model_image.specs.Slots.{SlotOnImage, Source, source_of, slots_by, image_slot_in, named_by, is_change_of, all_slots, slot_fault, rows_of_databases, image_rows_from, rows_of_bytes, rows_by, used_in, slot_bytes_in, is_wrong_length, has_wrong_length, has_no_record, slot_rows, have_one_root, first_shared, first_in, is_image}
@@ -226,7 +226,7 @@ of_snapshot system image now records = log_from system image now true >>= λ log
 
 -- The image has this restart sector, and the bytes of these records as its snapshot; the logs and the data are blank.
 pub record HasSnapshot (system : System) (now : RestartSector) (records : List Record) (image : Image) : Type 0 where
-  pub restart : restart_in (snapshot_area system) image ≡ Ok (Some now)
+  pub restart : restart_in (snapshot_area system) (is_single system) image ≡ Ok (Some now)
   pub log : now.log ≤ 1
   pub read : snapshot_in now.sectors image (snapshot_first system now.snapshot) now.checkpoint ≡ Ok (flat_map record_spelling records)
   pub valid : AllByRecursion IsLogRecord records

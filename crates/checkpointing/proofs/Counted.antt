@@ -9,7 +9,7 @@ use Rattle.restart_data.specs.Restart.{IsRestart, restart_of, restart_in}
 use Rattle.log_sectors.specs.SealedSector.{opened_payload}
 use Rattle.log_sectors.specs.Chain.{before, chain, joined_payloads}
 use Rattle.log_writer.proofs.Gaining.{chain-same}
-use Rattle.model_image.specs.Areas.{snapshot_area, log_first}
+use Rattle.model_image.specs.Areas.{is_single, snapshot_area, log_first}
 use Rattle.model_image.specs.CutRecords.{Cut, cut_of}
 use Rattle.model_image.specs.SectorsAhead.{NoneAhead}
 use Rattle.model_image.specs.Counters.{next_sequence, next_unit, told_unit}
@@ -58,7 +58,7 @@ module _ (system : System) (high : ℕ) (old new : Image) (r : RestartSector) (a
 -- where the same is read, no counter is above either
 pub alike_up_to : (system : System) (high : ℕ) (old new : Image) → ImagesAlike system old new → CountsUpTo system high old → CountsUpTo system high new
 alike_up_to system high old new alike counts restart found =
-    let there : restart_in (snapshot_area system) old ≡ Ok (Some restart) = sym (ap (restart_of (snapshot_area system)) alike.restart) ∙ found in
+    let there : restart_in (snapshot_area system) (is_single system) old ≡ Ok (Some restart) = sym (ap (restart_of (snapshot_area system) (is_single system)) alike.restart) ∙ found in
     areas_up_to system high old new restart (alike.areas restart there) (counts restart there)
 
 pub alike_raises : (more : ℕ) (system : System) (old new : Image) → ImagesAlike system old new → RaisesCounts more system old new
@@ -101,7 +101,7 @@ module _ (system : System) (image : Image) (r : RestartSector) (ahead : NoneAhea
   ahead_records : (log_in system image r).records ≡ []
   ahead_records = ap (λ (links : List (List ℕ)). (cut_of (joined_payloads links)).records) no_chain ∙ no_records
 
-  module _ (snapshot : List Record) (unit : ℕ) (found : snapshot_from system image r ≡ Ok snapshot) (told : told_unit snapshot ≡ unit) (there : restart_in (snapshot_area system) image ≡ Ok (Some r)) where
+  module _ (snapshot : List Record) (unit : ℕ) (found : snapshot_from system image r ≡ Ok snapshot) (told : told_unit snapshot ≡ unit) (there : restart_in (snapshot_area system) (is_single system) image ≡ Ok (Some r)) where
     unit_told : (other : List Record) → snapshot_from system image r ≡ Ok other → next_unit other (log_in system image r).records ≡ max unit 1
     unit_told other read =
         ap (next_unit other) ahead_records
@@ -111,7 +111,7 @@ module _ (system : System) (image : Image) (r : RestartSector) (ahead : NoneAhea
     -- An image without a log counts as its restart sector and its snapshot say.
     pub begun_up_to : (high : ℕ) → r.epoch ≤ high → r.sequence ≤ high → r.checkpoint ≤ high → unit ≤ high → 1 ≤ high → CountsUpTo system high image
     begun_up_to high epoch sequence checkpoint most some restart is =
-        subst (AreUpTo system high image) (one_restart (restart_in (snapshot_area system) image) r restart there is)
+        subst (AreUpTo system high image) (one_restart (restart_in (snapshot_area system) (is_single system) image) r restart there is)
         (record {
           epoch = epoch;
           sequence = omega (arith, sequence, ahead_sequence);

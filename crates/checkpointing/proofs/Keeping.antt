@@ -15,7 +15,7 @@ use Rattle.restart_data.specs.Snapshot as snapshot
 use Rattle.restart_data.specs.WrittenSectors.{Saves, Restarts}
 use Rattle.restart_data.proofs.ImageLaws.{others_stay, restart_keeps_snapshots}
 use Rattle.model_image.specs.SectorsAhead.{NoneAhead}
-use Rattle.model_image.specs.Areas.{snapshot_area, log_first, data_first}
+use Rattle.model_image.specs.Areas.{is_single, snapshot_area, log_first, data_first}
 use Rattle.model_image.specs.CutRecords.{cut_of}
 use Rattle.model_image.specs.Slots.{named_by}
 use Rattle.model_image.specs.RecoveredState.{snapshot_from, log_in}
@@ -36,7 +36,7 @@ use Rattle.checkpointing.specs.CheckpointSteps.{Then, WritesRestart, ChangesUnre
 
 -- What is known of one image before the checkpoint.
 pub record Stands (parts : CheckpointParts) (log : Writer) (stores : AllStores) (image : Image) : Type 0 where
-  pub now : restart_in (snapshot_area parts.system) image ≡ Ok (Some parts.now)
+  pub now : restart_in (snapshot_area parts.system) (is_single parts.system) image ≡ Ok (Some parts.now)
   pub free : AreAreasFree parts
   pub over : IsOver parts log
   pub room : log.place + log_sectors_of (length log.appended) ≤ log.count
@@ -58,8 +58,8 @@ module _ (parts : CheckpointParts) (log : Writer) (stores : AllStores) (a : Imag
 
   -- ---- the log is forced
   module _ (b : Image) (all : AddsAll log a b) where
-    forced_restart : restart_in (snapshot_area parts.system) b ≡ Ok (Some parts.now)
-    forced_restart = ap (restart_of (snapshot_area parts.system)) (all.changes.below 0 (omega (arith, s.over.first))) ∙ s.now
+    forced_restart : restart_in (snapshot_area parts.system) (is_single parts.system) b ≡ Ok (Some parts.now)
+    forced_restart = ap (restart_of (snapshot_area parts.system) (is_single parts.system)) (all.changes.below 0 (omega (arith, s.over.first))) ∙ s.now
 
     forced_snapshot : snapshot_from parts.system b parts.now ≡ snapshot_from parts.system a parts.now
     forced_snapshot =
@@ -204,8 +204,8 @@ module _ (parts : CheckpointParts) (log : Writer) (stores : AllStores) (a : Imag
 
   -- ---- behind it
   module _ (e : Image) (done : IsCheckpointed parts log stores a e) where
-    pub next_restart_in : restart_in (snapshot_area parts.system) e ≡ Ok (Some (next_restart parts log))
-    next_restart_in = done.restart (snapshot_area parts.system) (omega (arith, s.fits, s.free.snapshot_sectors))
+    pub next_restart_in : restart_in (snapshot_area parts.system) (is_single parts.system) e ≡ Ok (Some (next_restart parts log))
+    next_restart_in = done.restart (snapshot_area parts.system) (is_single parts.system) (omega (arith, s.fits, s.free.snapshot_sectors))
 
     -- a sector of a log area stays, or is a new one of the log
     log_stays : (k : ℕ) → log_first parts.system 0 ≤ k → k < log_first parts.system 2 → (sector_at e k ≡ sector_at a k) ⊎ InArea (log.first + log.place) (log_sectors_of (length log.appended)) k

@@ -6,7 +6,7 @@ use Rattle.restart_data.specs.Restart.{restart_of, restart_in}
 use Rattle.log_writer.specs.Writer.{Writer}
 use Rattle.log_writer.specs.ForcedLog.{AddsFront, AddsAll}
 use Rattle.seg_store.specs.ChangedSlots.{AllStores}
-use Rattle.model_image.specs.Areas.{snapshot_area}
+use Rattle.model_image.specs.Areas.{is_single, snapshot_area}
 use Rattle.model_image.specs.Text.{bytes_from, text_in}
 use Rattle.model_image.proofs.Places.{log_above, snapshot_below}
 use Rattle.checkpointing.specs.CheckpointParts.{CheckpointParts, next_restart}
@@ -50,7 +50,7 @@ module _ (parts : CheckpointParts) (log : Writer) (stores : AllStores) (a : Imag
 
   pub prepares_text : (e : Image) → Prepares parts log stores a e → KeepsText parts.system a e
   prepares_text e prepares =
-      let same : restart_in (snapshot_area parts.system) e ≡ restart_in (snapshot_area parts.system) a = ap (restart_of (snapshot_area parts.system)) (prepares_low e prepares 0 (omega arith)) in
+      let same : restart_in (snapshot_area parts.system) (is_single parts.system) e ≡ restart_in (snapshot_area parts.system) (is_single parts.system) a = ap (restart_of (snapshot_area parts.system) (is_single parts.system)) (prepares_low e prepares 0 (omega arith)) in
       record {
         text = λ text has r found. text_alike a e r.text (λ k some low. prepares_low e prepares k low) ∙ has r (sym same ∙ found);
         number = λ low is. record { restart = is.restart; found = same ∙ is.found; least = is.least };
@@ -74,11 +74,11 @@ module _ (parts : CheckpointParts) (log : Writer) (stores : AllStores) (a : Imag
   pub written_text : (e : Image) → (next_restart parts log).sectors ≤ snapshot_area parts.system → IsCheckpointed parts log stores a e → KeepsText parts.system a e
   written_text e few done = record {
     text = λ text has r found.
-        let same : r ≡ next_restart parts log = one_restart (restart_in (snapshot_area parts.system) e) r (next_restart parts log) found (done.restart (snapshot_area parts.system) few) in
+        let same : r ≡ next_restart parts log = one_restart (restart_in (snapshot_area parts.system) (is_single parts.system) e) r (next_restart parts log) found (done.restart (snapshot_area parts.system) (is_single parts.system) few) in
         ap (λ (x : RestartSector). text_in e x.text) same
         ∙ text_alike a e parts.now.text (written_low e done)
         ∙ has parts.now s.now;
     number = λ low is.
-        let same : is.restart ≡ parts.now = one_restart (restart_in (snapshot_area parts.system) a) is.restart parts.now is.found s.now in
-        record { restart = next_restart parts log; found = done.restart (snapshot_area parts.system) few; least = omega (arith, is.least, ap (λ (x : RestartSector). x.checkpoint) same) };
+        let same : is.restart ≡ parts.now = one_restart (restart_in (snapshot_area parts.system) (is_single parts.system) a) is.restart parts.now is.found s.now in
+        record { restart = next_restart parts log; found = done.restart (snapshot_area parts.system) (is_single parts.system) few; least = omega (arith, is.least, ap (λ (x : RestartSector). x.checkpoint) same) };
   }

@@ -36,7 +36,7 @@ IsCheckpointWritten parts log stores k =
 -- its sector; the new snapshot stands in the area that was free; and the restart sector names it and the other log
 -- area. All other sectors stay.
 pub record IsCheckpointed (parts : CheckpointParts) (log : Writer) (stores : AllStores) (before after : Image) : Type 0 where
-  pub restart : (most : ℕ) → (next_restart parts log).sectors ≤ most → restart_in most after ≡ Ok (Some (next_restart parts log))
+  pub restart : (most : ℕ) (single : Bool) → (next_restart parts log).sectors ≤ most → restart_in most single after ≡ Ok (Some (next_restart parts log))
   pub snapshot : snapshot_in (next_restart parts log).sectors after parts.snapshot_at (next_restart parts log).checkpoint ≡ Ok parts.snapshot
   pub log_has : log_of_writer log after ≡ log_of_writer log before ++ log.appended
   pub log_each : (x : ℕ) → x < log.count → StaysOrLogs log before after x

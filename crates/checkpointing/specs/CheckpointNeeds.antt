@@ -8,7 +8,7 @@ use Rattle.restart_data.specs.Restart.{restart_in}
 use Rattle.log_writer.specs.Writer.{Writer}
 use Rattle.log_writer.specs.ForcedLog.{log_of_writer, AddsFront}
 use Rattle.model_image.specs.SectorsAhead.{NoneAhead}
-use Rattle.model_image.specs.Areas.{snapshot_area}
+use Rattle.model_image.specs.Areas.{is_single, snapshot_area}
 use Rattle.model_image.specs.CutRecords.{cut_of}
 use Rattle.model_image.specs.Slots.{named_by}
 use Rattle.model_image.specs.RecoveredState.{snapshot_from}
@@ -19,7 +19,7 @@ use Rattle.checkpointing.specs.Checkpoint.{KeepsRecovery, IsCheckpointed}
 
 -- Each image that a crash may leave has this restart sector.
 abbrev pub HasRestart : System → RestartSector → DiskState → Type 0
-HasRestart system restart disk = (image : Image) → disk.may_leave image → restart_in (snapshot_area system) image ≡ Ok (Some restart)
+HasRestart system restart disk = (image : Image) → disk.may_leave image → restart_in (snapshot_area system) (is_single system) image ≡ Ok (Some restart)
 
 -- In each of them no log sector of this epoch has this sequence or a later one.
 abbrev pub NoneIsAhead : System → ℕ → ℕ → DiskState → Type 0

@@ -5,7 +5,7 @@ use Rattle.model_system.specs.System.{System}
 use Rattle.log_records.specs.declared.record.Record.{Record}
 use Rattle.restart_data.specs.declared.restart.RestartSector.{RestartSector}
 use Rattle.restart_data.specs.Restart.{restart_in}
-use Rattle.model_image.specs.Areas.{snapshot_area}
+use Rattle.model_image.specs.Areas.{is_single, snapshot_area}
 use Rattle.model_image.specs.Counters.{next_sequence, next_unit}
 use Rattle.model_image.specs.RecoveredState.{snapshot_from, log_in}
 
@@ -19,7 +19,7 @@ pub record AreUpTo (system : System) (high : ℕ) (image : Image) (restart : Res
 
 -- No counter of an image is above a bound. One without a restart sector has none.
 abbrev pub CountsUpTo : System → ℕ → Image → Type 0
-CountsUpTo system high image = (restart : RestartSector) → restart_in (snapshot_area system) image ≡ Ok (Some restart) → AreUpTo system high image restart
+CountsUpTo system high image = (restart : RestartSector) → restart_in (snapshot_area system) (is_single system) image ≡ Ok (Some restart) → AreUpTo system high image restart
 
 -- Where no counter of the first image is above a bound, none of the second is by more than so much.
 abbrev pub RaisesCounts : ℕ → System → Image → Image → Type 0

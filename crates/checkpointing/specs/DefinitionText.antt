@@ -4,17 +4,17 @@ use Rattle.tm_disk.specs.Disk.{Image}
 use Rattle.model_system.specs.System.{System}
 use Rattle.restart_data.specs.declared.restart.RestartSector.{RestartSector}
 use Rattle.restart_data.specs.Restart.{restart_in}
-use Rattle.model_image.specs.Areas.{snapshot_area}
+use Rattle.model_image.specs.Areas.{is_single, snapshot_area}
 use Rattle.model_image.specs.Text.{text_in}
 
 -- The image is of a definition with this text.
 abbrev pub HasText : System → List ℕ → Image → Type 0
-HasText system text image = (restart : RestartSector) → restart_in (snapshot_area system) image ≡ Ok (Some restart) → text_in image restart.text ≡ text
+HasText system text image = (restart : RestartSector) → restart_in (snapshot_area system) (is_single system) image ≡ Ok (Some restart) → text_in image restart.text ≡ text
 
 -- The image has a restart sector, whose checkpoint has this number or a higher one.
 pub record IsNumberedFrom (system : System) (low : ℕ) (image : Image) : Type 0 where
   pub restart : RestartSector
-  pub found : restart_in (snapshot_area system) image ≡ Ok (Some restart)
+  pub found : restart_in (snapshot_area system) (is_single system) image ≡ Ok (Some restart)
   pub least : low ≤ restart.checkpoint
 
 -- what comes from an image with a restart sector has no lower number

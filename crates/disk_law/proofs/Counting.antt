@@ -13,7 +13,7 @@ use Rattle.log_writer.specs.ForcedLog.{log_of_writer, log_sectors_of, AddsFront,
 use Rattle.restart_data.specs.declared.restart.RestartSector.{RestartSector}
 use Rattle.restart_data.specs.Restart.{IsRestart, restart_in}
 use Rattle.model_image.specs.SectorsAhead.{NoneAhead}
-use Rattle.model_image.specs.Areas.{snapshot_area, log_first}
+use Rattle.model_image.specs.Areas.{is_single, snapshot_area, log_first}
 use Rattle.model_image.specs.Counters.{unit_of_record, told_unit, greatest_unit}
 use Rattle.model_image.specs.CutRecords.{cut_of, where_none_left}
 use Rattle.model_image.specs.RecoveredState.{snapshot_from, log_in}
@@ -172,7 +172,7 @@ module _ (life : LifeOnDisk) (l : IsLifeOnDisk life) (a : Image) (k : IsImageKep
       pub front_up_to : CountsUpTo life.system high b
       front_up_to restart found =
           let there = restart_stays life.system life.now writer over l.in_range fits a b front.changes front.each k.restart in
-          subst (AreUpTo life.system high b) (one_restart (restart_in (snapshot_area life.system) b) life.now restart there found)
+          subst (AreUpTo life.system high b) (one_restart (restart_in (snapshot_area life.system) (is_single life.system) b) life.now restart there found)
           (record {
             epoch = epoch;
             sequence = omega (arith, sequence, sequence_most life.system b life.now);

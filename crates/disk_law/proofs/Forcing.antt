@@ -15,7 +15,7 @@ use Rattle.log_writer.specs.Writer.{Writer}
 use Rattle.log_writer.specs.ForcedLog.{log_of_writer, log_sectors_of, StaysOrLogs}
 use Rattle.restart_data.specs.declared.restart.RestartSector.{RestartSector}
 use Rattle.restart_data.specs.Restart.{IsRestart, restart_of, restart_in}
-use Rattle.model_image.specs.Areas.{snapshot_area, log_first, data_first}
+use Rattle.model_image.specs.Areas.{is_single, snapshot_area, log_first, data_first}
 use Rattle.model_image.specs.CutRecords.{Cut, cut_of, IsRecordCutOff}
 use Rattle.model_image.specs.RecoveredState.{snapshot_from, log_in, is_later, first_later}
 use Rattle.model_image.proofs.Alike.{snapshot_same}
@@ -69,7 +69,7 @@ log_is system now w image over = rw (over.first, over.count, over.sequence, over
 
 -- An image before, and one in which some of the writer's next sectors are others.
 module _ (system : System) (now : RestartSector) (w : Writer) (over : IsWriterOf system now w) (range : IsRestart now) (room : w.place + log_sectors_of (length w.appended) ≤ w.count) (a b : Image)
-    (changes : ChangesOnly (w.first + w.place) (log_sectors_of (length w.appended)) a b) (each : (x : ℕ) → StaysOrLogs w a b x) (has_restart : restart_in (snapshot_area system) a ≡ Ok (Some now)) where
+    (changes : ChangesOnly (w.first + w.place) (log_sectors_of (length w.appended)) a b) (each : (x : ℕ) → StaysOrLogs w a b x) (has_restart : restart_in (snapshot_area system) (is_single system) a ≡ Ok (Some now)) where
   kept : readings.IsKept (snapshot_area system) now
   kept = readings.restart_kept (snapshot_area system) (sector_at a 0) now has_restart
 
@@ -80,8 +80,8 @@ module _ (system : System) (now : RestartSector) (w : Writer) (over : IsWriterOf
   pub behind_stays : (k : ℕ) → log_first system 2 ≤ k → sector_at b k ≡ sector_at a k
   behind_stays k high = changes.above k (omega (arith, high, over.first, over.count, room, log_below system now.log kept.log))
 
-  pub restart_stays : restart_in (snapshot_area system) b ≡ Ok (Some now)
-  restart_stays = ap (restart_of (snapshot_area system)) (below_stays 0 (omega arith)) ∙ has_restart
+  pub restart_stays : restart_in (snapshot_area system) (is_single system) b ≡ Ok (Some now)
+  restart_stays = ap (restart_of (snapshot_area system) (is_single system)) (below_stays 0 (omega arith)) ∙ has_restart
 
   pub snapshot_stays : snapshot_from system b now ≡ snapshot_from system a now
   snapshot_stays = snapshot_same system now a b (λ k low high. below_stays k (omega (arith, high, kept.sectors, snapshot_below system now.snapshot kept.snapshot)))

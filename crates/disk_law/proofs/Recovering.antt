@@ -15,7 +15,7 @@ use Rattle.log_records.specs.RecordReader.{◌>>=◌}
 use Rattle.restart_data.specs.declared.restart.RestartSector.{RestartSector}
 use Rattle.restart_data.specs.Restart.{restart_in}
 use Rattle.seg_store.specs.Slots.{Stored, AreSlots, IsSlot}
-use Rattle.model_image.specs.Areas.{snapshot_area, log_first, data_first}
+use Rattle.model_image.specs.Areas.{is_single, snapshot_area, log_first, data_first}
 use Rattle.model_image.specs.CutRecords.{IsRecordCutOff}
 use Rattle.model_image.specs.Faults.{Fault, in_sector, or_fault, unless_fault}
 use Rattle.model_image.specs.Slots.{image_slot_in, slots_by, named_by, image_rows_from}
@@ -30,7 +30,7 @@ use Rattle.checkpointing.proofs.Begun.{bind_is}
 
 -- What is read of an image, so that it recovers to this state.
 pub record IsReadAs (system : System) (now : RestartSector) (snapshot records : List Record) (lasting : LastingState) (committed : Bytes) (image : Image) : Type 0 where
-  pub restart : restart_in (snapshot_area system) image ≡ Ok (Some now)
+  pub restart : restart_in (snapshot_area system) (is_single system) image ≡ Ok (Some now)
   pub has_snapshot : snapshot_from system image now ≡ Ok snapshot
   pub has_records : (log_in system image now).records ≡ records
   pub cut_off : IsRecordCutOff (log_in system image now).rest

@@ -11,7 +11,7 @@ use Rattle.log_writer.specs.ForcedLog.{log_of_writer}
 use Rattle.restart_data.specs.Restart.{restart_in}
 use Rattle.model_image.specs.SectorsAhead.{NoneAhead}
 use Rattle.model_image.specs.HeldStores.{HoldsBytes}
-use Rattle.model_image.specs.Areas.{snapshot_area, log_first, data_first}
+use Rattle.model_image.specs.Areas.{is_single, snapshot_area, log_first, data_first}
 use Rattle.model_image.specs.Snapshot.{snapshot_state}
 use Rattle.model_image.specs.Slots.{named_by, is_synced}
 use Rattle.model_image.specs.Replay.{Replay, replay_all}
@@ -36,7 +36,7 @@ beginning system snapshot = record { lasting = snapshot_state system snapshot; w
 -- For the checkpoint to come, each slot that was not changed since its sector was written stands there as in the stores,
 -- and each one that was is named by a record.
 pub record IsImageKept (life : LifeOnDisk) (image : Image) : Type 0 where
-  pub restart : restart_in (snapshot_area life.system) image ≡ Ok (Some life.now)
+  pub restart : restart_in (snapshot_area life.system) (is_single life.system) image ≡ Ok (Some life.now)
   pub has_text : text_in image life.now.text ≡ life.text
   -- the records on the disk
   pub snapshot : List Record

@@ -9,7 +9,7 @@ use Rattle.restart_data.specs.declared.restart.RestartSector.{RestartSector}
 use Rattle.restart_data.specs.Restart.{IsRestart, restart_in}
 use Rattle.seg_store.specs.Slots.{Stored, AreSlots}
 use Rattle.model_image.specs.SectorsAhead.{NoneAhead}
-use Rattle.model_image.specs.Areas.{snapshot_area, log_first}
+use Rattle.model_image.specs.Areas.{is_single, snapshot_area, log_first}
 use Rattle.model_image.specs.HeldStores.{HoldsStores}
 use Rattle.model_image.specs.RecoveredState.{snapshot_from, Recovers}
 use Rattle.model_image.specs.States.{breaks_a_rule}
@@ -55,7 +55,7 @@ pub record MayOpenLife (system : System) (now : RestartSector) (stores : List St
 -- The image has the restart sector, the text and a snapshot of these records, recovers to the state, has no log behind it, and
 -- each slot of the stores in its sector.
 pub record IsOpened (system : System) (text : List ℕ) (now : RestartSector) (stores : List Stored) (state : LastingState) (told : List Record) (image : Image) : Type 0 where
-  pub restart : restart_in (snapshot_area system) image ≡ Ok (Some now)
+  pub restart : restart_in (snapshot_area system) (is_single system) image ≡ Ok (Some now)
   pub has_text : text_in image now.text ≡ text
   pub has_snapshot : snapshot_from system image now ≡ Ok told
   pub recovers : Recovers system image (Ok state)

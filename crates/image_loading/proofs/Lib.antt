@@ -1,3 +1,4 @@
+pub mod Single
 pub mod Following
 pub mod Spelled
 mod Slotted

@@ -34,13 +34,41 @@ use system_types::System;
 use tm_types::Dbd;
 pub use writing::write_slots;
 
+// The most sectors that a slot of these databases has, 1 where there is none.
+fn most_of(databases: &[Dbd]) -> u8
+    ensures { result ≡ areas.most_sectors_from 1 databases.now }
+{
+    let mut most = 1;
+    for dbd in databases {
+        most = most.max(dbd.sectors);
+    }
+    most
+}
+
+/// The most sectors that a slot has, 1 where there is no database.
+#[tactic(auto, using(crate::proofs::Single::single_sectors))]
+pub fn most_sectors(system: &System) -> u8
+    ensures value { result ≡ areas.most_sectors system.now }
+    ensures small { result ≤ 1 }
+{
+    most_of(system.databases())
+}
+
+/// Whether each slot has one sector.
+pub fn is_single(system: &System) -> bool
+    ensures { result ≡ areas.is_single system.now }
+{
+    most_sectors(system) <= 1
+}
+
 /// How many sectors each snapshot area has.
 pub fn snapshot_area(system: &System) -> u32
     ensures value { result ≡ areas.snapshot_area system.now }
     ensures small { result ≤ 2613 }
 {
     let regions = system.regions().len() as u32;
-    (system.qbytes() + 262_144 * regions + 131_072 + 4063) / 4064
+    let most = u32::from(most_sectors(system));
+    (system.qbytes() + 262_144 * most * regions + 131_072 + 4063) / 4064
 }
 
 /// The first sector of a snapshot area, 0 or 1.

@@ -15,7 +15,7 @@ use Rattle.log_writer.specs.Writer.{Writer}
 use Rattle.log_writer.proofs.Gaining.{chain-ended}
 use Rattle.restart_data.specs.declared.restart.RestartSector.{RestartSector}
 use Rattle.restart_data.specs.Restart.{restart_in}
-use Rattle.model_image.specs.Areas.{snapshot_area, log_first}
+use Rattle.model_image.specs.Areas.{is_single, snapshot_area, log_first}
 use Rattle.disk_law.specs.JournalState.{JournalState}
 use Rattle.tm_machine.specs.Answers.{IsAnswered}
 use Rattle.tm_machine.specs.Parts.{PartsState}
@@ -45,7 +45,7 @@ has_number parts units next journal text disk h empty image left =
     let is = h.carried.is.is_life.writer in
     record {
       restart = h.life.now;
-      found = subst (λ (y : System). restart_in (snapshot_area y) image ≡ Ok (Some h.life.now)) same (h.kept image left).restart;
+      found = subst (λ (y : System). restart_in (snapshot_area y) (is_single y) image ≡ Ok (Some h.life.now)) same (h.kept image left).restart;
       checkpoint = ap (λ (r : RestartSector). r.checkpoint) h.now;
       empty =
           subst (λ (y : System). chain y.logs image (log_first y h.life.now.log) h.life.now.sequence h.life.now.epoch ≡ []) same

@@ -7,7 +7,7 @@ use Rattle.model_machine.specs.Machine.{LastingState, Moment}
 use Rattle.log_writer.specs.Writer.{Writer}
 use Rattle.log_writer.specs.ForcedLog.{IsWriterReady, AddsFront}
 use Rattle.restart_data.specs.declared.restart.RestartSector.{RestartSector}
-use Rattle.model_image.specs.Areas.{data_first, snapshot_area}
+use Rattle.model_image.specs.Areas.{is_single, data_first, snapshot_area}
 use Rattle.model_image.specs.RecoveredState.{Recovers}
 use Rattle.model_image.specs.Text.{text_in}
 use Rattle.model_image.proofs.Places.{log_below, slot_above}
@@ -57,12 +57,12 @@ module _ (parts : PartsState) (units : List ℕ) (next_unit : ℕ) (journal : Jo
   have_text image left r found =
       let k = h.kept image left in
       let same : r ≡ h.life.now =
-      same_restart (restart_in (snapshot_area h.life.system) image) r h.life.now
-      (subst (λ (s : System). restart_in (snapshot_area s) image ≡ Ok (Some r)) (sym h.carried.is.of_system) found) k.restart in
+      same_restart (restart_in (snapshot_area h.life.system) (is_single h.life.system) image) r h.life.now
+      (subst (λ (s : System). restart_in (snapshot_area s) (is_single s) image ≡ Ok (Some r)) (sym h.carried.is.of_system) found) k.restart in
       ap (λ (x : RestartSector). text_in image x.text) same ∙ k.has_text ∙ h.text_is
 
   -- its checkpoint is the one that holds
-  number_of : (image : Image) → restart_in (snapshot_area h.life.system) image ≡ Ok (Some h.life.now) → IsNumberedFrom system journal.restart.checkpoint image
+  number_of : (image : Image) → restart_in (snapshot_area h.life.system) (is_single h.life.system) image ≡ Ok (Some h.life.now) → IsNumberedFrom system journal.restart.checkpoint image
   number_of image found =
       subst (λ (s : System). IsNumberedFrom s journal.restart.checkpoint image) h.carried.is.of_system
       (record { restart = h.life.now; found = found; least = omega (arith, ap (λ (r : RestartSector). r.checkpoint) h.now) })
@@ -118,11 +118,11 @@ module _ (parts : PartsState) (units : List ℕ) (next_unit : ℕ) (journal : Jo
             sequence = h.carried.is.is_life.writer.sequence;
             epoch = h.carried.is.is_life.writer.epoch;
           } in
-          let restart : restart_in (snapshot_area h.life.system) after ≡ Ok (Some h.life.now) =
+          let restart : restart_in (snapshot_area h.life.system) (is_single h.life.system) after ≡ Ok (Some h.life.now) =
           restart_stays h.life.system h.life.now w over h.carried.is.is_life.in_range s.is_step.room.fits before after front.changes front.each k.restart in
           let same : r ≡ h.life.now =
-          same_restart (restart_in (snapshot_area h.life.system) after) r h.life.now
-          (subst (λ (y : System). restart_in (snapshot_area y) after ≡ Ok (Some r)) (sym h.carried.is.of_system) found) restart in
+          same_restart (restart_in (snapshot_area h.life.system) (is_single h.life.system) after) r h.life.now
+          (subst (λ (y : System). restart_in (snapshot_area y) (is_single y) after ≡ Ok (Some r)) (sym h.carried.is.of_system) found) restart in
           ap (λ (x : RestartSector). text_in after x.text) same
           ∙ text_stays h.life.system h.life.now w over h.carried.is.is_life.in_range s.is_step.room.fits before after front.changes front.each k.restart
           ∙ k.has_text ∙ h.text_is

@@ -5,7 +5,7 @@ use Rattle.model_system.specs.System.{System}
 use Rattle.restart_data.specs.declared.restart.RestartSector.{RestartSector}
 use Rattle.restart_data.specs.Restart.{restart_in}
 use Rattle.log_sectors.specs.Chain.{chain}
-use Rattle.model_image.specs.Areas.{snapshot_area, log_first}
+use Rattle.model_image.specs.Areas.{is_single, snapshot_area, log_first}
 use Rattle.disk_law.specs.JournalState.{JournalState}
 use Rattle.model_machine.specs.Machine.{Moment, moment_with}
 use Rattle.model_machine.specs.declared.entry.CheckpointRefused.{CheckpointRefused}
@@ -19,7 +19,7 @@ use Rattle.tm_machine.specs.Parts.{PartsState}
 -- The image has a restart sector with this number, and an empty chain behind it.
 pub record HasNumber (system : System) (number : ℕ) (image : Image) : Type 0 where
   pub restart : RestartSector
-  pub found : restart_in (snapshot_area system) image ≡ Ok (Some restart)
+  pub found : restart_in (snapshot_area system) (is_single system) image ≡ Ok (Some restart)
   pub checkpoint : restart.checkpoint ≡ number
   pub empty : chain system.logs image (log_first system restart.log) restart.sequence restart.epoch ≡ []
 

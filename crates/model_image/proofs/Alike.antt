@@ -12,7 +12,7 @@ use Rattle.log_sectors.specs.Chain.{before, chain, joined_payloads}
 use Rattle.restart_data.specs.declared.restart.RestartSector.{RestartSector}
 use Rattle.restart_data.specs.Restart.{restart_of, restart_in}
 use Rattle.restart_data.proofs.ImageLaws.{parts_same}
-use Rattle.model_image.specs.Areas.{snapshot_area, snapshot_first, log_first, data_first}
+use Rattle.model_image.specs.Areas.{is_single, snapshot_area, snapshot_first, log_first, data_first}
 use Rattle.model_image.specs.CutRecords.{Cut, cut_of, records_cut, IsRecordCutOff}
 use Rattle.model_image.specs.Faults.{Fault, in_sector, unless_any, or_fault, unless_fault}
 use Rattle.model_image.specs.Snapshot.{snapshot_rules}
@@ -37,7 +37,7 @@ pub record AreasAlike (system : System) (r : RestartSector) (old new : Image) : 
 -- Two images agree on the restart sector, and on what it names.
 pub record ImagesAlike (system : System) (old new : Image) : Type 0 where
   pub restart : sector_at new 0 ≡ sector_at old 0
-  pub areas : (r : RestartSector) → restart_in (snapshot_area system) old ≡ Ok (Some r) → AreasAlike system r old new
+  pub areas : (r : RestartSector) → restart_in (snapshot_area system) (is_single system) old ≡ Ok (Some r) → AreasAlike system r old new
 
 -- ---- parts
 
@@ -131,26 +131,26 @@ in_0 {A} (Ok y) x is = let e : y ≡ x = cc in ap (λ (z : A). Ok z) e
 in_0 (Err e) x is = cc
 
 module _ (system : System) (old new : Image) (alike : ImagesAlike system old new) where
-  restart_alike : restart_in (snapshot_area system) new ≡ restart_in (snapshot_area system) old
-  restart_alike = ap (restart_of (snapshot_area system)) alike.restart
+  restart_alike : restart_in (snapshot_area system) (is_single system) new ≡ restart_in (snapshot_area system) (is_single system) old
+  restart_alike = ap (restart_of (snapshot_area system) (is_single system)) alike.restart
 
-  by_restart : (cut_off : Bool) (restart : Option RestartSector) → restart_in (snapshot_area system) old ≡ Ok restart → state_by_restart system new cut_off restart ≡ state_by_restart system old cut_off restart
+  by_restart : (cut_off : Bool) (restart : Option RestartSector) → restart_in (snapshot_area system) (is_single system) old ≡ Ok restart → state_by_restart system new cut_off restart ≡ state_by_restart system old cut_off restart
   by_restart cut_off None is = refl
   by_restart cut_off (Some r) is = state_alike system r old new (alike.areas r is) cut_off
 
   pub recovered_alike : (cut_off : Bool) → recovered system new cut_off ≡ recovered system old cut_off
   recovered_alike cut_off =
-      bind_same (in_sector 0 (restart_in (snapshot_area system) new)) (in_sector 0 (restart_in (snapshot_area system) old)) _ _
+      bind_same (in_sector 0 (restart_in (snapshot_area system) (is_single system) new)) (in_sector 0 (restart_in (snapshot_area system) (is_single system) old)) _ _
       (ap (in_sector 0) restart_alike)
-      (λ restart is. by_restart cut_off restart (in_0 (restart_in (snapshot_area system) old) restart is))
+      (λ restart is. by_restart cut_off restart (in_0 (restart_in (snapshot_area system) (is_single system) old) restart is))
 
-  rest_where : (read : Result (Option RestartSector) ℕ) → restart_in (snapshot_area system) old ≡ read → rest_by system new read ≡ rest_by system old read
+  rest_where : (read : Result (Option RestartSector) ℕ) → restart_in (snapshot_area system) (is_single system) old ≡ read → rest_by system new read ≡ rest_by system old read
   rest_where (Ok (Some r)) is = ap (λ (cut : Cut). cut.rest) (log_alike system r old new (alike.areas r is))
   rest_where (Ok None) is = refl
   rest_where (Err rule) is = refl
 
   rest_alike : log_rest system new ≡ log_rest system old
-  rest_alike = ap (rest_by system new) restart_alike ∙ rest_where (restart_in (snapshot_area system) old) refl
+  rest_alike = ap (rest_by system new) restart_alike ∙ rest_where (restart_in (snapshot_area system) (is_single system) old) refl
 
   -- What one image recovers to, the other does.
   pub recovers_alike : (answer : Result LastingState Fault) → Recovers system old answer → Recovers system new answer

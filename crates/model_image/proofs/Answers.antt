@@ -10,7 +10,7 @@ use Rattle.log_records.specs.RecordReader.{◌>>=◌}
 use Rattle.log_records.specs.RecordSpelling.{record_spelling, number2, record_length}
 use Rattle.restart_data.specs.declared.restart.RestartSector.{RestartSector}
 use Rattle.restart_data.specs.Restart.{restart_in}
-use Rattle.model_image.specs.Areas.{snapshot_area}
+use Rattle.model_image.specs.Areas.{is_single, snapshot_area}
 use Rattle.model_image.specs.CutRecords.{IsRecordCutOff}
 use Rattle.model_image.specs.Faults.{Fault, in_sector}
 use Rattle.model_image.specs.RecoveredState.{recovered, rest_by, state_by_restart, Recovers}
@@ -38,7 +38,7 @@ nothing_cut_off = record {
 }
 
 -- An image whose sector 0 is all zeros recovers to the empty state.
-pub zeros_are_empty : (system : System) (image : Image) → restart_in (snapshot_area system) image ≡ Ok None → Recovers system image (Ok (empty_state system))
+pub zeros_are_empty : (system : System) (image : Image) → restart_in (snapshot_area system) (is_single system) image ≡ Ok None → Recovers system image (Ok (empty_state system))
 zeros_are_empty system image is = record {
   is_cut_off = true;
   decides = (λ _. subst (λ (l : List ℕ). IsRecordCutOff l) (sym (ap (rest_by system image) is)) nothing_cut_off, λ _. refl);

@@ -8,7 +8,7 @@ use Rattle.model_machine.specs.Machine.{LastingState}
 use Rattle.log_records.specs.RecordReader.{◌>>=◌}
 use Rattle.restart_data.specs.declared.restart.RestartSector.{RestartSector}
 use Rattle.restart_data.specs.Restart.{restart_in}
-use Rattle.model_image.specs.Areas.{snapshot_area, log_first}
+use Rattle.model_image.specs.Areas.{is_single, snapshot_area, log_first}
 use Rattle.model_image.specs.Faults.{Fault, in_sector, unless_fault}
 use Rattle.model_image.specs.Slots.{image_rows_from}
 use Rattle.model_image.specs.RecoveredState.{snapshot_from, log_from, state_from, is_later, first_later, later_sector, state_with, state_by_restart, Recovers}
@@ -65,7 +65,7 @@ state_not_later system image r cut_off state is =
     no_fault (later_sector system image r) (record three.value { rows = four.value }) state four.gives
 
 -- No sector of its logs has a later epoch than its restart sector.
-pub not_later : (system : System) (image : Image) (r : RestartSector) (state : LastingState) → restart_in (snapshot_area system) image ≡ Ok (Some r) → Recovers system image (Ok state) → first_later (2 * system.logs) image (log_first system 0) r.epoch ≡ None
+pub not_later : (system : System) (image : Image) (r : RestartSector) (state : LastingState) → restart_in (snapshot_area system) (is_single system) image ≡ Ok (Some r) → Recovers system image (Ok state) → first_later (2 * system.logs) image (log_first system 0) r.epoch ≡ None
 not_later system image r state is recovers =
     let whole : state_with system image recovers.is_cut_off r ≡ Ok state =
     sym (ap (λ (read : Result (Option RestartSector) ℕ). in_sector 0 read >>= λ restart. state_by_restart system image recovers.is_cut_off restart) is) ∙ recovers.is in

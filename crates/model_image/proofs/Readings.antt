@@ -45,7 +45,7 @@ by_zeros : (most : ℕ) (r : RestartSector) (b : Bool) (read : Result (Option Re
 by_zeros most r true read is kept = cc
 by_zeros most r false read is kept = kept is
 
-pub restart_kept : (most : ℕ) (sector : List ℕ) (r : RestartSector) → restart_of most sector ≡ Ok (Some r) → IsKept most r
+pub restart_kept : (most : ℕ) (single : Bool) (sector : List ℕ) (r : RestartSector) → restart_of most single sector ≡ Ok (Some r) → IsKept most r
 unfolding restart_of
 restart_kept most sector r is =
     let f = fields_of sector in

@@ -5,7 +5,7 @@ use Rattle.model_system.specs.System.{System}
 use Rattle.log_records.specs.declared.record.Record.{Record}
 use Rattle.restart_data.specs.declared.restart.RestartSector.{RestartSector}
 use Rattle.restart_data.specs.Restart.{restart_in}
-use Rattle.model_image.specs.Areas.{snapshot_area, snapshot_first, log_first, data_first}
+use Rattle.model_image.specs.Areas.{is_single, snapshot_area, snapshot_first, log_first, data_first}
 use Rattle.model_image.specs.Slots.{named_by}
 use Rattle.model_image.specs.RecoveredState.{snapshot_from, log_in, is_later}
 use Rattle.model_image.proofs.Alike.{IsSlotOf, AreasAlike, ImagesAlike}
@@ -113,7 +113,7 @@ module _ (system : System) (r : RestartSector) (old new : Image) (kept : IsKept 
   areas_alike = record { snapshot = snapshot_stays; log = log_stays; later = later_stays; slots = slot_stays }
 
 -- The free snapshot area, the other log area and the slots that changes are of may be others.
-pub unread_alike : (system : System) (r : RestartSector) (old new : Image) → restart_in (snapshot_area system) old ≡ Ok (Some r) → ((k : ℕ) → (sector_at new k ≡ sector_at old k) ⊎ IsUnread system r old new k) → ImagesAlike system old new
+pub unread_alike : (system : System) (r : RestartSector) (old new : Image) → restart_in (snapshot_area system) (is_single system) old ≡ Ok (Some r) → ((k : ℕ) → (sector_at new k ≡ sector_at old k) ⊎ IsUnread system r old new k) → ImagesAlike system old new
 unread_alike system r old new is each =
     let kept = restart_kept (snapshot_area system) (sector_at old 0) r is in
     record {

@@ -1,11 +1,25 @@
 -- Where the areas of a system's disk stand: the restart sector, 64 sectors of the definition's text, two areas for
 -- snapshots, two for logs, and a sector for each slot of each database.
-use Rattle.std.specs.Prelude.{ℕ, ◌+◌, ◌*◌, ◌/◌, length, take, sum_by}
+use Rattle.std.specs.Prelude.{ℕ, ◌+◌, ◌*◌, ◌/◌, max, Bool, nat_le, List, [], ◌∷◌, length, take, sum_by}
+use Rattle.tm_types.specs.declared.dbd.Dbd.{Dbd}
 use Rattle.model_system.specs.System.{System}
+
+-- the most sectors that a slot has, of these databases and this number before them
+abbrev pub most_sectors_from : ℕ → List Dbd → ℕ
+most_sectors_from most [] = most
+most_sectors_from most (dbd ∷ dbds) = most_sectors_from (max most dbd.sectors) dbds
+
+-- the most sectors that a slot of a system has, 1 where it has no database
+abbrev pub most_sectors : System → ℕ
+most_sectors system = most_sectors_from 1 system.databases
+
+-- each slot has one sector
+abbrev pub is_single : System → Bool
+is_single system = nat_le (most_sectors system) 1
 
 -- how many sectors each snapshot area has
 abbrev pub snapshot_area : System → ℕ
-snapshot_area system = (system.qbytes + 262144 * length system.regions + 131072 + 4063) / 4064
+snapshot_area system = (system.qbytes + 262144 * most_sectors system * length system.regions + 131072 + 4063) / 4064
 
 -- where a snapshot area begins, and where a log area does: the first has the number 0
 abbrev pub snapshot_first : System → ℕ → ℕ

@@ -12,7 +12,7 @@ use Rattle.restart_data.specs.declared.restart.RestartSector.{RestartSector}
 use Rattle.restart_data.specs.Fields.{bytes_at, number8_at}
 use Rattle.restart_data.specs.Restart.{restart_in}
 use Rattle.restart_data.specs.Snapshot.{snapshot_in}
-use Rattle.model_image.specs.Areas.{snapshot_area, snapshot_first, log_first}
+use Rattle.model_image.specs.Areas.{is_single, snapshot_area, snapshot_first, log_first}
 use Rattle.model_image.specs.CutRecords.{Cut, cut_of, records_cut, IsRecordCutOff}
 use Rattle.model_image.specs.Faults.{Fault, in_sector, unless_any, or_fault, unless_fault}
 use Rattle.model_image.specs.Snapshot.{snapshot_state, snapshot_rules}
@@ -74,7 +74,7 @@ state_by_restart system image is_cut_off (Some restart) = state_with system imag
 -- rules 1 to 6 are on sector 0
 abbrev pub recovered : System → Image → Bool → Result LastingState Fault
 recovered system image is_cut_off =
-    in_sector 0 (restart_in (snapshot_area system) image) >>= λ restart. state_by_restart system image is_cut_off restart
+    in_sector 0 (restart_in (snapshot_area system) (is_single system) image) >>= λ restart. state_by_restart system image is_cut_off restart
 
 -- the rest of an image's log
 abbrev pub rest_by : System → Image → Result (Option RestartSector) ℕ → List ℕ
@@ -83,7 +83,7 @@ rest_by system image (Ok None) = []
 rest_by system image (Err rule) = []
 
 abbrev pub log_rest : System → Image → List ℕ
-log_rest system image = rest_by system image (restart_in (snapshot_area system) image)
+log_rest system image = rest_by system image (restart_in (snapshot_area system) (is_single system) image)
 
 -- An image recovers to a state, or to the lowest rule that it breaks and of it the lowest sector.
 pub record Recovers (system : System) (image : Image) (answer : Result LastingState Fault) : Type 0 where

@@ -9,7 +9,7 @@ use Rattle.restart_data.specs.declared.restart.RestartSector.{RestartSector}
 use Rattle.restart_data.specs.Restart.{restart_of}
 use Rattle.restart_data.specs.Snapshot.{snapshot_sectors_of}
 use Rattle.system_types.specs.ValidSystem.{IsSystem}
-use Rattle.model_image.specs.Areas.{snapshot_area}
+use Rattle.model_image.specs.Areas.{is_single, snapshot_area}
 use Rattle.model_image.specs.RecoveredState.{Recovers}
 use Rattle.checkpointing.specs.SpelledRecords.{AddsSpelled}
 use Rattle.checkpointing.proofs.Begun.{HasSnapshot, recovers_begun}
@@ -37,7 +37,7 @@ module _ (system : System) (text bytes : List ℕ) (now : RestartSector) (valid 
   module _ (places : Places) (are : ArePlacesOf system places) (sectors : now.sectors ≡ snapshot_sectors_of (length bytes)) (few : length bytes ≤ 8192) where
     first_image : (image : Image) → IsColdWritten places text bytes now image → IsFirstImage system text bytes now image
     first_image image written = record {
-      restart = written.restart (snapshot_area system) (omega (arith, sectors, few));
+      restart = written.restart (snapshot_area system) (is_single system) (omega (arith, sectors, few));
       has_text = written.laid.has_text;
       snapshot = rw (sectors, first.snapshot, first.checkpoint, sym are.snapshot) written.laid.snapshot;
       blanks = λ k low high.
@@ -49,7 +49,7 @@ module _ (system : System) (text bytes : List ℕ) (now : RestartSector) (valid 
     begins_image before after begins =
         ⊎_elim (λ same. inl same)
         (λ rest. ⊎_elim
-        (λ (zeros : sector_at after 0 ≡ blank). inr (inl (ap (restart_of (snapshot_area system)) zeros ∙ blank_restart (snapshot_area system))))
+        (λ (zeros : sector_at after 0 ≡ blank). inr (inl (ap (restart_of (snapshot_area system) (is_single system)) zeros ∙ blank_restart (snapshot_area system) (is_single system))))
         (λ (written : IsColdWritten places text bytes now after). inr (inr (first_image after written)))
         rest)
         begins

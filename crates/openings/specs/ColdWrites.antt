@@ -51,7 +51,7 @@ pub record IsLaid (places : Places) (text bytes : List ℕ) (image : Image) : Ty
 -- And the restart sector is this one.
 pub record IsColdWritten (places : Places) (text bytes : List ℕ) (now : RestartSector) (image : Image) : Type 0 where
   pub laid : IsLaid places text bytes image
-  pub restart : (most : ℕ) → now.sectors ≤ most → restart_in most image ≡ Ok (Some now)
+  pub restart : (most : ℕ) (single : Bool) → now.sectors ≤ most → restart_in most single image ≡ Ok (Some now)
 
 -- The image is the one before; or it has no restart sector; or all was written.
 abbrev pub BeginsCold : Places → List ℕ → List ℕ → RestartSector → Image → Image → Type 0

@@ -8,7 +8,7 @@ use Rattle.log_records.specs.declared.record.Record.{Record}
 use Rattle.restart_data.specs.declared.restart.RestartSector.{RestartSector}
 use Rattle.restart_data.specs.Restart.{restart_in}
 use Rattle.restart_data.specs.Snapshot.{snapshot_in}
-use Rattle.model_image.specs.Areas.{snapshot_area, snapshot_first, log_first, data_first}
+use Rattle.model_image.specs.Areas.{is_single, snapshot_area, snapshot_first, log_first, data_first}
 use Rattle.checkpointing.specs.SnapshotRecords.{snapshot_records}
 use Rattle.openings.specs.ColdWrites.{text_sectors, text_sector}
 
@@ -31,7 +31,7 @@ pub record IsFirstRestart (now : RestartSector) : Type 0 where
 -- The image has this restart sector, the text in its sectors, and these bytes as its snapshot. Both log areas and the data
 -- are zeros.
 pub record IsFirstImage (system : System) (text bytes : List ℕ) (now : RestartSector) (image : Image) : Type 0 where
-  pub restart : restart_in (snapshot_area system) image ≡ Ok (Some now)
+  pub restart : restart_in (snapshot_area system) (is_single system) image ≡ Ok (Some now)
   pub has_text : (x : ℕ) → x < text_sectors (length text) → sector_at image (1 + x) ≡ text_sector text x
   pub snapshot : snapshot_in now.sectors image (snapshot_first system now.snapshot) now.checkpoint ≡ Ok bytes
   pub blanks : (k : ℕ) → log_first system 0 ≤ k → k < sectors_needed system → sector_at image k ≡ blank
@@ -39,4 +39,4 @@ pub record IsFirstImage (system : System) (text bytes : List ℕ) (now : Restart
 -- The image is the one before; or its restart sector is all zeros; or it is the first image.
 abbrev pub BeginsImage : System → List ℕ → List ℕ → RestartSector → Image → Image → Type 0
 BeginsImage system text bytes now before after =
-    (after ≡ before) ⊎ ((restart_in (snapshot_area system) after ≡ Ok None) ⊎ IsFirstImage system text bytes now after)
+    (after ≡ before) ⊎ ((restart_in (snapshot_area system) (is_single system) after ≡ Ok None) ⊎ IsFirstImage system text bytes now after)

@@ -8,7 +8,7 @@ use Rattle.model_machine.specs.Machine.{LastingState, empty_state}
 use Rattle.log_records.specs.declared.record.Record.{Record}
 use Rattle.restart_data.specs.declared.restart.RestartSector.{RestartSector}
 use Rattle.restart_data.specs.Restart.{IsRestart, restart_in}
-use Rattle.model_image.specs.Areas.{snapshot_area}
+use Rattle.model_image.specs.Areas.{is_single, snapshot_area}
 use Rattle.model_image.specs.Counters.{next_unit, next_sequence}
 use Rattle.model_image.specs.RecoveredState.{snapshot_from, log_in, Recovers}
 use Rattle.model_image.specs.States.{breaks_a_rule}
@@ -54,7 +54,7 @@ spent_in system image restart unit state =
 -- The image has this restart sector, the text is its definition's, and it recovers to this state; the next unit is this one.
 pub record IsFound (system : System) (text : List ℕ) (image : Image) (restart : RestartSector) (unit : ℕ) (state : LastingState) : Type 0 where
   pub snapshot : List Record
-  pub has_restart : restart_in (snapshot_area system) image ≡ Ok (Some restart)
+  pub has_restart : restart_in (snapshot_area system) (is_single system) image ≡ Ok (Some restart)
   pub has_text : first_difference text (text_in image restart.text) ≡ None
   pub recovers : Recovers system image (Ok state)
   pub has_snapshot : snapshot_from system image restart ≡ Ok snapshot
@@ -75,19 +75,19 @@ pub record IsBegunCold (system : System) (parts : OpeningParts) (state : Lasting
 
 -- Where sector 0 is all zeros, the image is begun cold.
 pub record IsColdImage (system : System) (image : Image) (parts : OpeningParts) (state : LastingState) : Type 0 where
-  pub zeros : restart_in (snapshot_area system) image ≡ Ok None
+  pub zeros : restart_in (snapshot_area system) (is_single system) image ≡ Ok None
   pub begun : IsBegunCold system parts state
 
 -- The text is not that of the image, from this place on.
 pub record IsOther (system : System) (text : List ℕ) (image : Image) (place : ℕ) : Type 0 where
   pub restart : RestartSector
-  pub has_restart : restart_in (snapshot_area system) image ≡ Ok (Some restart)
+  pub has_restart : restart_in (snapshot_area system) (is_single system) image ≡ Ok (Some restart)
   pub differs : first_difference text (text_in image restart.text) ≡ Some place
 
 -- A rule is broken: one on the restart sector, or one on the rest of an image with this text.
 pub record IsBad (system : System) (text : List ℕ) (image : Image) (rule sector : ℕ) : Type 0 where
   pub recovers : Recovers system image (Err (rule, sector))
-  pub same : (restart : RestartSector) → restart_in (snapshot_area system) image ≡ Ok (Some restart) → first_difference text (text_in image restart.text) ≡ None
+  pub same : (restart : RestartSector) → restart_in (snapshot_area system) (is_single system) image ≡ Ok (Some restart) → first_difference text (text_in image restart.text) ≡ None
 
 -- a counter is spent
 pub record IsSpent (system : System) (text : List ℕ) (image : Image) (counter : Counter) : Type 0 where

@@ -6,7 +6,7 @@ use Rattle.model_machine.specs.Machine.{LastingState}
 use Rattle.restart_data.specs.declared.restart.RestartSector.{RestartSector}
 use Rattle.restart_data.specs.Restart.{restart_in}
 use Rattle.log_writer.specs.Writer.{Writer}
-use Rattle.model_image.specs.Areas.{snapshot_area, log_first}
+use Rattle.model_image.specs.Areas.{is_single, snapshot_area, log_first}
 use Rattle.model_image.specs.SectorsAhead.{NoneAhead}
 use Rattle.model_image.specs.Counters.{next_sequence}
 use Rattle.model_image.specs.RecoveredState.{Recovers, snapshot_from}
@@ -27,7 +27,7 @@ first_writer system now = record {
 -- The image has this restart sector and this text, and recovers to this state. Its snapshot has the records of the state,
 -- with this next unit and no changes. No log sector of this life is there, so that its log is empty in either area.
 pub record IsRenewed (system : System) (text : List ℕ) (now : RestartSector) (unit : ℕ) (state : LastingState) (image : Image) : Type 0 where
-  pub restart : restart_in (snapshot_area system) image ≡ Ok (Some now)
+  pub restart : restart_in (snapshot_area system) (is_single system) image ≡ Ok (Some now)
   pub text_size : now.text ≡ length text
   pub has_text : text_in image now.text ≡ text
   pub has_snapshot : snapshot_from system image now ≡ Ok (snapshot_records now.checkpoint unit state [])

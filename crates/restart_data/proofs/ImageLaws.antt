@@ -1,5 +1,5 @@
 -- Which image has which restart sector and which snapshot: before, during and after.
-use Rattle.std.proofs.Common.{◌≡◌, ◌⊎◌, ℕ, zero, suc, ◌+◌, ◌<◌, ◌≤◌, ◌^◌, List, [], length, refl, ◌∙◌, ap, inl, inr, ⊎_elim, arith}
+use Rattle.std.proofs.Common.{◌≡◌, ◌⊎◌, ℕ, zero, suc, ◌+◌, ◌<◌, ◌≤◌, ◌^◌, Bool, List, [], length, refl, ◌∙◌, ap, inl, inr, ⊎_elim, arith}
 use Rattle.std.proofs.lemmas.List.{get_or-set_same, get_or-set_other}
 use Rattle.tm_disk.specs.Disk.{Image, sector_at, with_sector, MayWrite, ChangesOnly}
 use Rattle.restart_data.specs.declared.restart.RestartSector.{RestartSector}
@@ -12,10 +12,10 @@ use Rattle.restart_data.proofs.RestartBack.{restart_back_is_read}
 pub restarts : (r : RestartSector) → IsRestart r → r.sectors < 2 ^ 32 → (before after : Image) → 0 < length before → after ≡ with_sector before 0 (restart_sector r) → Restarts r before after
 restarts r is fits before after some set = record {
   set = set;
-  read = λ most le.
-      ap (λ (i : Image). restart_of most (sector_at i 0)) set
-      ∙ ap (restart_of most) (get_or-set_same before 0 (restart_sector r) [] some)
-      ∙ restart_back_is_read r is fits most le;
+  read = λ most single le.
+      ap (λ (i : Image). restart_of most single (sector_at i 0)) set
+      ∙ ap (restart_of most single) (get_or-set_same before 0 (restart_sector r) [] some)
+      ∙ restart_back_is_read r is fits most single le;
 }
 
 -- During the write it is the one before or the new one.
@@ -41,8 +41,8 @@ restart_keeps_snapshots r before after restarts count first checkpoint behind =
     parts_same count before after first checkpoint 0 (λ k low high. others_stay r before after restarts k (omega (arith, behind, low)))
 
 -- Writing into one area leaves the restart sector as it was, and each snapshot in another area.
-pub area_keeps_restart : (at count : ℕ) (before after : Image) → 0 < at → ChangesOnly at count before after → (most : ℕ) → restart_in most after ≡ restart_in most before
-area_keeps_restart at count before after behind changes most = ap (restart_of most) (changes.below 0 behind)
+pub area_keeps_restart : (at count : ℕ) (before after : Image) → 0 < at → ChangesOnly at count before after → (most : ℕ) (single : Bool) → restart_in most single after ≡ restart_in most single before
+area_keeps_restart at count before after behind changes most single = ap (restart_of most single) (changes.below 0 behind)
 
 pub area_keeps_snapshot : (at count : ℕ) (before after : Image) → ChangesOnly at count before after → (sectors first checkpoint : ℕ) → (first + sectors ≤ at) ⊎ (at + count ≤ first) → snapshot_in sectors after first checkpoint ≡ snapshot_in sectors before first checkpoint
 area_keeps_snapshot at count before after changes sectors first checkpoint apart =

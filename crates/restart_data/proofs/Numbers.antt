@@ -15,10 +15,10 @@ four b rest = get_or b 0 0 ∷ get_or b 1 0 ∷ get_or b 2 0 ∷ get_or b 3 0 �
 abbrev pub two : List ℕ → List ℕ → List ℕ
 two b rest = get_or b 0 0 ∷ get_or b 1 0 ∷ rest
 
-pub restart_front_is : (e : List ℕ) (epoch snapshot log : ℕ) → e ≡ to_be_bytes w64 epoch → 73 ∷ 77 ∷ 83 ∷ 82 ∷ 0 ∷ 0 ∷ 0 ∷ 1 ∷ eight e (snapshot ∷ log ∷ 0 ∷ 0 ∷ []) ≡ restart_front epoch snapshot log
+pub restart_front_is : (e : List ℕ) (epoch snapshot log : ℕ) → e ≡ to_be_bytes w64 epoch → 73 ∷ 77 ∷ 83 ∷ 82 ∷ 0 ∷ 0 ∷ 0 ∷ 2 ∷ eight e (snapshot ∷ log ∷ 0 ∷ 0 ∷ []) ≡ restart_front epoch snapshot log
 unfolding restart_front
 restart_front_is e epoch snapshot log is =
-    ap (λ (x : List ℕ). 73 ∷ 77 ∷ 83 ∷ 82 ∷ 0 ∷ 0 ∷ 0 ∷ 1 ∷ eight x (snapshot ∷ log ∷ 0 ∷ 0 ∷ [])) is
+    ap (λ (x : List ℕ). 73 ∷ 77 ∷ 83 ∷ 82 ∷ 0 ∷ 0 ∷ 0 ∷ 2 ∷ eight x (snapshot ∷ log ∷ 0 ∷ 0 ∷ [])) is
 
 pub restart_back_is : (n s c t : List ℕ) (sectors sequence checkpoint text : ℕ) → n ≡ to_be_bytes w32 sectors → s ≡ to_be_bytes w64 sequence → c ≡ to_be_bytes w64 checkpoint → t ≡ to_be_bytes w32 text → four n (eight s (eight c (four t []))) ≡ restart_back sectors sequence checkpoint text
 unfolding restart_back

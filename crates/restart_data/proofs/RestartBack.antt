@@ -1,5 +1,5 @@
 -- A restart sector that was written is read.
-use Rattle.std.proofs.Common.{◌≡◌, ℕ, ◌<◌, ◌≤◌, ◌^◌, Bool, true, false, not, ◌||◌, [], ◌∷◌, drop, refl, ◌∙◌, ap, arith, Some, None, Ok}
+use Rattle.std.proofs.Common.{◌≡◌, ℕ, ◌<◌, ◌≤◌, ◌^◌, Bool, true, false, not, ◌&&◌, ◌||◌, [], ◌∷◌, drop, refl, ◌∙◌, ap, arith, Some, None, Ok}
 use Rattle.std.specs.Prelude.{codes, ◌==◌, nat_lt, nat_le, if◌then◌else◌}
 use Rattle.std.proofs.lemmas.Bool.{le-ltb, lt-leb, ne_eqb}
 use Rattle.std.proofs.lemmas.Nat.{from_be_bytes-to_be_bytes_4, from_be_bytes-to_be_bytes_8}
@@ -16,7 +16,7 @@ letters_at : (r : RestartSector) → bytes_at 0 4 (restart_sector r) ≡ codes "
 unfolding restart_sector restart_front restart_back
 letters_at r = refl
 
-version_at : (r : RestartSector) → number4_at 4 (restart_sector r) ≡ 1
+version_at : (r : RestartSector) → number4_at 4 (restart_sector r) ≡ 2
 unfolding restart_sector restart_front restart_back number4_at
 version_at r = refl
 
@@ -94,13 +94,13 @@ module _ (r : RestartSector) (is : IsRestart r) where
   text_kept : long_text r ≡ false
   text_kept = le-ltb 262144 r.text is.text
 
-  rules_kept : (most : ℕ) → r.sectors ≤ most → r.sectors < 2 ^ 32 → first_broken (restart_rules most (restart_sector r)) ≡ None
-  rules_kept most le fits =
+  rules_kept : (most : ℕ) (single : Bool) → r.sectors ≤ most → r.sectors < 2 ^ 32 → first_broken (restart_rules most single (restart_sector r)) ≡ None
+  rules_kept most single le fits =
       let s = restart_sector r in
       let back = fields_back r is fits in
-      six_kept (other_letters s) (other_version s) (has_other_area (fields_of s)) (wrong_size most (fields_of s)) (wrong_counters (fields_of s)) (stray_bytes s || long_text (fields_of s))
+      six_kept (other_letters s) (other_version single s) (has_other_area (fields_of s)) (wrong_size most (fields_of s)) (wrong_counters (fields_of s)) (stray_bytes s || long_text (fields_of s))
       (same_bytes (bytes_at 0 4 s) (codes "IMSR") (letters_at r))
-      (ap (λ k. not (k == 1)) (version_at r))
+      (ap (λ k. not (k == 2) && not (single && (k == 1))) (version_at r))
       (ap has_other_area back ∙ area_kept)
       (ap (wrong_size most) back ∙ size_kept most le)
       (ap wrong_counters back ∙ counters_kept)
@@ -112,10 +112,10 @@ chosen_where : {A : Type 0} (b : Bool) (x y : A) → b ≡ false → (if b then 
 chosen_where false x y e = refl
 chosen_where true x y e = cc
 
-pub restart_back_is_read : (r : RestartSector) → IsRestart r → r.sectors < 2 ^ 32 → (most : ℕ) → r.sectors ≤ most → restart_of most (restart_sector r) ≡ Ok (Some r)
+pub restart_back_is_read : (r : RestartSector) → IsRestart r → r.sectors < 2 ^ 32 → (most : ℕ) (single : Bool) → r.sectors ≤ most → restart_of most single (restart_sector r) ≡ Ok (Some r)
 unfolding restart_of
-restart_back_is_read r is fits most le =
+restart_back_is_read r is fits most single le =
     let s = restart_sector r in
-    chosen_where (are_zeros s) (Ok None) (unless_rule_broken (first_broken (restart_rules most s)) (Some (fields_of s))) (not_all_zero r)
-    ∙ unbroken (first_broken (restart_rules most s)) (Some (fields_of s)) (rules_kept r is most le fits)
+    chosen_where (are_zeros s) (Ok None) (unless_rule_broken (first_broken (restart_rules most single s)) (Some (fields_of s))) (not_all_zero r)
+    ∙ unbroken (first_broken (restart_rules most single s)) (Some (fields_of s)) (rules_kept r is most single le fits)
     ∙ ap (λ (x : RestartSector). Ok (Some x)) (fields_back r is fits)

@@ -40,10 +40,10 @@ counter : (n : ℕ) → wrong_counter n ≡ false → IsCounter n
 counter n e =
     (positive n (kept_left (n == 0) (nat_le 2000000000000000000 n) e), leb-false 2000000000000000000 n (kept_right (n == 0) (nat_le 2000000000000000000 n) e))
 
-rules_keep : (most : ℕ) (sector : List ℕ) → first_broken (restart_rules most sector) ≡ None → IsValid most (fields_of sector)
-rules_keep most sector e =
+rules_keep : (most : ℕ) (single : Bool) (sector : List ℕ) → first_broken (restart_rules most single sector) ≡ None → IsValid most (fields_of sector)
+rules_keep most single sector e =
     let r = fields_of sector in
-    let kept = all_kept (other_letters sector) (other_version sector) (has_other_area r) (wrong_size most r) (wrong_counters r) (stray_bytes sector || long_text r) e in
+    let kept = all_kept (other_letters sector) (other_version single sector) (has_other_area r) (wrong_size most r) (wrong_counters r) (stray_bytes sector || long_text r) e in
     let area = kept.area in
     let size = kept.size in
     let counters = kept.counters in
@@ -62,18 +62,18 @@ rules_keep most sector e =
       fits = ltb-false most r.sectors (kept_right (r.sectors == 0) (nat_lt most r.sectors) size);
     }
 
-judged : (most : ℕ) (sector : List ℕ) (r : RestartSector) (first : Option ℕ) → first_broken (restart_rules most sector) ≡ first → unless_rule_broken first (Some (fields_of sector)) ≡ Ok (Some r) → IsValid most r
-judged most sector r None is e =
-    let same : fields_of sector ≡ r = cc in subst (IsValid most) same (rules_keep most sector is)
-judged most sector r (Some rule) is e = absurd (cc)
+judged : (most : ℕ) (single : Bool) (sector : List ℕ) (r : RestartSector) (first : Option ℕ) → first_broken (restart_rules most single sector) ≡ first → unless_rule_broken first (Some (fields_of sector)) ≡ Ok (Some r) → IsValid most r
+judged most single sector r None is e =
+    let same : fields_of sector ≡ r = cc in subst (IsValid most) same (rules_keep most single sector is)
+judged most single sector r (Some rule) is e = absurd (cc)
 
-pub valid_read : (most : ℕ) (sector : List ℕ) (r : RestartSector) → restart_of most sector ≡ Ok (Some r) → IsValid most r
+pub valid_read : (most : ℕ) (single : Bool) (sector : List ℕ) (r : RestartSector) → restart_of most single sector ≡ Ok (Some r) → IsValid most r
 unfolding restart_of
-valid_read most sector r e = by (are_zeros sector) refl e where
-  by : (b : Bool) → are_zeros sector ≡ b → (if b then Ok None else unless_rule_broken (first_broken (restart_rules most sector)) (Some (fields_of sector))) ≡ Ok (Some r) → IsValid most r
+valid_read most single sector r e = by (are_zeros sector) refl e where
+  by : (b : Bool) → are_zeros sector ≡ b → (if b then Ok None else unless_rule_broken (first_broken (restart_rules most single sector)) (Some (fields_of sector))) ≡ Ok (Some r) → IsValid most r
   by true is f = absurd (cc)
-  by false is f = judged most sector r (first_broken (restart_rules most sector)) refl f
+  by false is f = judged most single sector r (first_broken (restart_rules most single sector)) refl f
 
-pub found_valid : (most : ℕ) (sector : List ℕ) (found : Option RestartSector) → restart_of most sector ≡ Ok found → IfSome found (IsValid most)
-found_valid most sector (Some r) e = valid_read most sector r e
-found_valid most sector None e = tt
+pub found_valid : (most : ℕ) (single : Bool) (sector : List ℕ) (found : Option RestartSector) → restart_of most single sector ≡ Ok found → IfSome found (IsValid most)
+found_valid most single sector (Some r) e = valid_read most single sector r e
+found_valid most single sector None e = tt

@@ -1,5 +1,5 @@
 -- The restart sector: which snapshot and which log area hold.
-use Rattle.std.specs.Prelude.{ℕ, ◌<◌, ◌≤◌, Bool, not, ◌||◌, nat_lt, nat_le, ◌==◌, List, [], ◌∷◌, ◌++◌, drop, if◌then◌else◌, codes, Option, Some, None, Result, Ok}
+use Rattle.std.specs.Prelude.{ℕ, ◌<◌, ◌≤◌, Bool, not, ◌&&◌, ◌||◌, nat_lt, nat_le, ◌==◌, List, [], ◌∷◌, ◌++◌, drop, if◌then◌else◌, codes, Option, Some, None, Result, Ok}
 use Rattle.std.specs.Int.{w32, w64, to_be_bytes}
 use Rattle.std.specs.Str.{bytes_eq}
 use Rattle.tm_disk.specs.Disk.{Image, sector_at}
@@ -8,10 +8,10 @@ use Rattle.restart_data.specs.declared.restart.RestartSector.{RestartSector}
 use Rattle.restart_data.specs.Fields.{bytes_at, byte_at, number4_at, number8_at, are_zeros}
 use Rattle.restart_data.specs.Rules.{first_broken, unless_rule_broken}
 
--- the letters IMSR, the version 1, the epoch, the bytes of the two areas and 2 zeros
+-- the letters IMSR, the version 2, the epoch, the bytes of the two areas and 2 zeros
 unfoldable pub restart_front : ℕ → ℕ → ℕ → List ℕ
 restart_front epoch snapshot log =
-    73 ∷ 77 ∷ 83 ∷ 82 ∷ 0 ∷ 0 ∷ 0 ∷ 1 ∷ [] ++ to_be_bytes w64 epoch ++ snapshot ∷ log ∷ 0 ∷ 0 ∷ []
+    73 ∷ 77 ∷ 83 ∷ 82 ∷ 0 ∷ 0 ∷ 0 ∷ 2 ∷ [] ++ to_be_bytes w64 epoch ++ snapshot ∷ log ∷ 0 ∷ 0 ∷ []
 
 -- how many sectors the snapshot has, the first sequence of the log, the checkpoint, and how long the definition is
 unfoldable pub restart_back : ℕ → ℕ → ℕ → ℕ → List ℕ
@@ -54,8 +54,9 @@ fields_of sector = record {
 abbrev pub other_letters : List ℕ → Bool
 other_letters sector = not (bytes_eq (bytes_at 0 4 sector) (codes "IMSR"))
 
-abbrev pub other_version : List ℕ → Bool
-other_version sector = not (number4_at 4 sector == 1)
+-- The version is 2. In version 1 each slot of a database had one sector, so it is read where each has one still.
+abbrev pub other_version : Bool → List ℕ → Bool
+other_version single sector = not (number4_at 4 sector == 2) && not (single && (number4_at 4 sector == 1))
 
 -- there are two snapshot areas and two log areas
 abbrev pub has_other_area : RestartSector → Bool
@@ -78,11 +79,11 @@ stray_bytes sector = not (are_zeros (bytes_at 18 2 sector)) || not (are_zeros (d
 abbrev pub long_text : RestartSector → Bool
 long_text r = nat_lt 262144 r.text
 
--- the rules on a restart sector, with the most sectors that a snapshot can have
-abbrev pub restart_rules : ℕ → List ℕ → List (ℕ × Bool)
-restart_rules most sector =
+-- the rules on a restart sector, with the most sectors that a snapshot can have, and whether each slot has one sector
+abbrev pub restart_rules : ℕ → Bool → List ℕ → List (ℕ × Bool)
+restart_rules most single sector =
     (1, other_letters sector)
-    ∷ (2, other_version sector)
+    ∷ (2, other_version single sector)
     ∷ (3, has_other_area (fields_of sector))
     ∷ (4, wrong_size most (fields_of sector))
     ∷ (5, wrong_counters (fields_of sector))
@@ -90,10 +91,10 @@ restart_rules most sector =
     ∷ []
 
 -- What a sector is read as: nothing where it is all zeros, and else what it says, or the lowest rule that it breaks.
-unfoldable pub restart_of : ℕ → List ℕ → Result (Option RestartSector) ℕ
-restart_of most sector =
-    if are_zeros sector then Ok None else unless_rule_broken (first_broken (restart_rules most sector)) (Some (fields_of sector))
+unfoldable pub restart_of : ℕ → Bool → List ℕ → Result (Option RestartSector) ℕ
+restart_of most single sector =
+    if are_zeros sector then Ok None else unless_rule_broken (first_broken (restart_rules most single sector)) (Some (fields_of sector))
 
 -- the restart sector of an image, which is its sector 0
-abbrev pub restart_in : ℕ → Image → Result (Option RestartSector) ℕ
-restart_in most image = restart_of most (sector_at image 0)
+abbrev pub restart_in : ℕ → Bool → Image → Result (Option RestartSector) ℕ
+restart_in most single image = restart_of most single (sector_at image 0)

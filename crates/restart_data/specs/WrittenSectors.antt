@@ -1,5 +1,5 @@
 -- What writing a restart sector or a snapshot leaves, and what reading it tells.
-use Rattle.std.specs.Prelude.{◌≡◌, ℕ, ◌≤◌, List, length, Option, Some, Result, Ok, Err}
+use Rattle.std.specs.Prelude.{◌≡◌, ℕ, ◌≤◌, Bool, List, length, Option, Some, Result, Ok, Err}
 use Rattle.tm_disk.specs.Disk.{Image, DiskState, FailedSince, with_sector, ChangesOnly}
 use Rattle.restart_data.specs.declared.restart.RestartSector.{RestartSector}
 use Rattle.restart_data.specs.declared.restart.RestartFault.{RestartFault}
@@ -12,7 +12,7 @@ use Rattle.restart_data.specs.Snapshot.{SectorFault, snapshot_sectors_of, snapsh
 -- The restart sector is this one, and is read as such; all other sectors stay.
 pub record Restarts (value : RestartSector) (before after : Image) : Type 0 where
   pub set : after ≡ with_sector before 0 (restart_sector value)
-  pub read : (most : ℕ) → value.sectors ≤ most → restart_in most after ≡ Ok (Some value)
+  pub read : (most : ℕ) (single : Bool) → value.sectors ≤ most → restart_in most single after ≡ Ok (Some value)
 
 -- The sectors from a place on hold these bytes as the snapshot of a checkpoint; all other sectors stay.
 pub record Saves (first checkpoint : ℕ) (bytes : List ℕ) (before after : Image) : Type 0 where

@@ -30,7 +30,8 @@ pub struct RestartSector {
 /// Why a restart sector wasn't read.
 #[derive(Clone, Copy, Debug, Drop, Error, PartialEq, Eq)]
 pub enum RestartFault {
-    /// The lowest rule that it breaks: 1, the letters; 2, the version; 3, an area above 1; 4, a snapshot of no sector or of
+    /// The lowest rule that it breaks: 1, the letters; 2, a version that is neither 2 nor, where each slot has
+    /// one sector, 1; 3, an area above 1; 4, a snapshot of no sector or of
     /// more than its area has; 5, an epoch, sequence or checkpoint that is 0, or 2,000,000,000,000,000,000 or more;
     /// 6, bytes where zeros belong, or a definition of more than 262,144 bytes.
     #[error("rule {0} is broken")]
@@ -64,12 +65,16 @@ pub fn write_restart<D: Disk>(disk: &mut D, value: &RestartSector) -> Result<(),
     Ok(())
 }
 
-/// Reads the restart sector of a disk whose snapshot areas have `most` sectors each, as the disk reads. It is nothing
-/// exactly where sector 0 is all zeros. Nothing is written.
+/// Reads the restart sector of a disk whose snapshot areas have `most` sectors each, and each of whose slots has one sector
+/// where it is `single`, as the disk reads. It is nothing exactly where sector 0 is all zeros. Nothing is written.
 #[tactic(auto, using(crate::proofs::Valid::found_valid))]
-pub fn read_restart<D: Disk>(disk: &mut D, most: u32) -> Result<Option<RestartSector>, RestartFault>
+pub fn read_restart<D: Disk>(
+    disk: &mut D,
+    most: u32,
+    single: bool,
+) -> Result<Option<RestartSector>, RestartFault>
     requires has_a_sector { 0 < (D.state disk.old).size }
-    ensures value { IsTrue (D.state disk.old).tells → TellsRestart result (restart_in most (D.state disk.old).shown) }
+    ensures value { IsTrue (D.state disk.old).tells → TellsRestart result (restart_in most single (D.state disk.old).shown) }
     // It is judged on each disk, also on one that doesn't tell its contents.
     ensures valid { IfOk result (λ found. IfSome found (IsValid most)) }
     ensures keeps { Keeps (D.state disk.old) (D.state disk.new) }
@@ -80,7 +85,7 @@ pub fn read_restart<D: Disk>(disk: &mut D, most: u32) -> Result<Option<RestartSe
     if disk.read(0, &mut sector).is_err() {
         return Err(RestartFault::Disk);
     }
-    match unseal(&sector, most) {
+    match unseal(&sector, most, single) {
         Ok(found) => Ok(found),
         Err(rule) => Err(RestartFault::Bad(rule)),
     }

@@ -1,7 +1,7 @@
 //! How the restart sector is spelled and read.
 ghost use Rattle.std.specs.Prelude.{◌≡◌, ◌<◌, ◌^◌, length};
 ghost use Rattle.restart_data.specs.Rules.{first_broken};
-ghost use Rattle.restart_data.specs.Restart.{restart_front, restart_back, restart_sector, fields_of, other_letters, has_other_area, wrong_size, wrong_counter, wrong_counters, stray_bytes, restart_rules, restart_of};
+ghost use Rattle.restart_data.specs.Restart.{restart_front, restart_back, restart_sector, fields_of, other_letters, other_version, has_other_area, wrong_size, wrong_counter, wrong_counters, stray_bytes, restart_rules, restart_of};
 
 use crate::RestartSector;
 use crate::fields::{all_zero, all_zero_from, number4, number8};
@@ -11,7 +11,10 @@ const FRONT_BYTES: usize = 20;
 
 const USED_BYTES: usize = 44;
 
-const VERSION: u32 = 1;
+const VERSION: u32 = 2;
+
+// The version before, whose slots have one sector each.
+const SINGLE_VERSION: u32 = 1;
 
 const MOST_TEXT: u32 = 262_144;
 
@@ -23,7 +26,7 @@ fn front(epoch: u64, snapshot: u8, log: u8) -> [u8; FRONT_BYTES]
 {
     let e = epoch.to_be_bytes();
     [
-        b'I', b'M', b'S', b'R', 0, 0, 0, 1, e[0], e[1], e[2], e[3], e[4], e[5], e[6], e[7],
+        b'I', b'M', b'S', b'R', 0, 0, 0, 2, e[0], e[1], e[2], e[3], e[4], e[5], e[6], e[7],
         snapshot, log, 0, 0,
     ]
 }
@@ -100,16 +103,24 @@ fn has_stray_bytes(bytes: &[u8]) -> bool
     !all_zero(&bytes[18..FRONT_BYTES]) || !all_zero_from(bytes, USED_BYTES)
 }
 
+fn has_other_version(bytes: &[u8], single: bool) -> bool
+    requires { length bytes.now ≡ 4096 }
+    ensures { result ≡ other_version single bytes.now }
+{
+    let version = number4(bytes, 4);
+    version != VERSION && !(single && version == SINGLE_VERSION)
+}
+
 // The first rule that a sector that says this breaks.
-fn broken_rule(bytes: &[u8], value: &RestartSector, most: u32) -> Option<u8>
+fn broken_rule(bytes: &[u8], value: &RestartSector, most: u32, single: bool) -> Option<u8>
     requires size { length bytes.now ≡ 4096 }
     requires says { value.now ≡ fields_of bytes.now }
-    ensures { result ≡ first_broken (restart_rules most bytes.now) }
+    ensures { result ≡ first_broken (restart_rules most single bytes.now) }
 {
     if has_other_letters(bytes) {
         return Some(1);
     }
-    if number4(bytes, 4) != VERSION {
+    if has_other_version(bytes, single) {
         return Some(2);
     }
     if value.snapshot > 1 || value.log > 1 {
@@ -129,15 +140,15 @@ fn broken_rule(bytes: &[u8], value: &RestartSector, most: u32) -> Option<u8>
 
 /// What the sector is read as, or the lowest rule that it breaks.
 #[tactic(auto, unfolding(crate::specs::Restart::restart_of))]
-pub(crate) fn unseal(sector: &Sector, most: u32) -> Result<Option<RestartSector>, u8>
-    ensures { result ≡ restart_of most sector.now }
+pub(crate) fn unseal(sector: &Sector, most: u32, single: bool) -> Result<Option<RestartSector>, u8>
+    ensures { result ≡ restart_of most single sector.now }
 {
     let bytes = sector.bytes();
     if all_zero(bytes) {
         return Ok(None);
     }
     let value = fields(bytes);
-    match broken_rule(bytes, &value, most) {
+    match broken_rule(bytes, &value, most, single) {
         Some(rule) => Err(rule),
         None => Ok(Some(value)),
     }

@@ -13,7 +13,7 @@ use Rattle.restart_data.specs.Rules.{first_broken, unless_rule_broken}
 use Rattle.restart_data.specs.Snapshot.{snapshot_in}
 use Rattle.model_system.specs.System.{System}
 use Rattle.model_machine.specs.Machine.{LastingState, empty_state}
-use Rattle.model_image.specs.Areas.{log_first, snapshot_area, snapshot_first}
+use Rattle.model_image.specs.Areas.{is_single, log_first, snapshot_area, snapshot_first}
 use Rattle.model_image.specs.CutRecords.{records_cut}
 use Rattle.model_image.specs.Faults.{Fault, in_sector, or_fault, unless_any, unless_fault}
 use Rattle.model_image.specs.Replay.{Replay, replay_all, replay_one}
@@ -103,5 +103,5 @@ module _ (system : System) where
 
   pub found_in_order : (image : Image) (state : LastingState) → Recovers system image (Ok state) → IdsAscend state.next_id state.messages
   found_in_order image state recovers =
-      let restart = bound (in_sector 0 (restart_in (snapshot_area system) image)) _ state recovers.is in
+      let restart = bound (in_sector 0 (restart_in (snapshot_area system) (is_single system) image)) _ state recovers.is in
       ascending state.next_id state.messages (by_restart image recovers.is_cut_off restart.value state restart.gives)

@@ -25,7 +25,7 @@ use Rattle.model_session.specs.Session.{MayOpenWith, MayRefuse, OpensFirst, Open
 use Rattle.restart_data.specs.declared.restart.RestartSector.{RestartSector}
 use Rattle.restart_data.specs.Restart.{restart_in}
 use Rattle.model_machine.specs.declared.counts.Counter.{Counter}
-use Rattle.model_image.specs.Areas.{snapshot_area}
+use Rattle.model_image.specs.Areas.{is_single, snapshot_area}
 use Rattle.model_image.specs.Counters.{next_sequence}
 use Rattle.model_image.specs.Text.{text_in, first_difference}
 use Rattle.openings.specs.FirstImage.{sectors_needed}
@@ -519,8 +519,8 @@ module _ {D : Type 0} (state : D → DiskState) (is_disk : (disk : D) → IsDisk
   no_other : (place : ℕ) → Refuses (how_of false) idle.system idle.text (state idle.disk) (error_of (Text place)) → setting.tells ≡ true → HasText system source (state idle.disk).shown → ⊥
   no_other place refuses tells text =
       let other : IsOther idle.system idle.text (state idle.disk).shown place = refuses.found refl (tells_now tells) in
-      let has : restart_in (snapshot_area system) (state idle.disk).shown ≡ Ok (Some other.restart) =
-      subst (λ s. restart_in (snapshot_area s) (state idle.disk).shown ≡ Ok (Some other.restart)) sound.system_is other.has_restart in
+      let has : restart_in (snapshot_area system) (is_single system) (state idle.disk).shown ≡ Ok (Some other.restart) =
+      subst (λ s. restart_in (snapshot_area s) (is_single s) (state idle.disk).shown ≡ Ok (Some other.restart)) sound.system_is other.has_restart in
       no_difference idle.text (text_in (state idle.disk).shown other.restart.text) place (text other.restart has ∙ sym sound.text_is) other.differs
 
   shown_text : setting.tells ≡ true → IsOfText state system source handed (StandsDown outage) (state idle.disk).shown
@@ -725,11 +725,11 @@ module _ {D : Type 0} (state : D → DiskState) (is_disk : (disk : D) → IsDisk
   told_above number parts opening is (inl reopened) =
       let here : IsNumberedFrom idle.system number (state idle.disk).shown = subst (λ (s : System). IsNumberedFrom s number (state idle.disk).shown) (sym sound.system_is) is in
       let same : here.restart ≡ reopened.restart =
-      one_restart here.restart reopened.restart (restart_in (snapshot_area idle.system) (state idle.disk).shown) here.found reopened.found.has_restart in
+      one_restart here.restart reopened.restart (restart_in (snapshot_area idle.system) (is_single idle.system) (state idle.disk).shown) here.found reopened.found.has_restart in
       omega (arith, here.least, ap (λ (r : RestartSector). r.checkpoint) same, reopened.next.checkpoint)
   told_above number parts opening is (inr cold) =
       let here : IsNumberedFrom idle.system number (state idle.disk).shown = subst (λ (s : System). IsNumberedFrom s number (state idle.disk).shown) (sym sound.system_is) is in
-      absurd (no_restart here.restart (restart_in (snapshot_area idle.system) (state idle.disk).shown) cold.zeros here.found)
+      absurd (no_restart here.restart (restart_in (snapshot_area idle.system) (is_single idle.system) (state idle.disk).shown) cold.zeros here.found)
 
   shown_above : (gone : HasOpened state idle old false session) → setting.tells ≡ true → IsNumberedAt setting (StandsDown outage) (state idle.disk).shown
       → OpensAbove false setting outage gone.control.checkpoint

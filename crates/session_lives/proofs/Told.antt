@@ -6,7 +6,7 @@ use Rattle.std.specs.Option.{option_map}
 use Rattle.tm_disk.specs.Disk.{Image}
 use Rattle.model_system.specs.System.{System}
 use Rattle.model_machine.specs.Machine.{LastingState}
-use Rattle.model_image.specs.Areas.{snapshot_area}
+use Rattle.model_image.specs.Areas.{is_single, snapshot_area}
 use Rattle.model_image.specs.RecoveredState.{Recovers}
 use Rattle.model_image.specs.Text.{text_in, first_difference}
 use Rattle.model_image.proofs.Answers.{zeros_are_empty}
@@ -45,6 +45,6 @@ module _ (system : System) (source : List ℕ) (image : Image) (parts : OpeningP
 
   pub told_text : TellsOpening system source image (Ok (parts, opening)) → HasText system source image
   told_text (inl reopened) restart has =
-      ap (λ (r : RestartSector). text_in image r.text) (one_restart restart reopened.restart (restart_in (snapshot_area system) image) has reopened.found.has_restart)
+      ap (λ (r : RestartSector). text_in image r.text) (one_restart restart reopened.restart (restart_in (snapshot_area system) (is_single system) image) has reopened.found.has_restart)
       ∙ sym (same_text source (text_in image reopened.restart.text) reopened.found.has_text)
-  told_text (inr cold) restart has = absurd (no_restart restart (restart_in (snapshot_area system) image) cold.zeros has)
+  told_text (inr cold) restart has = absurd (no_restart restart (restart_in (snapshot_area system) (is_single system) image) cold.zeros has)

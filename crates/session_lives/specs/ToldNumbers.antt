@@ -4,7 +4,7 @@ use Rattle.tm_disk.specs.Disk.{Image, DiskState, IsSameDisk}
 use Rattle.model_system.specs.System.{System}
 use Rattle.model_machine.specs.declared.entry.Entry.{Entry}
 use Rattle.model_machine.specs.declared.entry.Entry.TheVariants.{Checked}
-use Rattle.model_image.specs.Areas.{snapshot_area}
+use Rattle.model_image.specs.Areas.{is_single, snapshot_area}
 use Rattle.restart_data.specs.declared.restart.RestartSector.{RestartSector}
 use Rattle.restart_data.specs.Restart.{restart_in}
 use Rattle.model_session.specs.Lives.{LifeState, LastLife}
@@ -32,7 +32,7 @@ numbers_so_far state = numbers_told state.lives ++ numbers_of (last_life state.s
 -- The image has a restart sector with this number.
 pub record HasCheckpoint (system : System) (number : ℕ) (image : Image) : Type 0 where
   pub restart : RestartSector
-  pub found : restart_in (snapshot_area system) image ≡ Ok (Some restart)
+  pub found : restart_in (snapshot_area system) (is_single system) image ≡ Ok (Some restart)
   pub number_is : restart.checkpoint ≡ number
 
 -- the disk shows this number in its restart sector, where it tells its contents

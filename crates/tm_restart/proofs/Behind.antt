@@ -13,7 +13,7 @@ use Rattle.log_records.specs.RecordReader.{◌>>=◌}
 use Rattle.restart_data.specs.declared.restart.RestartSector.{RestartSector}
 use Rattle.restart_data.specs.Fields.{bytes_at, number8_at}
 use Rattle.restart_data.specs.Restart.{restart_in}
-use Rattle.model_image.specs.Areas.{snapshot_area}
+use Rattle.model_image.specs.Areas.{is_single, snapshot_area}
 use Rattle.model_image.specs.Faults.{Fault, in_sector, unless_fault}
 use Rattle.model_image.specs.Slots.{image_rows_from}
 use Rattle.model_image.specs.RecoveredState.{snapshot_from, log_in, log_from, state_from, is_later, later_sector, state_with, state_by_restart, Recovers}
@@ -31,7 +31,7 @@ same_rows : (lasting end : LastingState) (rows : List (List Row)) → record las
 same_rows lasting end rows e = ap (λ (s : LastingState). s.rows) e
 
 -- The rows are those of the slots, by the snapshot and the records of the log.
-pub rows_found : (system : System) (image : Image) (r : RestartSector) (snapshot : List Record) (state : LastingState) → restart_in (snapshot_area system) image ≡ Ok (Some r) → snapshot_from system image r ≡ Ok snapshot → Recovers system image (Ok state)
+pub rows_found : (system : System) (image : Image) (r : RestartSector) (snapshot : List Record) (state : LastingState) → restart_in (snapshot_area system) (is_single system) image ≡ Ok (Some r) → snapshot_from system image r ≡ Ok snapshot → Recovers system image (Ok state)
     → image_rows_from system image snapshot (log_in system image r).records ≡ Ok state.rows
 rows_found system image r snapshot state is has recovers =
     let whole : state_with system image recovers.is_cut_off r ≡ Ok state =

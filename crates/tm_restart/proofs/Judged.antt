@@ -9,7 +9,7 @@ use Rattle.log_records.specs.declared.record.Record.{Record}
 use Rattle.log_records.specs.RecordReader.{◌>>=◌}
 use Rattle.restart_data.specs.declared.restart.RestartSector.{RestartSector}
 use Rattle.restart_data.specs.Restart.{restart_in}
-use Rattle.model_image.specs.Areas.{snapshot_area, log_first}
+use Rattle.model_image.specs.Areas.{is_single, snapshot_area, log_first}
 use Rattle.model_image.specs.CutRecords.{IsRecordCutOff}
 use Rattle.model_image.specs.Faults.{Fault, in_sector, or_fault, unless_fault}
 use Rattle.model_image.specs.Replay.{replay_of}
@@ -19,7 +19,7 @@ use Rattle.model_image.specs.RecoveredState.{snapshot_from, log_in, log_from, st
 use Rattle.model_image.proofs.Answers.{nothing_cut_off}
 
 -- the restart sector breaks a rule
-pub bad_restart : (system : System) (image : Image) (rule : ℕ) → restart_in (snapshot_area system) image ≡ Err rule → Recovers system image (Err (rule, 0))
+pub bad_restart : (system : System) (image : Image) (rule : ℕ) → restart_in (snapshot_area system) (is_single system) image ≡ Err rule → Recovers system image (Err (rule, 0))
 bad_restart system image rule is = record {
   is_cut_off = true;
   decides = (λ _. subst (λ (l : List ℕ). IsRecordCutOff l) (sym (ap (rest_by system image) is)) nothing_cut_off, λ _. refl);
@@ -44,7 +44,7 @@ of_log system image r snapshot log = state_from system r snapshot log >>= λ las
 abbrev of_snapshot : System → Image → RestartSector → Bool → List Record → Result LastingState Fault
 of_snapshot system image r cut_off snapshot = log_from system image r cut_off >>= λ log. of_log system image r snapshot log
 
-module _ (system : System) (image : Image) (r : RestartSector) (is : restart_in (snapshot_area system) image ≡ Ok (Some r)) (cut_off : Bool) (decides : Decides cut_off (IsRecordCutOff (log_in system image r).rest)) where
+module _ (system : System) (image : Image) (r : RestartSector) (is : restart_in (snapshot_area system) (is_single system) image ≡ Ok (Some r)) (cut_off : Bool) (decides : Decides cut_off (IsRecordCutOff (log_in system image r).rest)) where
   rest_is : log_rest system image ≡ (log_in system image r).rest
   rest_is = ap (rest_by system image) is
 

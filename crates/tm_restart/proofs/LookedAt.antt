@@ -8,7 +8,7 @@ use Rattle.restart_data.specs.declared.restart.RestartSector.{RestartSector}
 use Rattle.restart_data.specs.Restart.{restart_in}
 use Rattle.seg_store.specs.Slots.{rows_of_slots}
 use Rattle.seg_store.specs.ChangedSlots.{stored}
-use Rattle.model_image.specs.Areas.{snapshot_area, log_first}
+use Rattle.model_image.specs.Areas.{is_single, snapshot_area, log_first}
 use Rattle.model_image.specs.CutRecords.{IsRecordCutOff}
 use Rattle.model_image.specs.Faults.{Fault, unless_fault}
 use Rattle.model_image.specs.Slots.{all_slots, slot_fault, rows_of_databases}
@@ -21,7 +21,7 @@ use Rattle.tm_restart.specs.ReplayedImage.{IsReplayed}
 use Rattle.tm_restart.proofs.Judged.{bad_slot, bad_later, good_image}
 use Rattle.tm_restart.proofs.Stores.{stores_loaded, rows_found}
 
-module _ (system : System) (image : Image) (r : RestartSector) (is : restart_in (snapshot_area system) image ≡ Ok (Some r)) (looked : Looked) (rp : IsReplayed system image r looked.reread) where
+module _ (system : System) (image : Image) (r : RestartSector) (is : restart_in (snapshot_area system) (is_single system) image ≡ Ok (Some r)) (looked : Looked) (rp : IsReplayed system image r looked.reread) where
   decides : Decides true (IsRecordCutOff (log_in system image r).rest)
   decides = (λ _. rp.cut_off, λ _. refl)
 
@@ -40,7 +40,7 @@ module _ (system : System) (image : Image) (r : RestartSector) (is : restart_in 
       bad_later system image r is true decides rp.snapshot rp.has refl rp.lasting rp.replays (map (λ store. rows_of_slots store.slots) (map stored looked.named.loaded.stores))
       (rows_found system image rp.snapshot (log_in system image r).records looked.named.loaded.stores made slotted none) (24, sector) (ap (option_map (λ sector. (24, sector))) later)
 
-pub look_bad : (system : System) (image : Image) (r : RestartSector) → restart_in (snapshot_area system) image ≡ Ok (Some r) → (reread : Reread) (rp : IsReplayed system image r reread) (fault : Fault) → slot_fault (all_slots system image rp.snapshot (log_in system image r).records 0 system.databases) ≡ Some fault → Recovers system image (Err fault)
+pub look_bad : (system : System) (image : Image) (r : RestartSector) → restart_in (snapshot_area system) (is_single system) image ≡ Ok (Some r) → (reread : Reread) (rp : IsReplayed system image r reread) (fault : Fault) → slot_fault (all_slots system image rp.snapshot (log_in system image r).records 0 system.databases) ≡ Some fault → Recovers system image (Err fault)
 look_bad system image r is reread rp fault bad =
     bad_slot system image r is true (λ _. rp.cut_off, λ _. refl) rp.snapshot rp.has refl rp.lasting rp.replays fault
     (ap (λ (o : Option Fault). unless_fault o (rows_of_databases (all_slots system image rp.snapshot (log_in system image r).records 0 system.databases))) bad)

@@ -10,7 +10,7 @@ use Rattle.restart_data.specs.declared.restart.RestartSector.{RestartSector}
 use Rattle.restart_data.specs.Restart.{restart_in}
 use Rattle.checkpointing.specs.DefinitionText.{HasText, IsNumberedFrom, KeepsNumber}
 use Rattle.model_image.specs.AlikeImages.{RecoversAlike}
-use Rattle.model_image.specs.Areas.{snapshot_area}
+use Rattle.model_image.specs.Areas.{is_single, snapshot_area}
 use Rattle.model_image.specs.Faults.{Fault}
 use Rattle.model_image.specs.RecoveredState.{Recovers}
 use Rattle.model_image.proofs.Answers.{one_answer_of, zeros_are_empty}
@@ -66,13 +66,13 @@ module _ (system : System) (text : List ℕ) (old mid : DiskState) (keeps : Keep
   pub read_counts_then : (new : DiskState) → Within (RaisesCounts 1 system) mid new → Within (RaisesCounts 1 system) old new
   read_counts_then new after = reads_then (RaisesCounts 1 system) (λ image. same_raises 1 system image image refl) old mid keeps new after
 
-  module _ (new : DiskState) (is_disk : IsDisk old) (only : Only old.shown old) (zeros : IsTrue old.tells → restart_in (snapshot_area system) old.shown ≡ Ok None) where
+  module _ (new : DiskState) (is_disk : IsDisk old) (only : Only old.shown old) (zeros : IsTrue old.tells → restart_in (snapshot_area system) (is_single system) old.shown ≡ Ok None) where
     emptied : (a e : Image) → old.may_leave a → Recovers system e (Ok (empty_state system)) → RecoversAlike system a e
     emptied a e left empty answer is =
         ⊎_elim
         (λ (tells : IsTrue old.tells).
         subst (λ (found : Result LastingState Fault). Recovers system e found)
-        (one_answer_of system a (Ok (empty_state system)) answer (zeros_are_empty system a (subst (λ (i : Image). restart_in (snapshot_area system) i ≡ Ok None) (sym (only a left)) (zeros tells))) is)
+        (one_answer_of system a (Ok (empty_state system)) answer (zeros_are_empty system a (subst (λ (i : Image). restart_in (snapshot_area system) (is_single system) i ≡ Ok None) (sym (only a left)) (zeros tells))) is)
         empty)
         (λ (silent : old.tells ≡ false). absurd (leaves_none old is_disk silent a left))
         (cases_Bool old.tells)
@@ -85,7 +85,7 @@ module _ (system : System) (text : List ℕ) (old mid : DiskState) (keeps : Keep
     none_text a left restart found =
         ⊎_elim
         (λ (tells : IsTrue old.tells).
-        absurd (no_restart restart (restart_in (snapshot_area system) a) (subst (λ (i : Image). restart_in (snapshot_area system) i ≡ Ok None) (sym (only a left)) (zeros tells)) found))
+        absurd (no_restart restart (restart_in (snapshot_area system) (is_single system) a) (subst (λ (i : Image). restart_in (snapshot_area system) (is_single system) i ≡ Ok None) (sym (only a left)) (zeros tells)) found))
         (λ (silent : old.tells ≡ false). absurd (leaves_none old is_disk silent a left))
         (cases_Bool old.tells)
 
@@ -94,7 +94,7 @@ module _ (system : System) (text : List ℕ) (old mid : DiskState) (keeps : Keep
     none_number a e left low is =
         ⊎_elim
         (λ (tells : IsTrue old.tells).
-        absurd (no_restart is.restart (restart_in (snapshot_area system) a) (subst (λ (i : Image). restart_in (snapshot_area system) i ≡ Ok None) (sym (only a left)) (zeros tells)) is.found))
+        absurd (no_restart is.restart (restart_in (snapshot_area system) (is_single system) a) (subst (λ (i : Image). restart_in (snapshot_area system) (is_single system) i ≡ Ok None) (sym (only a left)) (zeros tells)) is.found))
         (λ (silent : old.tells ≡ false). absurd (leaves_none old is_disk silent a left))
         (cases_Bool old.tells)
 
@@ -119,7 +119,7 @@ module _ (system : System) (text : List ℕ) (old mid : DiskState) (keeps : Keep
 
 -- ---- what is told
 
-pub cold_tells : (system : System) (text : List ℕ) (image : Image) (result : Result (OpeningParts × LastingState) OpenError) → restart_in (snapshot_area system) image ≡ Ok None → TellsCold system result → TellsOpening system text image result
+pub cold_tells : (system : System) (text : List ℕ) (image : Image) (result : Result (OpeningParts × LastingState) OpenError) → restart_in (snapshot_area system) (is_single system) image ≡ Ok None → TellsCold system result → TellsOpening system text image result
 cold_tells system text image (Ok opened) zeros tells = inr (record { zeros = zeros; begun = tells })
 cold_tells system text image (Err (TooSmall needed has)) zeros tells = tt
 cold_tells system text image (Err (BadImage rule sector)) zeros tells = absurd tells

@@ -13,7 +13,7 @@ use Rattle.restart_data.specs.Rules.{unless_rule_broken}
 use Rattle.restart_data.specs.Restart.{IsRestart, restart_in}
 use Rattle.restart_data.specs.Snapshot.{snapshot_sectors_of, snapshot_in}
 use Rattle.model_image.specs.SectorsAhead.{NoneAhead}
-use Rattle.model_image.specs.Areas.{snapshot_area, snapshot_first, log_first}
+use Rattle.model_image.specs.Areas.{is_single, snapshot_area, snapshot_first, log_first}
 use Rattle.model_image.specs.CutRecords.{Cut, cut_of, records_cut, IsRecordCutOff}
 use Rattle.model_image.specs.Faults.{Fault, in_sector, unless_any, or_fault, unless_fault}
 use Rattle.model_image.specs.Snapshot.{snapshot_rules}
@@ -41,8 +41,8 @@ pub record IsNextLife (system : System) (r now : RestartSector) (bytes : List �
 module _ (system : System) (r : RestartSector) (snapshot : List Record) (given : GivenSlots) (bytes : List ℕ) (now : RestartSector) (a e : Image)
     (before : IsUnprepared system r snapshot given now a) (done : IsRewritten system given bytes now a e) (next : IsNextLife system r now bytes)
     (records : List Record) (state : LastingState) (tells : TellsState system bytes records state) (recovers : Recovers system a (Ok state)) where
-  pub renewed_restart : restart_in (snapshot_area system) e ≡ Ok (Some now)
-  renewed_restart = done.restart (snapshot_area system) next.fits
+  pub renewed_restart : restart_in (snapshot_area system) (is_single system) e ≡ Ok (Some now)
+  renewed_restart = done.restart (snapshot_area system) (is_single system) next.fits
 
   pub renewed_snapshot : snapshot_from system e now ≡ Ok records
   renewed_snapshot =

@@ -25,7 +25,7 @@ use Rattle.seg_store.specs.Stores.{empty_store, empty_stores}
 use Rattle.system_types.specs.ValidSystem.{IsSystem}
 use Rattle.model_image.specs.SectorsAhead.{NoneAhead}
 use Rattle.model_image.specs.HeldStores.{HoldsStores}
-use Rattle.model_image.specs.Areas.{snapshot_area, log_first, data_first}
+use Rattle.model_image.specs.Areas.{is_single, snapshot_area, log_first, data_first}
 use Rattle.model_image.specs.Slots.{used_in, slot_bytes_in, is_wrong_length}
 use Rattle.model_image.specs.Slots.Source.{Spelled}
 use Rattle.model_image.specs.RecoveredState.{snapshot_from}
@@ -176,7 +176,7 @@ module _ (system : System) (text bytes : List ℕ) (parts : OpeningParts) (state
   -- ---- at any moment
 
   module _ (short : length text ≤ 262144) where
-    no_restart : (after : Image) → restart_in (snapshot_area system) after ≡ Ok None → HasText system text after
+    no_restart : (after : Image) → restart_in (snapshot_area system) (is_single system) after ≡ Ok None → HasText system text after
     no_restart after zeros = λ restart found. absurd (none_or_some restart (sym zeros ∙ found))
 
     first_text : (after : Image) → IsFirstImage system text bytes now after → HasText system text after
@@ -188,7 +188,7 @@ module _ (system : System) (text bytes : List ℕ) (parts : OpeningParts) (state
     empties before after begins =
         ⊎_elim (λ (same : after ≡ before). inl same)
         (λ rest. ⊎_elim
-        (λ (zeros : restart_in (snapshot_area system) after ≡ Ok None). inr (record { recovers = zeros_are_empty system after zeros; has_text = no_restart after zeros }))
+        (λ (zeros : restart_in (snapshot_area system) (is_single system) after ≡ Ok None). inr (record { recovers = zeros_are_empty system after zeros; has_text = no_restart after zeros }))
         (λ (is : IsFirstImage system text bytes now after). inr (record { recovers = first_recovers system text bytes now made.defined made.records made.first after is; has_text = first_text after is }))
         rest)
         begins
@@ -201,7 +201,7 @@ module _ (system : System) (text bytes : List ℕ) (parts : OpeningParts) (state
     raises before after begins =
         ⊎_elim (λ (same : after ≡ before). same_raises 1 system before after same)
         (λ rest. ⊎_elim
-        (λ (zeros : restart_in (snapshot_area system) after ≡ Ok None). λ high counts restart found. absurd (none_or_some restart (sym zeros ∙ found)))
+        (λ (zeros : restart_in (snapshot_area system) (is_single system) after ≡ Ok None). λ high counts restart found. absurd (none_or_some restart (sym zeros ∙ found)))
         (λ (is : IsFirstImage system text bytes now after). λ high counts.
         renewed_up_to system text now 1 (empty_state system) after (renewed_by short after is) made.valid (high + 1)
         (omega (arith, made.first.epoch)) (omega (arith, made.first.sequence)) (omega (arith, made.first.checkpoint)) (omega arith) (omega arith))

@@ -14,7 +14,7 @@ use Rattle.restart_data.specs.Restart.{restart_in, restart_of}
 use Rattle.model_image.specs.AlikeImages.{RecoversAlike}
 use Rattle.model_image.specs.Faults.{Fault}
 use Rattle.model_image.proofs.Answers.{one_answer_of}
-use Rattle.model_image.specs.Areas.{snapshot_area, snapshot_first}
+use Rattle.model_image.specs.Areas.{is_single, snapshot_area, snapshot_first}
 use Rattle.model_image.specs.CutRecords.{records_cut}
 use Rattle.model_image.specs.RecoveredState.{Recovers}
 use Rattle.model_image.specs.Slots.{named_by}
@@ -119,11 +119,11 @@ module _ (system : System) (r : RestartSector) (snapshot : List Record) (given :
 
   -- the restart sector stays
   pub unread_number : KeepsNumber system a e
-  unread_number low is = record { restart = is.restart; found = ap (restart_of (snapshot_area system)) (unread_stays 0 (omega arith)) ∙ is.found; least = is.least }
+  unread_number low is = record { restart = is.restart; found = ap (restart_of (snapshot_area system) (is_single system)) (unread_stays 0 (omega arith)) ∙ is.found; least = is.least }
 
   pub unread_text : (text : List ℕ) → first_difference text (text_in a r.text) ≡ None → HasText system text e
   unread_text text none = λ restart found.
-      let again : restart_in (snapshot_area system) e ≡ restart_in (snapshot_area system) a = ap (restart_of (snapshot_area system)) (unread_stays 0 (omega arith)) in
+      let again : restart_in (snapshot_area system) (is_single system) e ≡ restart_in (snapshot_area system) (is_single system) a = ap (restart_of (snapshot_area system) (is_single system)) (unread_stays 0 (omega arith)) in
       ap (λ (q : RestartSector). text_in e q.text) (sym (same_restart r restart (sym before.restart ∙ sym again ∙ found)))
       ∙ ap (λ (l : List ℕ). take r.text l) (bytes_same 64 a e 1 (λ k low high. unread_stays k high))
       ∙ sym (one_text text (text_in a r.text) none)

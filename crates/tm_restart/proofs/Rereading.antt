@@ -13,7 +13,7 @@ use Rattle.restart_data.specs.declared.restart.RestartSector.{RestartSector}
 use Rattle.restart_data.specs.Restart.{restart_in}
 use Rattle.restart_data.specs.Rules.{first_broken, unless_rule_broken}
 use Rattle.restart_data.specs.Snapshot.{snapshot_in}
-use Rattle.model_image.specs.Areas.{snapshot_area, snapshot_first, log_first}
+use Rattle.model_image.specs.Areas.{is_single, snapshot_area, snapshot_first, log_first}
 use Rattle.model_image.specs.Counters.{next_sequence}
 use Rattle.model_image.specs.CutRecords.{cut_of, records_cut, IsRecordCutOff}
 use Rattle.model_image.specs.Faults.{Fault, in_sector, unless_any, or_fault}
@@ -67,7 +67,7 @@ module _ (system : System) (image : Image) (r : RestartSector) where
         later = later;
       }
 
-  module _ (is : restart_in (snapshot_area system) image ≡ Ok (Some r)) where
+  module _ (is : restart_in (snapshot_area system) (is_single system) image ≡ Ok (Some r)) where
     pub reread_bad : (snapshot : List Record) (rule : ℕ) → snapshot_from system image r ≡ Ok snapshot → TellsLog system snapshot (log_bytes system image r) (Err (Bad rule)) → Recovers system image (Err (rule, log_first system r.log))
     reread_bad snapshot rule has told =
         let cut = told.is_cut_off in

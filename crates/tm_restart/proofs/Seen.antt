@@ -9,7 +9,7 @@ use Rattle.restart_data.specs.declared.restart.RestartSector.{RestartSector}
 use Rattle.restart_data.specs.Restart.{restart_in}
 use Rattle.seg_store.specs.Slots.{rows_of_slots}
 use Rattle.seg_store.specs.ChangedSlots.{stored}
-use Rattle.model_image.specs.Areas.{snapshot_area}
+use Rattle.model_image.specs.Areas.{is_single, snapshot_area}
 use Rattle.model_image.specs.Text.{text_in, first_difference}
 use Rattle.model_image.specs.RecoveredState.{Recovers}
 use Rattle.image_records.specs.KeptState.{KeptState}
@@ -33,7 +33,7 @@ place_fits [] (b ∷ ys) n e = let is : 0 ≡ n = cc in omega (arith, is)
 place_fits (a ∷ xs) [] n e = let is : 0 ≡ n = cc in omega (arith, is)
 place_fits (a ∷ xs) (b ∷ ys) n e = by_place (a == b) (first_difference xs ys) n (length xs) (place_fits xs ys) e
 
-pub other_seen : (system : System) (text : List ℕ) (image : Image) (restart : RestartSector) (place told : ℕ) → restart_in (snapshot_area system) image ≡ Ok (Some restart) → Some place ≡ first_difference text (text_in image restart.text)
+pub other_seen : (system : System) (text : List ℕ) (image : Image) (restart : RestartSector) (place told : ℕ) → restart_in (snapshot_area system) (is_single system) image ≡ Ok (Some restart) → Some place ≡ first_difference text (text_in image restart.text)
     → (place ≤ length text → told ≡ place) → IsOther system text image told
 other_seen system text image restart place told has differs least =
     let same : told ≡ place = least (place_fits text (text_in image restart.text) place (sym differs)) in
@@ -47,17 +47,17 @@ one_sector a b read one other = cc
 no_sector : (a : RestartSector) (rule : ℕ) (read : Result (Option RestartSector) ℕ) → read ≡ Err rule → read ≡ Ok (Some a) → ⊥
 no_sector a rule read one other = cc
 
-pub bad_first : (system : System) (text : List ℕ) (image : Image) (rule : ℕ) → restart_in (snapshot_area system) image ≡ Err rule → IsBad system text image rule 0
+pub bad_first : (system : System) (text : List ℕ) (image : Image) (rule : ℕ) → restart_in (snapshot_area system) (is_single system) image ≡ Err rule → IsBad system text image rule 0
 bad_first system text image rule is = record {
   recovers = bad_restart system image rule is;
-  same = λ restart has. absurd (no_sector restart rule (restart_in (snapshot_area system) image) is has);
+  same = λ restart has. absurd (no_sector restart rule (restart_in (snapshot_area system) (is_single system) image) is has);
 }
 
-pub bad_seen : (system : System) (text : List ℕ) (image : Image) (restart : RestartSector) (rule sector : ℕ) → restart_in (snapshot_area system) image ≡ Ok (Some restart) → first_difference text (text_in image restart.text) ≡ None
+pub bad_seen : (system : System) (text : List ℕ) (image : Image) (restart : RestartSector) (rule sector : ℕ) → restart_in (snapshot_area system) (is_single system) image ≡ Ok (Some restart) → first_difference text (text_in image restart.text) ≡ None
     → Recovers system image (Err (rule, sector)) → IsBad system text image rule sector
 bad_seen system text image restart rule sector has same recovers = record {
   recovers = recovers;
-  same = λ other is. subst (λ (r : RestartSector). first_difference text (text_in image r.text) ≡ None) (one_sector restart other (restart_in (snapshot_area system) image) has is) same;
+  same = λ other is. subst (λ (r : RestartSector). first_difference text (text_in image r.text) ≡ None) (one_sector restart other (restart_in (snapshot_area system) (is_single system) image) has is) same;
 }
 
 -- ---- counters

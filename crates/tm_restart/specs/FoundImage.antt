@@ -6,7 +6,7 @@ use Rattle.model_machine.specs.Machine.{LastingState}
 use Rattle.restart_data.specs.declared.restart.RestartSector.{RestartSector}
 use Rattle.restart_data.specs.Restart.{restart_in}
 use Rattle.restart_data.specs.WrittenSectors.{IsValid}
-use Rattle.model_image.specs.Areas.{snapshot_area}
+use Rattle.model_image.specs.Areas.{is_single, snapshot_area}
 use Rattle.model_image.specs.Text.{text_in, first_difference}
 use Rattle.openings.specs.FirstImage.{sectors_needed}
 use Rattle.image_reading.specs.NamedBytes.{AreNamedBytes}
@@ -37,7 +37,7 @@ pub record IsFoundJudged (system : System) (text : List ℕ) (found : Found) : T
 
 -- The image has this restart sector, the text is its definition's, and it comes to what was looked at.
 pub record IsSeen (system : System) (text : List ℕ) (image : Image) (found : Found) : Type 0 where
-  pub has_restart : restart_in (snapshot_area system) image ≡ Ok (Some found.restart)
+  pub has_restart : restart_in (snapshot_area system) (is_single system) image ≡ Ok (Some found.restart)
   pub has_text : first_difference text (text_in image found.restart.text) ≡ None
   pub looked : IsLooked system image found.restart found.looked
 
@@ -54,7 +54,7 @@ FoundAlways system text (Err error) = Unit {0}
 -- Nothing is found exactly where sector 0 is all zeros.
 abbrev pub TellsFind : System → List ℕ → Image → Result (Option Found) OpenError → Type 0
 TellsFind system text image (Ok (Some found)) = IsSeen system text image found
-TellsFind system text image (Ok None) = restart_in (snapshot_area system) image ≡ Ok None
+TellsFind system text image (Ok None) = restart_in (snapshot_area system) (is_single system) image ≡ Ok None
 TellsFind system text image (Err error) = TellsOpening system text image (Err error)
 
 abbrev pub FindAlways : System → List ℕ → Result (Option Found) OpenError → Type 0

@@ -35,7 +35,7 @@ IsSectorWritten system given now k sector = (k ≡ 0) ⊎ (InArea (snapshot_firs
 
 -- The image has this restart sector, these bytes as its snapshot, and the slots as they are given. All other sectors stay.
 pub record IsRewritten (system : System) (given : GivenSlots) (bytes : List ℕ) (now : RestartSector) (before after : Image) : Type 0 where
-  pub restart : (most : ℕ) → now.sectors ≤ most → restart_in most after ≡ Ok (Some now)
+  pub restart : (most : ℕ) (single : Bool) → now.sectors ≤ most → restart_in most single after ≡ Ok (Some now)
   pub snapshot : snapshot_in (snapshot_sectors_of (length bytes)) after (snapshot_first system now.snapshot) now.checkpoint ≡ Ok bytes
   pub holds : (place number : ℕ) (slots : List (ℕ × List ℕ)) (given_bytes : List ℕ) → place < length system.databases → slice_get given place ≡ Some slots → given_to number slots ≡ Some given_bytes
       → sector_at after (data_first system place + number) ≡ data_sector given_bytes

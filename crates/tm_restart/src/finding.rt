@@ -4,14 +4,14 @@ ghost use Rattle.tm_disk.specs.Disk.{Keeps};
 ghost use Rattle.model_machine.specs.Machine.{LastingState as OneState};
 ghost use Rattle.restart_data.specs.Restart.{restart_in};
 ghost use Rattle.restart_data.specs.WrittenSectors.{IsValid};
-ghost use Rattle.model_image.specs.Areas.{snapshot_area};
+ghost use Rattle.model_image.specs.Areas.{is_single, snapshot_area};
 ghost use Rattle.model_image.specs.Text as texts;
 ghost use Rattle.openings.specs.FirstImage.{sectors_needed};
 ghost use Rattle.openings.specs.OpenedImage.{counters, first_spent};
 ghost use Rattle.tm_restart.specs.FoundImage.{SizeKnown, TellsFound, TellsFind, FoundAlways, FindAlways, FoundCause};
 
 use crate::looking::{Looked, look};
-use image_loading::snapshot_area;
+use image_loading::{is_single, snapshot_area};
 use image_reading::{ReadFault, text_difference};
 use openings::{Counter, Counts, OpenError, spent_counter};
 use restart_data::{RestartFault, RestartSector, read_restart};
@@ -53,7 +53,7 @@ fn find_rest<D: Disk>(
     requires size { sectors_needed system.now ≤ (D.state disk.old).size }
     requires valid { IsValid (snapshot_area system.now) restart }
     requires text_size { length text.now ≡ restart.text }
-    requires has { IsTrue (D.state disk.old).tells → restart_in (snapshot_area system.now) (D.state disk.old).shown ≡ Ok (Some restart) }
+    requires has { IsTrue (D.state disk.old).tells → restart_in (snapshot_area system.now) (is_single system.now) (D.state disk.old).shown ≡ Ok (Some restart) }
     requires same { IsTrue (D.state disk.old).tells → texts.first_difference text.now (texts.text_in (D.state disk.old).shown restart.text) ≡ None }
     ensures size { SizeKnown system.now (D.state disk.old).size result }
     ensures value { IsTrue (D.state disk.old).tells → TellsFound system.now text.now (D.state disk.old).shown result }
@@ -95,7 +95,7 @@ fn find_behind<D: Disk>(
     requires text { length text.now ≤ 262144 }
     requires size { sectors_needed system.now ≤ (D.state disk.old).size }
     requires valid { IsValid (snapshot_area system.now) restart }
-    requires has { IsTrue (D.state disk.old).tells → restart_in (snapshot_area system.now) (D.state disk.old).shown ≡ Ok (Some restart) }
+    requires has { IsTrue (D.state disk.old).tells → restart_in (snapshot_area system.now) (is_single system.now) (D.state disk.old).shown ≡ Ok (Some restart) }
     ensures size { SizeKnown system.now (D.state disk.old).size result }
     ensures value { IsTrue (D.state disk.old).tells → TellsFound system.now text.now (D.state disk.old).shown result }
     ensures always { FoundAlways system.now text.now result }
@@ -125,7 +125,7 @@ pub fn find<D: Disk>(
     ensures keeps { Keeps (D.state disk.old) (D.state disk.new) }
     ensures cause { FoundCause result (D.state disk.old) (D.state disk.new) }
 {
-    let restart = match read_restart(disk, snapshot_area(system)) {
+    let restart = match read_restart(disk, snapshot_area(system), is_single(system)) {
         Ok(Some(restart)) => restart,
         Ok(None) => return Ok(None),
         Err(RestartFault::Bad(rule)) => return Err(OpenError::BadImage(rule, 0)),

@@ -3,7 +3,7 @@ ghost use Rattle.std.specs.Prelude.{◌≡◌, ◌+◌, ◌≤◌, Some, Ok, IsT
 ghost use Rattle.tm_disk.specs.Disk.{Keeps};
 ghost use Rattle.restart_data.specs.Restart.{restart_in};
 ghost use Rattle.restart_data.specs.WrittenSectors.{IsValid};
-ghost use Rattle.model_image.specs.Areas.{snapshot_area, data_first};
+ghost use Rattle.model_image.specs.Areas.{is_single, snapshot_area, data_first};
 ghost use Rattle.image_reading.specs.NamedBytes.{AreNamedBytes};
 ghost use Rattle.image_loading.specs.LoadedStores.{AreAllMade};
 ghost use Rattle.tm_restart.specs.ReplayedImage.{ComesBehind};
@@ -36,7 +36,7 @@ pub fn look<D: Disk>(
 ) -> Result<Looked, ReadFault>
     requires areas { data_first system.now (length system.now.databases) ≤ (D.state disk.old).size }
     requires valid { IsValid (snapshot_area system.now) restart.now }
-    requires has { IsTrue (D.state disk.old).tells → restart_in (snapshot_area system.now) (D.state disk.old).shown ≡ Ok (Some restart.now) }
+    requires has { IsTrue (D.state disk.old).tells → restart_in (snapshot_area system.now) (is_single system.now) (D.state disk.old).shown ≡ Ok (Some restart.now) }
     ensures behind { IfOk result (λ looked. ComesBehind system.now looked.reread.replayed) }
     ensures least { IfOk result (λ looked. restart.now.sequence ≤ looked.reread.next_sequence) }
     ensures few { IfOk result (λ looked. looked.reread.next_sequence ≤ restart.now.sequence + system.now.logs) }

@@ -5,7 +5,7 @@ ghost use Rattle.log_records.specs.declared.record.Record.{Record as OneRecord};
 ghost use Rattle.tm_disk.specs.Disk.{Keeps};
 ghost use Rattle.restart_data.specs.Restart.{restart_in};
 ghost use Rattle.restart_data.specs.WrittenSectors.{IsValid};
-ghost use Rattle.model_image.specs.Areas.{snapshot_area, data_first};
+ghost use Rattle.model_image.specs.Areas.{is_single, snapshot_area, data_first};
 ghost use Rattle.model_image.specs.Slots.{is_image_of};
 ghost use Rattle.image_records.specs.RecordAnswers.{IsSnapshotStateOf, TellsLog};
 ghost use Rattle.image_reading.specs.ReadLog.{IsCutInto, ComesFromBytes};
@@ -56,7 +56,7 @@ pub fn read_replayed<D: Disk>(
 ) -> Result<Reread, ReadFault>
     requires areas { data_first system.now (length system.now.databases) ≤ (D.state disk.old).size }
     requires valid { IsValid (snapshot_area system.now) restart.now }
-    requires has { IsTrue (D.state disk.old).tells → restart_in (snapshot_area system.now) (D.state disk.old).shown ≡ Ok (Some restart.now) }
+    requires has { IsTrue (D.state disk.old).tells → restart_in (snapshot_area system.now) (is_single system.now) (D.state disk.old).shown ≡ Ok (Some restart.now) }
     ensures behind { IfOk result (λ read. ComesBehind system.now read.replayed) }
     ensures least { IfOk result (λ read. restart.now.sequence ≤ read.next_sequence) }
     ensures few { IfOk result (λ read. read.next_sequence ≤ restart.now.sequence + system.now.logs) }

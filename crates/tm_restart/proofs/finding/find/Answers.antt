@@ -1,7 +1,8 @@
-use Rattle.std.proofs.Common.{ℕ, Ok, Err, sym, subst, ap, ◌∙◌}
+use Rattle.std.proofs.Common.{ℕ, Bool, Ok, Err, sym, subst, ap, ◌∙◌}
 use Rattle.tm_disk.specs.Disk.{Image}
 use Rattle.tm_disk.proofs.Words.{keeps_on}
 use Rattle.restart_data.specs.Restart.{restart_in}
+use Rattle.model_image.specs.Areas.{is_single}
 use Rattle.restart_data.specs.WrittenSectors.{TellsRestart}
 use Rattle.tm_restart.specs.FoundImage.{TellsFound}
 use Rattle.tm_restart.proofs.Seen.{bad_first}
@@ -13,8 +14,9 @@ returns-in-Err-Bad-clause-value g c tells =
     let old = g.D.Disk.state c.args.disk.now in
     rw (c.in-Err-Bad.field-0-is)
     (bad_first c.args.system.now c.args.text.now old.shown c.in-Err-Bad.rule
-    (ap (λ (n : ℕ). restart_in n old.shown) (sym c.snapshot_area.ensures.value)
-    ∙ subst (λ fault. TellsRestart (Err fault) (restart_in c.snapshot_area.result old.shown)) c.in-Err-Bad.field-0-is (c.in-Err-Bad.ensures.value tells)))
+    (ap (λ (n : ℕ). restart_in n (is_single c.args.system.now) old.shown) (sym c.snapshot_area.ensures.value)
+    ∙ ap (λ (b : Bool). restart_in c.snapshot_area.result b old.shown) (sym c.is_single.ensures)
+    ∙ subst (λ fault. TellsRestart (Err fault) (restart_in c.snapshot_area.result c.is_single.result old.shown)) c.in-Err-Bad.field-0-is (c.in-Err-Bad.ensures.value tells)))
 
 pub returns-in-Ok-clause-value : goal.returns-in-Ok-clause-value
 returns-in-Ok-clause-value g c =

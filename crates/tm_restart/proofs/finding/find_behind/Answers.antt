@@ -2,7 +2,7 @@ use Rattle.std.proofs.Common.{◌≡◌, Ok, Some, None, sym, ◌∙◌, arith}
 use Rattle.tm_disk.specs.Disk.{Image}
 use Rattle.tm_disk.proofs.Words.{keeps_on}
 use Rattle.restart_data.specs.Restart.{restart_in}
-use Rattle.model_image.specs.Areas.{snapshot_area}
+use Rattle.model_image.specs.Areas.{is_single, snapshot_area}
 use Rattle.model_image.specs.Text.{text_in, first_difference}
 use Rattle.tm_restart.specs.FoundImage.{TellsFound}
 use Rattle.tm_restart.proofs.Seen.{other_seen}
@@ -14,7 +14,7 @@ pub find_rest-requires-clause-has : goal.find_rest-requires-clause-has
 find_rest-requires-clause-has g c =
     let old = g.D.Disk.state c.args.disk.now in
     let mid = g.D.Disk.state c.text_difference.new.disk in
-    told_behind (λ (i : Image). restart_in (snapshot_area c.args.system.now) i ≡ Ok (Some c.args.restart)) old mid c.in-Ok-None.ensures.keeps c.requires.has
+    told_behind (λ (i : Image). restart_in (snapshot_area c.args.system.now) (is_single c.args.system.now) i ≡ Ok (Some c.args.restart)) old mid c.in-Ok-None.ensures.keeps c.requires.has
 
 pub find_rest-requires-clause-same : goal.find_rest-requires-clause-same
 find_rest-requires-clause-same g c =
