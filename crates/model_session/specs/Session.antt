@@ -64,7 +64,8 @@ pub record IsTurnedOff (system : System) (most : ℕ) (old : SessionState) (life
   pub printed : text ≡ broken_text
 
 -- A bad line, and an input that is refused before it is asked for, have a text of their own and no entry. Where power
--- fails the life ends, and the disk is cut with the line's pick; where it is to fail, that is kept. A restart is refused.
+-- fails the life ends, and the disk is cut with the line's pick; where it is to fail, the disk is told to stop at the line's
+-- write, and its pick is kept. A restart is refused.
 abbrev pub IsServedUp : Asked → Setting → SessionState → LastLife → SessionState → List ℕ → Type 0
 IsServedUp (Bad rule) setting old life new text = (new ≡ old) × (text ≡ bad_line_text rule)
 IsServedUp (BadCommand rule) setting old life new text = (new ≡ old) × (text ≡ bad_command_text rule)
@@ -72,7 +73,7 @@ IsServedUp (Stopped terminal number reason) setting old life new text = (new ≡
 IsServedUp (Call call) setting old life new text = IsCalled setting.system call old life new text ⊎ IsCallCutOff setting.system call old life new text
 IsServedUp (Quiet most) setting old life new text = IsQuietTurned setting.system most old life new text ⊎ IsTurnedOff setting.system most old life new text
 IsServedUp (Power pick) setting old life new text = (new ≡ powered_off old life pick) × (text ≡ power_text)
-IsServedUp (PowerIn writes pick) setting old life new text = (new ≡ armed_with setting.can_arm pick old) × (text ≡ armed_text setting.can_arm writes)
+IsServedUp (PowerIn writes pick) setting old life new text = (new ≡ armed_with setting.can_arm writes pick old) × (text ≡ armed_text setting.can_arm writes)
 IsServedUp Restart setting old life new text = (new ≡ old) × (text ≡ up_text)
 IsServedUp ColdStart setting old life new text = (new ≡ old) × (text ≡ up_text)
 

@@ -1,6 +1,7 @@
 -- Where a session stands, and what its disk may hold then.
-use Rattle.std.specs.Prelude.{◌≡◌, ◌⊎◌, ℕ, ◌+◌, ◌≤◌, Bool, true, false, List, [], ◌∷◌, ◌++◌, Option, Some, None}
+use Rattle.std.specs.Prelude.{◌≡◌, ◌⊎◌, ℕ, ◌+◌, ◌≤◌, Bool, true, false, List, [], ◌∷◌, ◌++◌, Option, Some, None, Ok}
 use Rattle.model_machine.specs.declared.entry.Entry.{Entry}
+use Rattle.model_machine.specs.declared.entry.Entry.TheVariants.{Checked}
 use Rattle.model_system.specs.System.{System}
 use Rattle.model_machine.specs.Machine.{LastingState, empty_state}
 use Rattle.model_session.specs.declared.asked.ImageRefused.{ImageRefused}
@@ -35,17 +36,23 @@ pub data Standing : Type 0 where
 abbrev pub Stop : Type 0
 Stop = ℕ × ℕ
 
--- The picks of a session: the one that is kept for a stop, which is 0 where none is; and those with which the disk was cut so far, one
--- for each cut.
-pub record Picks : Type 0 where
-  pub kept : ℕ
-  pub cut : List ℕ
+-- What a session does that is seen at its disk: it tells the disk to stop at the n-th write to come; it cuts it with a pick; and it tells
+-- of a checkpoint, whose number the disk shows then.
+pub data DiskEvent : Type 0 where
+  StopsAt : ℕ → DiskEvent
+  CutWith : ℕ → DiskEvent
+  Tells : ℕ → DiskEvent
 
--- A session so far: the lives before the last, the stops, the picks, and where it stands.
+-- What a session has done with its disk so far: the pick that is kept for a stop, which is 0 where none is; and all events in their order.
+pub record DiskPast : Type 0 where
+  pub kept : ℕ
+  pub events : List DiskEvent
+
+-- A session so far: the lives before the last, the stops, what was done with the disk, and where it stands.
 pub record SessionState : Type 0 where
   pub lives : List LifeState
   pub stops : List Stop
-  pub picks : Picks
+  pub disk : DiskPast
   pub standing : Standing
 
 -- no life has begun
@@ -53,39 +60,59 @@ abbrev pub no_life : Outage
 no_life = record { last = None; emptied = false; stopped = false }
 
 abbrev pub unbegun : SessionState
-unbegun = record { lives = []; stops = []; picks = record { kept = 0; cut = [] }; standing = Down no_life }
+unbegun = record { lives = []; stops = []; disk = record { kept = 0; events = [] }; standing = Down no_life }
 
 -- A cut takes the pick that was kept for a stop.
-abbrev pub cut_with : ℕ → Picks → Picks
-cut_with pick picks = record { kept = 0; cut = picks.cut ++ pick ∷ [] }
+abbrev pub cut_with : ℕ → DiskPast → DiskPast
+cut_with pick past = record { kept = 0; events = past.events ++ CutWith pick ∷ [] }
 
 -- a stop is a cut with the pick that was kept for it
-abbrev pub cut_at_stop : Picks → Picks
-cut_at_stop picks = cut_with picks.kept picks
+abbrev pub cut_at_stop : DiskPast → DiskPast
+cut_at_stop past = cut_with past.kept past
 
--- a pick is kept for a stop where the disk can be told to stop
-abbrev pub pick_armed : Bool → ℕ → Picks → Picks
-pick_armed true pick picks = record { kept = pick; cut = picks.cut }
-pick_armed false pick picks = picks
+-- where the disk can be told to stop at the n-th write to come, it was told so, and a pick is kept for that
+abbrev pub stop_armed : Bool → ℕ → ℕ → DiskPast → DiskPast
+stop_armed true writes pick past = record { kept = pick; events = past.events ++ StopsAt writes ∷ [] }
+stop_armed false writes pick past = past
+
+-- an entry that tells of a checkpoint tells of its number, and no other entry tells of one
+abbrev pub told_one : Entry → DiskPast → DiskPast
+told_one (Checked freeze (Ok number)) past = record { kept = past.kept; events = past.events ++ Tells number ∷ [] }
+told_one entry past = past
+
+abbrev pub told_by : List Entry → DiskPast → DiskPast
+told_by [] past = past
+told_by (entry ∷ entries) past = told_by entries (told_one entry past)
 
 -- the disk was told to stop at a write to come, where it can be told so, and all else is as it was
-abbrev pub armed_with : Bool → ℕ → SessionState → SessionState
-armed_with can_arm pick state = record { lives = state.lives; stops = state.stops; picks = pick_armed can_arm pick state.picks; standing = state.standing }
+abbrev pub armed_with : Bool → ℕ → ℕ → SessionState → SessionState
+armed_with can_arm writes pick state =
+    record { lives = state.lives; stops = state.stops; disk = stop_armed can_arm writes pick state.disk; standing = state.standing }
 
 -- the life goes on with these entries
 abbrev pub life_gone_on : SessionState → LastLife → List Entry → SessionState
-life_gone_on state life entries = record state { standing = Up (longer life entries) }
+life_gone_on state life entries = record {
+  lives = state.lives;
+  stops = state.stops;
+  disk = told_by entries state.disk;
+  standing = Up (longer life entries);
+}
 
 -- the life ended with these entries, without a fault
 abbrev pub life_ended : SessionState → LastLife → List Entry → SessionState
-life_ended state life entries = record state { standing = Down (record { last = Some (longer life entries); emptied = false; stopped = false }) }
+life_ended state life entries = record {
+  lives = state.lives;
+  stops = state.stops;
+  disk = told_by entries state.disk;
+  standing = Down (record { last = Some (longer life entries); emptied = false; stopped = false });
+}
 
 -- power failed: the life ended without another entry, and the disk was cut with a pick
 abbrev pub powered_off : SessionState → LastLife → ℕ → SessionState
 powered_off state life pick = record {
   lives = state.lives;
   stops = state.stops;
-  picks = cut_with pick state.picks;
+  disk = cut_with pick state.disk;
   standing = Down (record { last = Some (longer life []); emptied = false; stopped = false });
 }
 
@@ -99,7 +126,7 @@ abbrev pub broken : SessionState → LastLife → List Entry → Stop → Sessio
 broken state life entries stop = record {
   lives = state.lives;
   stops = state.stops ++ stop ∷ [];
-  picks = cut_at_stop state.picks;
+  disk = cut_at_stop state.disk;
   standing = Down (record { last = Some (longer life entries); emptied = false; stopped = true });
 }
 
@@ -108,7 +135,7 @@ abbrev pub life_opened : SessionState → Outage → ℕ → ℕ → LastingStat
 life_opened state outage kept checkpoint opening = record {
   lives = with_life state.lives outage.last kept;
   stops = state.stops;
-  picks = state.picks;
+  disk = state.disk;
   standing = Up (record { opening = opening; checkpoint = checkpoint; history = [] });
 }
 
@@ -121,7 +148,7 @@ abbrev pub failed : SessionState → Outage → Bool → Stop → SessionState
 failed state outage cold stop = record {
   lives = state.lives;
   stops = state.stops ++ stop ∷ [];
-  picks = cut_at_stop state.picks;
+  disk = cut_at_stop state.disk;
   standing = Down (record { last = outage.last; emptied = or_cold cold outage.emptied; stopped = true });
 }
 

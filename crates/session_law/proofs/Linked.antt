@@ -10,7 +10,7 @@ use Rattle.model_session.specs.declared.asked.Asked.TheVariants.{Bad, BadCommand
 use Rattle.model_session.specs.Blocks.{Block}
 use Rattle.model_session.specs.Lines.{asked_of}
 use Rattle.model_session.specs.Lives.{LifeState, LastLife, last_number, LifeLeaves, kept_life, with_life, longer, ends_life}
-use Rattle.model_session.specs.SessionState.{Picks, cut_with, cut_at_stop, Setting, SessionState, Outage, Standing, Stop, MayBeFound, AreAllLives, no_life, unbegun, called_on, last_life}
+use Rattle.model_session.specs.SessionState.{DiskPast, told_by, cut_with, cut_at_stop, Setting, SessionState, Outage, Standing, Stop, MayBeFound, AreAllLives, no_life, unbegun, called_on, last_life}
 use Rattle.model_session.specs.SessionState.Standing.{Up, Down}
 use Rattle.model_session.specs.Session.{OpensSession, OpensAbove, ServedBy, IsServedUp, IsServedDown, IsRestarted, AreServed, BeginsSession, IsSessionBegun, IsBegunBy}
 use Rattle.session_law.specs.SentAgain.{alone, IsOpenedBehind, AreLinked}
@@ -70,9 +70,9 @@ module _ (setting : Setting) (tells : setting.tells ≡ true) where
   same_chained old new same chained = subst Chained (sym same) chained
 
   -- the life goes on with these entries, or has ended with them
-  goes_chained : (old : SessionState) (life : LastLife) (entries : List Entry) (stops : List Stop) (picks : Picks) (standing : Standing) → old.standing ≡ Up life → Chained old → last_life standing ≡ Some (longer life entries)
-      → is_emptied standing ≡ false → Chained (record { lives = old.lives; stops = stops; picks = picks; standing = standing })
-  goes_chained old life entries stops picks standing at chained is warm = record {
+  goes_chained : (old : SessionState) (life : LastLife) (entries : List Entry) (stops : List Stop) (past : DiskPast) (standing : Standing) → old.standing ≡ Up life → Chained old → last_life standing ≡ Some (longer life entries)
+      → is_emptied standing ≡ false → Chained (record { lives = old.lives; stops = stops; disk = past; standing = standing })
+  goes_chained old life entries stops past standing at chained is warm = record {
     linked = λ kept.
         subst (λ (o : Option LastLife). AreLinked setting.system (with_life old.lives o kept)) (sym is)
         (same_opening setting.system old.lives (kept_life life kept) (kept_life (longer life entries) kept) refl refl
@@ -87,13 +87,13 @@ module _ (setting : Setting) (tells : setting.tells ≡ true) where
 
   called_chained : (b : Bool) (old : SessionState) (life : LastLife) (entries : List Entry) → old.standing ≡ Up life → Chained old → Chained (called_on b old life entries)
   called_chained true old life entries at chained =
-      goes_chained old life entries old.stops old.picks (Down (record { last = Some (longer life entries); emptied = false; stopped = false })) at chained refl refl
-  called_chained false old life entries at chained = goes_chained old life entries old.stops old.picks (Up (longer life entries)) at chained refl refl
+      goes_chained old life entries old.stops (told_by entries old.disk) (Down (record { last = Some (longer life entries); emptied = false; stopped = false })) at chained refl refl
+  called_chained false old life entries at chained = goes_chained old life entries old.stops (told_by entries old.disk) (Up (longer life entries)) at chained refl refl
 
   broken_chained : (old : SessionState) (life : LastLife) (entries : List Entry) (stops : List Stop) → old.standing ≡ Up life → Chained old
-      → Chained (record { lives = old.lives; stops = stops; picks = cut_at_stop old.picks; standing = Down (record { last = Some (longer life entries); emptied = false; stopped = true }) })
+      → Chained (record { lives = old.lives; stops = stops; disk = cut_at_stop old.disk; standing = Down (record { last = Some (longer life entries); emptied = false; stopped = true }) })
   broken_chained old life entries stops at chained =
-      goes_chained old life entries stops (cut_at_stop old.picks) (Down (record { last = Some (longer life entries); emptied = false; stopped = true })) at chained refl refl
+      goes_chained old life entries stops (cut_at_stop old.disk) (Down (record { last = Some (longer life entries); emptied = false; stopped = true })) at chained refl refl
 
   up_chained : (asked : Asked) (old : SessionState) (life : LastLife) (new : SessionState) (text : List ℕ) → old.standing ≡ Up life → Chained old → IsServedUp asked setting old life new text → Chained new
   up_chained (Bad rule) old life new text at chained (same, printed) = same_chained old new same chained
@@ -105,7 +105,7 @@ module _ (setting : Setting) (tells : setting.tells ≡ true) where
   up_chained (Quiet most) old life new text at chained (inr one) = subst Chained (sym one.ends) (broken_chained old life (one.turns ++ one.entry ∷ []) (old.stops ++ one.stop ∷ []) at chained)
   up_chained (Power pick) old life new text at chained (same, printed) =
       subst Chained (sym same)
-      (goes_chained old life [] old.stops (cut_with pick old.picks) (Down (record { last = Some (longer life []); emptied = false; stopped = false })) at chained refl refl)
+      (goes_chained old life [] old.stops (cut_with pick old.disk) (Down (record { last = Some (longer life []); emptied = false; stopped = false })) at chained refl refl)
   up_chained (PowerIn writes pick) old life new text at chained (same, printed) = subst Chained (sym same) (record { linked = chained.linked; begins = chained.begins; first = chained.first; warm = chained.warm })
   up_chained Restart old life new text at chained (same, printed) = same_chained old new same chained
   up_chained ColdStart old life new text at chained (same, printed) = same_chained old new same chained

@@ -82,20 +82,20 @@ module _ {D : Type 0} (state : D → DiskState) (block : Block) (text : List ℕ
   pub block_up : (control : ControlOnDisk D) (kept : Kept) (session : Session D) (asked : Asked) (served : Served) → asked ≡ asked_of control.control.system block
       → Leads state (λ setting old new. IsServedSo asked text served setting old new) (session_up control kept) session
       → Leads state (λ setting old new. IsServedSo (asked_of setting.system block) text served setting old new) (session_up control kept) session
-  block_up control kept session asked served is leads = λ system source handed cut sound.
-      let led : LeadsBy state (λ setting old new. IsServedSo (asked_of system block) text served setting old new) system source handed cut (session_up control kept) session =
-      subst (λ (a : Asked). LeadsBy state (λ setting old new. IsServedSo a text served setting old new) system source handed cut (session_up control kept) session)
-      (is ∙ ap (λ s. asked_of s block) sound.system_is) (leads system source handed cut sound) in
-      record { cut_now = led.cut_now; goes = led.goes; sound = led.sound }
+  block_up control kept session asked served is leads = λ system source handed events sound.
+      let led : LeadsBy state (λ setting old new. IsServedSo (asked_of system block) text served setting old new) system source handed events (session_up control kept) session =
+      subst (λ (a : Asked). LeadsBy state (λ setting old new. IsServedSo a text served setting old new) system source handed events (session_up control kept) session)
+      (is ∙ ap (λ s. asked_of s block) sound.system_is) (leads system source handed events sound) in
+      record { events_now = led.events_now; goes = led.goes; sound = led.sound }
 
   pub block_down : (idle : Idle D) (kept : Kept) (session : Session D) (asked : Asked) (served : Served) → asked ≡ asked_of idle.system block
       → Leads state (λ setting old new. IsServedSo asked text served setting old new) (session_down idle kept) session
       → Leads state (λ setting old new. IsServedSo (asked_of setting.system block) text served setting old new) (session_down idle kept) session
-  block_down idle kept session asked served is leads = λ system source handed cut sound.
-      let led : LeadsBy state (λ setting old new. IsServedSo (asked_of system block) text served setting old new) system source handed cut (session_down idle kept) session =
-      subst (λ (a : Asked). LeadsBy state (λ setting old new. IsServedSo a text served setting old new) system source handed cut (session_down idle kept) session)
-      (is ∙ ap (λ s. asked_of s block) sound.system_is) (leads system source handed cut sound) in
-      record { cut_now = led.cut_now; goes = led.goes; sound = led.sound }
+  block_down idle kept session asked served is leads = λ system source handed events sound.
+      let led : LeadsBy state (λ setting old new. IsServedSo (asked_of system block) text served setting old new) system source handed events (session_down idle kept) session =
+      subst (λ (a : Asked). LeadsBy state (λ setting old new. IsServedSo a text served setting old new) system source handed events (session_down idle kept) session)
+      (is ∙ ap (λ s. asked_of s block) sound.system_is) (leads system source handed events sound) in
+      record { events_now = led.events_now; goes = led.goes; sound = led.sound }
 
   -- ---- of a session that was up
 
@@ -104,15 +104,15 @@ module _ {D : Type 0} (state : D → DiskState) (block : Block) (text : List ℕ
       → kept.pick ≡ pick_by (asked_of a.control.system block) called (state a.disk).can_arm before.kept.pick → KeepsPace state a b
       → IsAsked state (asked_of a.control.system block) a b text called → IsCallSettled state (session_up b kept) called session served
       → Leads state (λ setting x y. IsServedSo (asked_of setting.system block) text served setting x y) before session
-  served_at a b before kept session called served is stays lives stops pick pace asked settled = λ system source handed cut sound.
-      let led : LeadsBy state (λ setting x y. IsServedSo (asked_of setting.system block) text served setting x y) system source handed cut (session_up a before.kept) session =
+  served_at a b before kept session called served is stays lives stops pick pace asked settled = λ system source handed events sound.
+      let led : LeadsBy state (λ setting x y. IsServedSo (asked_of setting.system block) text served setting x y) system source handed events (session_up a before.kept) session =
       block_up a before.kept session (asked_of a.control.system block) served refl
-      (λ system source handed cut sound.
-      served_up state system source handed cut a b before.kept kept session text sound (same_by state (asked_of a.control.system block) called a b stays) lives stops pace (asked_of a.control.system block) called served asked pick settled)
-      system source handed cut (subst (λ p. IsSoundAt state system source handed cut p before.kept) is sound) in
+      (λ system source handed events sound.
+      served_up state system source handed events a b before.kept kept session text sound (same_by state (asked_of a.control.system block) called a b stays) lives stops pace (asked_of a.control.system block) called served stays asked pick settled)
+      system source handed events (subst (λ p. IsSoundAt state system source handed events p before.kept) is sound) in
       record {
-        cut_now = led.cut_now;
-        goes = subst (λ p. IsServedSo (asked_of system block) text served (session_setting state system source handed) (session_at cut p before.kept) (session_of led.cut_now session)) (sym is) led.goes;
+        events_now = led.events_now;
+        goes = subst (λ p. IsServedSo (asked_of system block) text served (session_setting state system source handed) (session_at events p before.kept) (session_of led.events_now session)) (sym is) led.goes;
         sound = led.sound;
       }
 

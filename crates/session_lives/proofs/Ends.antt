@@ -20,8 +20,9 @@ use Rattle.session_law.specs.Measures.{call_raises, last_measure, lives_measure,
 use Rattle.openings.specs.FirstImage.{sectors_needed}
 use Rattle.disk_law.specs.KeptImages.{RecoversEither}
 use Rattle.model_session.specs.Lives.{LifeState, LastLife, last_told, last_number, AreLegal, HasAnswered, LifeLeaves, is_disk_fault, longer}
-use Rattle.model_session.specs.SessionState.{Standing, Outage, Picks, SessionState, Stop, AreStops, LastAnswered, IsStateLeft, IsKnown, life_gone_on, broken}
+use Rattle.model_session.specs.SessionState.{Standing, Outage, DiskEvent, DiskPast, SessionState, Stop, AreStops, LastAnswered, IsStateLeft, IsKnown, told_by, life_gone_on, broken}
 use Rattle.model_session.specs.SessionState.Standing.{Up as StandsUp, Down as StandsDown}
+use Rattle.model_session.specs.SessionState.DiskEvent.{CutWith}
 use Rattle.tm_control.specs.ControlOnDisk.{ControlOnDisk, LastsBy, last_checked, lasting_after_entries}
 use Rattle.openings.specs.declared.life.Life.{Life}
 use Rattle.session_lives.specs.declared.place.Idle.{Idle}
@@ -29,24 +30,24 @@ use Rattle.session_lives.specs.declared.place.Place.TheVariants.{Up, Down}
 use Rattle.session_lives.specs.declared.place.Kept.{Kept}
 use Rattle.session_lives.specs.RunningSession.{life_of, last_life_of, last_up, kept_steps, outage_of, session_at, session_setting, CountsDown, CountsFirst, HoldsSession, IsDownSound}
 use Rattle.session_lives.specs.ControlCounts.{CountsUp}
-use Rattle.session_lives.specs.DiskCuts.{AreCuts}
-use Rattle.session_lives.specs.ToldNumbers.{numbers_in, numbers_told, numbers_of, numbers_so_far, AreShown}
+use Rattle.session_lives.specs.DiskEvents.{AreEvents}
+use Rattle.session_lives.specs.ToldNumbers.{numbers_in, numbers_told, numbers_of, numbers_so_far, told_numbers}
 use Rattle.session_lives.specs.Openings.{GoesDown}
 use Rattle.session_lives.proofs.Asked.{disk_fault_is, fault_is}
 use Rattle.model_session.proofs.Ending.{answered_end, faulted_end}
 
 -- ---- states of a session
 
-abbrev pub state_with : List LifeState → List Stop → Picks → Standing → SessionState
-state_with lives stops picks standing = record { lives = lives; stops = stops; picks = picks; standing = standing }
+abbrev pub state_with : List LifeState → List Stop → DiskPast → Standing → SessionState
+state_with lives stops past standing = record { lives = lives; stops = stops; disk = past; standing = standing }
 
-pub same_state : (lives lives' : List LifeState) (stops stops' : List Stop) (picks picks' : Picks) (standing standing' : Standing) → lives' ≡ lives → stops' ≡ stops → picks' ≡ picks
-    → standing' ≡ standing → state_with lives' stops' picks' standing' ≡ state_with lives stops picks standing
-same_state lives lives' stops stops' picks picks' standing standing' a b c d =
-    ap (λ l. state_with l stops' picks' standing') a ∙ ap (λ s. state_with lives s picks' standing') b ∙ ap (λ p. state_with lives stops p standing') c ∙ ap (state_with lives stops picks) d
+pub same_state : (lives lives' : List LifeState) (stops stops' : List Stop) (past past' : DiskPast) (standing standing' : Standing) → lives' ≡ lives → stops' ≡ stops → past' ≡ past
+    → standing' ≡ standing → state_with lives' stops' past' standing' ≡ state_with lives stops past standing
+same_state lives lives' stops stops' past past' standing standing' a b c d =
+    ap (λ l. state_with l stops' past' standing') a ∙ ap (λ s. state_with lives s past' standing') b ∙ ap (λ p. state_with lives stops p standing') c ∙ ap (state_with lives stops past) d
 
-abbrev pub picks_with : List ℕ → ℕ → Picks
-picks_with cut kept = record { kept = kept; cut = cut }
+abbrev pub past_with : List DiskEvent → ℕ → DiskPast
+past_with events kept = record { kept = kept; events = events }
 
 abbrev pub life_with : LastingState → ℕ → List Entry → LastLife
 life_with opening number history = record { opening = opening; checkpoint = number; history = history }
@@ -63,20 +64,20 @@ same_kept : (old new : Kept) → new.lives ≡ old.lives → map life_of new.liv
 same_kept old new e = ap (λ v. map life_of v.items) e
 
 -- the life goes on
-pub up_state : {D : Type 0} (cut : List ℕ) (a b : ControlOnDisk D) (old new : Kept) (entries : List Entry) → b.control.opening ≡ a.control.opening → b.checkpoint ≡ a.checkpoint
-    → b.control.history ≡ a.control.history ++ entries → new.lives ≡ old.lives → new.stops ≡ old.stops → new.pick ≡ old.pick
-    → session_at cut (Up b) new ≡ life_gone_on (session_at cut (Up a) old) (last_up a) entries
-up_state cut a b old new entries opening number history lives stops pick =
-    same_state (map life_of old.lives.items) (map life_of new.lives.items) old.stops.items new.stops.items (picks_with cut old.pick) (picks_with cut new.pick)
-    (StandsUp (longer (last_up a) entries)) (StandsUp (last_up b)) (same_kept old new lives) (ap (λ v. v.items) stops) (ap (picks_with cut) pick)
+pub up_state : {D : Type 0} (events now : List DiskEvent) (a b : ControlOnDisk D) (old new : Kept) (entries : List Entry) → b.control.opening ≡ a.control.opening → b.checkpoint ≡ a.checkpoint
+    → b.control.history ≡ a.control.history ++ entries → new.lives ≡ old.lives → new.stops ≡ old.stops → past_with now new.pick ≡ told_by entries (past_with events old.pick)
+    → session_at now (Up b) new ≡ life_gone_on (session_at events (Up a) old) (last_up a) entries
+up_state events now a b old new entries opening number history lives stops same =
+    same_state (map life_of old.lives.items) (map life_of new.lives.items) old.stops.items new.stops.items (told_by entries (past_with events old.pick)) (past_with now new.pick)
+    (StandsUp (longer (last_up a) entries)) (StandsUp (last_up b)) (same_kept old new lives) (ap (λ v. v.items) stops) same
     (ap StandsUp (same_life a.control.opening b.control.opening a.checkpoint b.checkpoint (a.control.history ++ entries) b.control.history opening number history))
 
--- it stands as it did, and these are its picks
-pub up_with : {D : Type 0} (cut : List ℕ) (a b : ControlOnDisk D) (old new : Kept) (picks : Picks) → b.control.opening ≡ a.control.opening → b.checkpoint ≡ a.checkpoint
-    → b.control.history ≡ a.control.history → new.lives ≡ old.lives → new.stops ≡ old.stops → picks_with cut new.pick ≡ picks
-    → session_at cut (Up b) new ≡ state_with (map life_of old.lives.items) old.stops.items picks (StandsUp (last_up a))
-up_with cut a b old new picks opening number history lives stops same =
-    same_state (map life_of old.lives.items) (map life_of new.lives.items) old.stops.items new.stops.items picks (picks_with cut new.pick)
+-- it stands as it did, and this was done with its disk
+pub up_with : {D : Type 0} (events : List DiskEvent) (a b : ControlOnDisk D) (old new : Kept) (past : DiskPast) → b.control.opening ≡ a.control.opening → b.checkpoint ≡ a.checkpoint
+    → b.control.history ≡ a.control.history → new.lives ≡ old.lives → new.stops ≡ old.stops → past_with events new.pick ≡ past
+    → session_at events (Up b) new ≡ state_with (map life_of old.lives.items) old.stops.items past (StandsUp (last_up a))
+up_with events a b old new past opening number history lives stops same =
+    same_state (map life_of old.lives.items) (map life_of new.lives.items) old.stops.items new.stops.items past (past_with events new.pick)
     (StandsUp (last_up a)) (StandsUp (last_up b)) (same_kept old new lives) (ap (λ v. v.items) stops) same
     (ap StandsUp (same_life a.control.opening b.control.opening a.checkpoint b.checkpoint a.control.history b.control.history opening number history))
 
@@ -100,24 +101,24 @@ module _ {D : Type 0} (state : D → DiskState) where
       (down.closes.history ∙ history))
       down.emptied down.stopped_is
 
-  -- without a fault, and these are the picks then
-  pub ended_state : (cut : List ℕ) (a c : ControlOnDisk D) (old kept new : Kept) (picks : Picks) (idle : Idle D) (entries : List Entry) → GoesDown state c kept new false idle → kept.lives ≡ old.lives
-      → kept.stops ≡ old.stops → picks_with cut new.pick ≡ picks → c.control.opening ≡ a.control.opening → c.checkpoint ≡ a.checkpoint → c.control.history ≡ a.control.history ++ entries
-      → session_at cut (Down idle) new ≡ state_with (map life_of old.lives.items) old.stops.items picks (down_with (longer (last_up a) entries) false)
-  ended_state cut a c old kept new picks idle entries down lives stops same opening number history =
-      same_state (map life_of old.lives.items) (map life_of new.lives.items) old.stops.items new.stops.items picks (picks_with cut new.pick)
+  -- without a fault, and this was done with the disk then
+  pub ended_state : (events : List DiskEvent) (a c : ControlOnDisk D) (old kept new : Kept) (past : DiskPast) (idle : Idle D) (entries : List Entry) → GoesDown state c kept new false idle → kept.lives ≡ old.lives
+      → kept.stops ≡ old.stops → past_with events new.pick ≡ past → c.control.opening ≡ a.control.opening → c.checkpoint ≡ a.checkpoint → c.control.history ≡ a.control.history ++ entries
+      → session_at events (Down idle) new ≡ state_with (map life_of old.lives.items) old.stops.items past (down_with (longer (last_up a) entries) false)
+  ended_state events a c old kept new past idle entries down lives stops same opening number history =
+      same_state (map life_of old.lives.items) (map life_of new.lives.items) old.stops.items new.stops.items past (past_with events new.pick)
       (down_with (longer (last_up a) entries) false) (StandsDown (outage_of idle))
       (same_kept old new (down.lives ∙ lives)) (down.stops ∙ append-nil kept.stops.items ∙ ap (λ v. v.items) stops) same
       (ap StandsDown (outage_is c kept new false idle (longer (last_up a) entries) down opening number history))
 
   -- by a stop, which is cut with the pick that was kept
-  pub broken_state : (cut : List ℕ) (a c : ControlOnDisk D) (old kept new : Kept) (idle : Idle D) (entries : List Entry) → (down : GoesDown state c kept new true idle) → kept.lives ≡ old.lives
+  pub broken_state : (events : List DiskEvent) (a c : ControlOnDisk D) (old kept new : Kept) (idle : Idle D) (entries : List Entry) → (down : GoesDown state c kept new true idle) → kept.lives ≡ old.lives
       → kept.stops ≡ old.stops → new.pick ≡ 0 → c.control.opening ≡ a.control.opening → c.checkpoint ≡ a.checkpoint → c.control.history ≡ a.control.history ++ entries
-      → session_at (cut ++ old.pick ∷ []) (Down idle) new ≡ broken (session_at cut (Up a) old) (last_up a) entries (c.began, (state down.disk).faults)
-  broken_state cut a c old kept new idle entries down lives stops taken opening number history =
+      → session_at (events ++ CutWith old.pick ∷ []) (Down idle) new ≡ broken (session_at events (Up a) old) (last_up a) entries (c.began, (state down.disk).faults)
+  broken_state events a c old kept new idle entries down lives stops taken opening number history =
       same_state (map life_of old.lives.items) (map life_of new.lives.items) (old.stops.items ++ (c.began, (state down.disk).faults) ∷ []) new.stops.items
-      (picks_with (cut ++ old.pick ∷ []) 0) (picks_with (cut ++ old.pick ∷ []) new.pick) (down_with (longer (last_up a) entries) true) (StandsDown (outage_of idle))
-      (same_kept old new (down.lives ∙ lives)) (down.stops ∙ ap (λ v. v.items ++ (c.began, (state down.disk).faults) ∷ []) stops) (ap (picks_with (cut ++ old.pick ∷ [])) taken)
+      (past_with (events ++ CutWith old.pick ∷ []) 0) (past_with (events ++ CutWith old.pick ∷ []) new.pick) (down_with (longer (last_up a) entries) true) (StandsDown (outage_of idle))
+      (same_kept old new (down.lives ∙ lives)) (down.stops ∙ ap (λ v. v.items ++ (c.began, (state down.disk).faults) ∷ []) stops) (ap (past_with (events ++ CutWith old.pick ∷ [])) taken)
       (ap StandsDown (outage_is c kept new true idle (longer (last_up a) entries) down opening number history))
 
 -- ---- counts
@@ -245,20 +246,20 @@ module _ {D : Type 0} (state : D → DiskState) (system : System) (source : List
       (h.images image (subst (λ d. (state d).may_leave image) down.closes.disk_is (down.laid.no_more image left))))
 
   -- the numbers that were told by then
-  numbers_down : (cut : List ℕ) (old new : Kept) (stopped : Bool) (idle : Idle D) → GoesDown state c old new stopped idle
-      → numbers_so_far (session_at cut (Down idle) new) ≡ numbers_told (map life_of old.lives.items) ++ numbers_in c.control.history
-  numbers_down cut old new stopped idle down =
+  numbers_down : (events : List DiskEvent) (old new : Kept) (stopped : Bool) (idle : Idle D) → GoesDown state c old new stopped idle
+      → numbers_so_far (session_at events (Down idle) new) ≡ numbers_told (map life_of old.lives.items) ++ numbers_in c.control.history
+  numbers_down events old new stopped idle down =
       ap (λ (lives : List LifeState). numbers_told lives ++ numbers_of (option_map last_life_of idle.last)) (same_kept old new down.lives)
       ∙ ap (λ (last : Option Life). numbers_told (map life_of old.lives.items) ++ numbers_of (option_map last_life_of last)) down.last
       ∙ ap (λ (entries : List Entry). numbers_told (map life_of old.lives.items) ++ numbers_in entries) down.closes.history
 
   -- a life that has ended leaves all sound
-  pub down_sound : Only (state handed).shown (state handed) → c.text ≡ source → sectors_needed system ≤ (state handed).size → (cut : List ℕ) (old new : Kept) (stopped : Bool) (idle : Idle D)
-      → AreCuts state cut handed idle.disk → AreShown state system (numbers_told (map life_of old.lives.items) ++ numbers_in c.control.history) handed idle.disk
+  pub down_sound : Only (state handed).shown (state handed) → c.text ≡ source → sectors_needed system ≤ (state handed).size → (events : List DiskEvent) (old new : Kept) (stopped : Bool) (idle : Idle D)
+      → AreEvents state system events handed idle.disk → told_numbers events ≡ numbers_told (map life_of old.lives.items) ++ numbers_in c.control.history
       → GoesDown state c old new stopped idle → IsSameDisk (state handed) (state c.disk)
       → AreLegal system (map life_of old.lives.items) → AreStops (state handed).faults new.stops.items (state c.disk).faults
-      → IsSystem system → ((high : ℕ) → CountsFirst system high (state handed) → CountsUp state (high + call_raises * measure (session_at [] (Up c) old)) c) → IsDownSound state system source handed cut idle new
-  down_sound alone text_is size cut old new stopped idle cuts told down same legal stops valid counts =
+      → IsSystem system → ((high : ℕ) → CountsFirst system high (state handed) → CountsUp state (high + call_raises * measure (session_at [] (Up c) old)) c) → IsDownSound state system source handed events idle new
+  down_sound alone text_is size events old new stopped idle happened told down same legal stops valid counts =
       let disk : IsSameDisk (state handed) (state down.disk) = subst (λ d. IsSameDisk (state handed) (state d)) (sym down.closes.disk_is) same in
       let faults : (state idle.disk).faults ≡ (state c.disk).faults = down.laid.faults ∙ ap (λ d. (state d).faults) down.closes.disk_is in
       let outage : outage_of idle ≡ outage_with (Some (last_up c)) false stopped = outage_is state c old new stopped idle (last_up c) down refl refl refl in
@@ -286,8 +287,8 @@ module _ {D : Type 0} (state : D → DiskState) (system : System) (source : List
             (numbered_by c.up image down.lasts (subst (λ d. (state d).may_leave image) down.closes.disk_is (down.laid.no_more image left))));
         valid = valid;
         counts = λ high first. down_counts old new stopped idle down high (counts high first);
-        cuts = cuts;
-        told = subst (λ (numbers : List ℕ). AreShown state system numbers handed idle.disk) (sym (numbers_down cut old new stopped idle down)) told;
+        happened = happened;
+        told = told ∙ sym (numbers_down events old new stopped idle down);
       }
 
   -- a stop begins where the one before it had ended

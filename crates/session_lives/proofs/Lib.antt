@@ -1,5 +1,5 @@
 pub mod Counting
-pub mod Cutting
+pub mod Happening
 pub mod Telling
 pub mod Asked
 pub mod Replies

@@ -9,7 +9,7 @@ use Rattle.model_machine.specs.Machine.{start_of}
 use Rattle.model_machine.specs.History.{moment_after, control_moment}
 use Rattle.model_image.specs.RecoveredState.{Recovers}
 use Rattle.model_session.specs.Lives.{LifeState, LastLife, AreLegal, HasAnswered, kept_life, with_life}
-use Rattle.model_session.specs.SessionState.{Stop, AreStops}
+use Rattle.model_session.specs.SessionState.{DiskEvent, Stop, AreStops}
 use Rattle.model_session.specs.SessionState.Standing.{Up as StandsUp}
 use Rattle.tm_control.specs.ControlOnDisk.{ControlOnDisk, LastsBy}
 use Rattle.openings.specs.declared.life.Life.{Life}
@@ -18,8 +18,8 @@ use Rattle.session_lives.specs.declared.place.Place.TheVariants.{Up, Down, Moved
 use Rattle.session_lives.specs.declared.place.Place.{Place}
 use Rattle.session_lives.specs.declared.place.Kept.{Kept}
 use Rattle.session_lives.specs.declared.place.Session.{Session}
-use Rattle.session_lives.specs.DiskCuts.{AreCuts}
-use Rattle.session_lives.specs.ToldNumbers.{numbers_told, numbers_of, AreShown}
+use Rattle.session_lives.specs.DiskEvents.{AreEvents}
+use Rattle.session_lives.specs.ToldNumbers.{numbers_told, numbers_of, told_numbers}
 use Rattle.session_lives.proofs.Telling.{with_numbers}
 use Rattle.session_lives.specs.RunningSession.{life_of, last_life_of, last_up, kept_steps, session_at, HoldsSession, IsUpReady, IsSessionReady, IsReadyAt, IsUpSound, IsDownSound, IsSoundAt}
 use Rattle.session_lives.specs.ClosedSession.{listed, IsClosedUp, IsClosedDown, IsClosedAt, IsSessionClosed, Remains, SessionLeaves}
@@ -34,15 +34,13 @@ some_life : (last : Option Life) → is_some (option_map last_life_of last) ≡ 
 some_life None some = some
 some_life (Some life) some = refl
 
-module _ {D : Type 0} (state : D → DiskState) (system : System) (source : List ℕ) (handed : D) (cut : List ℕ) where
-  told_all : (disk held : D) (lives before : List LifeState) (last : Option LastLife) (kept : ℕ) → lives ≡ with_life before last kept → disk ≡ held
-      → AreShown state system (numbers_told before ++ numbers_of last) handed held → AreShown state system (numbers_told lives) handed disk
-  told_all disk held lives before last kept all same shown =
-      subst (λ (d : D). AreShown state system (numbers_told lives) handed d) (sym same)
-      (subst (λ (numbers : List ℕ). AreShown state system numbers handed held) (sym (ap numbers_told all ∙ with_numbers before last kept)) shown)
+module _ {D : Type 0} (state : D → DiskState) (system : System) (source : List ℕ) (handed : D) (events : List DiskEvent) where
+  told_all : (lives before : List LifeState) (last : Option LastLife) (kept : ℕ) → lives ≡ with_life before last kept → told_numbers events ≡ numbers_told before ++ numbers_of last
+      → told_numbers events ≡ numbers_told lives
+  told_all lives before last kept all told = told ∙ sym (ap numbers_told all ∙ with_numbers before last kept)
 
-  down_remains : (idle : Idle D) (kept : Kept) (disk : D) (lives : List Life) (stops : List Stop) → IsDownSound state system source handed cut idle kept
-      → IsClosedDown idle kept disk lives stops → Remains state system source handed disk (session_at cut (Down idle) kept) lives stops
+  down_remains : (idle : Idle D) (kept : Kept) (disk : D) (lives : List Life) (stops : List Stop) → IsDownSound state system source handed events idle kept
+      → IsClosedDown idle kept disk lives stops → Remains state system source handed disk (session_at events (Down idle) kept) lives stops
   down_remains idle kept disk lives stops sound over =
       let all : map life_of lives ≡ with_life (map life_of kept.lives.items) (option_map last_life_of idle.last) (kept_steps idle.last) = ap (map life_of) over.lives_are ∙ lives_listed kept.lives.items idle.last in
       record {
@@ -55,8 +53,8 @@ module _ {D : Type 0} (state : D → DiskState) (system : System) (source : List
         images = λ image left. sound.images image (subst (λ d. (state d).may_leave image) over.disk_is left);
         numbered = λ image left. sound.numbered image (subst (λ d. (state d).may_leave image) over.disk_is left);
         enough = λ some. sound.size (some_life idle.last some);
-        cuts = subst (λ (d : D). AreCuts state cut handed d) (sym over.disk_is) sound.cuts;
-        told = told_all disk idle.disk (map life_of lives) (map life_of kept.lives.items) (option_map last_life_of idle.last) (kept_steps idle.last) all over.disk_is sound.told;
+        happened = subst (λ (d : D). AreEvents state system events handed d) (sym over.disk_is) sound.happened;
+        told = told_all (map life_of lives) (map life_of kept.lives.items) (option_map last_life_of idle.last) (kept_steps idle.last) all sound.told;
       }
 
   up_holds : (control : ControlOnDisk D) (up : Bool) → up ≡ true → control.control.system ≡ system → LastsBy up control.control control.checkpoint control.text (state control.disk) → (image : Image)
@@ -68,8 +66,8 @@ module _ {D : Type 0} (state : D → DiskState) (system : System) (source : List
     may = ap (λ s. (moment_after s (start_of s control.control.opening) control.control.history).lasting) same;
   })
 
-  up_remains : (control : ControlOnDisk D) (kept : Kept) (disk : D) (lives : List Life) (stops : List Stop) → IsUpReady control kept → IsUpSound state system source handed cut control kept
-      → IsClosedUp state control kept disk lives stops → Remains state system source handed disk (session_at cut (Up control) kept) lives stops
+  up_remains : (control : ControlOnDisk D) (kept : Kept) (disk : D) (lives : List Life) (stops : List Stop) → IsUpReady control kept → IsUpSound state system source handed events control kept
+      → IsClosedUp state control kept disk lives stops → Remains state system source handed disk (session_at events (Up control) kept) lives stops
   up_remains control kept disk lives stops ready sound over =
       let life : LifeState = kept_life (last_up control) over.life.kept in
       let same : life_of over.life ≡ life = ap (λ l. kept_life l over.life.kept) (same_life control.control.opening over.life.opening control.checkpoint over.life.checkpoint control.control.history over.life.history over.closes.opening over.closes.checkpoint over.closes.history) in
@@ -87,20 +85,20 @@ module _ {D : Type 0} (state : D → DiskState) (system : System) (source : List
             (subst (λ s. AreStops (state handed).faults s (state control.disk).faults) (sym over.stops_are)
             (subst (λ n. AreStops (state handed).faults kept.stops.items n) sound.began sound.stops));
         enough = λ some. sound.size;
-        cuts = subst (λ (d : D). AreCuts state cut handed d) (sym over.closes.disk_is) sound.cuts;
-        told = told_all disk control.disk (map life_of lives) (map life_of kept.lives.items) (Some (last_up control)) over.life.kept all over.closes.disk_is sound.told;
+        happened = subst (λ (d : D). AreEvents state system events handed d) (sym over.closes.disk_is) sound.happened;
+        told = told_all (map life_of lives) (map life_of kept.lives.items) (Some (last_up control)) over.life.kept all sound.told;
         numbered = λ image left.
             numbered_by state system source handed control sound.system_is control.up image over.lasts (subst (λ d. (state d).may_leave image) over.closes.disk_is left);
         images = λ image left. up_holds control control.up ready.up sound.system_is over.lasts image (subst (λ d. (state d).may_leave image) over.closes.disk_is left);
       }
 
-  remains_at : (place : Place D) (kept : Kept) (disk : D) (lives : List Life) (stops : List Stop) → IsReadyAt state place kept → IsSoundAt state system source handed cut place kept
-      → IsClosedAt state place kept disk lives stops → Remains state system source handed disk (session_at cut place kept) lives stops
+  remains_at : (place : Place D) (kept : Kept) (disk : D) (lives : List Life) (stops : List Stop) → IsReadyAt state place kept → IsSoundAt state system source handed events place kept
+      → IsClosedAt state place kept disk lives stops → Remains state system source handed disk (session_at events place kept) lives stops
   remains_at (Up control) kept disk lives stops ready sound over = up_remains control kept disk lives stops ready sound over
   remains_at (Down idle) kept disk lives stops ready sound over = down_remains idle kept disk lives stops sound over
   remains_at Moved kept disk lives stops ready sound over = absurd ready
 
 pub closed_leaves : {D : Type 0} (state : D → DiskState) (session : Session D) (disk : D) (lives : List Life) (stops : List Stop) → IsSessionReady state session → IsSessionClosed state session disk lives stops
     → SessionLeaves state session disk lives stops
-closed_leaves state session disk lives stops ready over = λ system source handed cut sound.
-    remains_at state system source handed cut session.place session.kept disk lives stops ready sound over
+closed_leaves state session disk lives stops ready over = λ system source handed events sound.
+    remains_at state system source handed events session.place session.kept disk lives stops ready sound over

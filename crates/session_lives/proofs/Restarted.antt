@@ -18,8 +18,9 @@ use Rattle.model_session.specs.declared.asked.Asked.{Asked}
 use Rattle.model_session.specs.declared.asked.Asked.TheVariants.{Bad, BadCommand, Stopped, Call, Quiet, Power, PowerIn, Restart, ColdStart}
 use Rattle.model_session.specs.Text.{broken_text, down_text}
 use Rattle.model_session.specs.Lives.{LifeState, LastLife, AreLegal, LifeLeaves, with_life}
-use Rattle.model_session.specs.SessionState.{Setting, Outage, SessionState, AreStops, IsStateEmptied, MayBeFound, LastAnswered, IsStateLeft, or_cold, life_opened, failed}
+use Rattle.model_session.specs.SessionState.{Setting, Outage, DiskEvent, SessionState, AreStops, IsStateEmptied, MayBeFound, LastAnswered, IsStateLeft, or_cold, life_opened, failed}
 use Rattle.model_session.specs.SessionState.Standing.{Up as StandsUp, Down as StandsDown}
+use Rattle.model_session.specs.SessionState.DiskEvent.{CutWith}
 use Rattle.model_session.proofs.Kept.{kept_has}
 use Rattle.model_session.specs.Session.{MayOpenWith, MayRefuse, OpensFirst, OpensAbove, IsRestarted, OpensSession as OpensLife, FailsToOpen}
 use Rattle.restart_data.specs.declared.restart.RestartSector.{RestartSector}
@@ -52,13 +53,13 @@ use Rattle.session_lives.specs.declared.place.Kept.{Kept}
 use Rattle.session_lives.specs.declared.place.Session.{Session}
 use Rattle.session_lives.specs.RunningSession.{life_of, last_life_of, last_up, kept_steps, outage_of, session_at, session_of, session_down, session_setting, CountsDown, CountsFirst, LeadsBy, IsBrokenAs, IsRefusedFirst, IsOfDefinition, IsEmptyImage, IsRight, IsOfText, HoldsSession, IsNumberedAt, IsDownSound, IsSessionSound, IsSoundAt, error_of}
 use Rattle.session_lives.specs.ControlCounts.{CountsUp}
-use Rattle.session_lives.specs.ToldNumbers.{numbers_told, numbers_so_far, IsSince, AreShown}
+use Rattle.session_lives.specs.ToldNumbers.{numbers_told, numbers_so_far, told_numbers}
 use Rattle.session_lives.proofs.Counting.{stands_more}
 use Rattle.session_lives.proofs.Told.{told_text, one_restart, no_restart}
 use Rattle.session_lives.specs.Openings.{how_of, life_kept_by, with_last_life, HasOpened, StaysIdle, HasFailed, HasGone, RefusesSpent, IsOpeningTold, IsRefusalTold, IsRestartedSo, IsLookedAt, CountsOn, UndoneBy, IsServedSo, asked_restart}
-use Rattle.session_lives.proofs.Ends.{picks_with, same_state, outage_with, life_with, same_life, stops_one, rose_from}
-use Rattle.session_lives.proofs.Cutting.{cuts_stay, cuts_one, uncut_stays}
-use Rattle.session_lives.proofs.Telling.{with_numbers, since_on, shown_stay}
+use Rattle.session_lives.proofs.Ends.{past_with, same_state, outage_with, life_with, same_life, stops_one, rose_from}
+use Rattle.session_lives.proofs.Happening.{events_go, events_one}
+use Rattle.session_lives.proofs.Telling.{with_numbers, cut_numbers}
 
 some_is : (a b : Bool) → Some b ≡ Some a → a ≡ b
 some_is a b e = cc
@@ -126,22 +127,22 @@ legal_with system (first ∷ lives) None answered kept legal is = legal
 legal_with system [] (Some life) answered kept legal is = (is.life_is, tt)
 legal_with system (first ∷ lives) (Some life) answered kept legal is = (legal.0, legal_with system lives (Some life) answered kept legal.1 is)
 
--- the picks with which the disk was cut behind an opening: where it failed, also with the one that was kept
-abbrev pub cut_opening : List ℕ → Kept → Opening → List ℕ
-cut_opening cut old Opened = cut
-cut_opening cut old OpeningBroke = cut ++ old.pick ∷ []
-cut_opening cut old (Refused refusal) = cut
-cut_opening cut old OpeningMemory = cut
-cut_opening cut old OpeningSpent = cut
+-- what has been done with the disk behind an opening: where it failed, it was also cut with the pick that was kept
+abbrev pub events_opening : List DiskEvent → Kept → Opening → List DiskEvent
+events_opening events old Opened = events
+events_opening events old OpeningBroke = events ++ CutWith old.pick ∷ []
+events_opening events old (Refused refusal) = events
+events_opening events old OpeningMemory = events
+events_opening events old OpeningSpent = events
 
-module _ {D : Type 0} (state : D → DiskState) (is_disk : (disk : D) → IsDisk (state disk)) (system : System) (source : List ℕ) (handed : D) (cut : List ℕ) (idle : Idle D) (old : Kept) (session : Session D)
-    (sound : IsDownSound state system source handed cut idle old) where
+module _ {D : Type 0} (state : D → DiskState) (is_disk : (disk : D) → IsDisk (state disk)) (system : System) (source : List ℕ) (handed : D) (events : List DiskEvent) (idle : Idle D) (old : Kept) (session : Session D)
+    (sound : IsDownSound state system source handed events idle old) where
   abbrev before : SessionState
-  before = session_at cut (Down idle) old
+  before = session_at events (Down idle) old
 
-  -- the picks with which the disk was cut where it failed
-  abbrev cut_failed : List ℕ
-  cut_failed = cut ++ old.pick ∷ []
+  -- where it failed it was cut with the pick that was kept
+  abbrev events_failed : List DiskEvent
+  events_failed = events ++ CutWith old.pick ∷ []
 
   abbrev setting : Setting
   setting = session_setting state system source handed
@@ -240,47 +241,43 @@ module _ {D : Type 0} (state : D → DiskState) (is_disk : (disk : D) → IsDisk
   sectors_there : sectors_needed idle.system ≤ (state idle.disk).size → sectors_needed system ≤ (state handed).size
   sectors_there enough = subst (λ n. sectors_needed system ≤ n) sound.same.size (subst (λ s. sectors_needed s ≤ (state idle.disk).size) sound.system_is enough)
 
-  opened_state : (cold : Bool) (gone : HasOpened state idle old cold session) → session_of cut session ≡ life_opened before outage (count_of idle.last cold gone.control.control.opening.steps) gone.control.checkpoint gone.control.control.opening
+  opened_state : (cold : Bool) (gone : HasOpened state idle old cold session) → session_of events session ≡ life_opened before outage (count_of idle.last cold gone.control.control.opening.steps) gone.control.checkpoint gone.control.control.opening
   opened_state cold gone =
-      ap (λ p. session_at cut p session.kept) gone.place
+      ap (λ p. session_at events p session.kept) gone.place
       ∙ same_state (with_life (map life_of old.lives.items) outage.last (count_of idle.last cold gone.control.control.opening.steps)) (map life_of session.kept.lives.items)
-      old.stops.items session.kept.stops.items (picks_with cut old.pick) (picks_with cut session.kept.pick) (StandsUp (life_with gone.control.control.opening gone.control.checkpoint [])) (StandsUp (last_up gone.control))
-      (ap (map life_of) gone.lives ∙ lives_with old.lives.items idle.last cold gone.control.control.opening.steps) gone.stops (ap (picks_with cut) gone.pick)
+      old.stops.items session.kept.stops.items (past_with events old.pick) (past_with events session.kept.pick) (StandsUp (life_with gone.control.control.opening gone.control.checkpoint [])) (StandsUp (last_up gone.control))
+      (ap (map life_of) gone.lives ∙ lives_with old.lives.items idle.last cold gone.control.control.opening.steps) gone.stops (ap (past_with events) gone.pick)
       (ap StandsUp (same_life gone.control.control.opening gone.control.control.opening gone.control.checkpoint gone.control.checkpoint [] gone.control.control.history refl refl gone.opens.history))
 
-  opened_measured : (cold : Bool) (gone : HasOpened state idle old cold session) → measure (session_at cut (Up gone.control) session.kept) ≡ measure before + 1
+  opened_measured : (cold : Bool) (gone : HasOpened state idle old cold session) → measure (session_at events (Up gone.control) session.kept) ≡ measure before + 1
   opened_measured cold gone =
-      ap measure (sym (ap (λ p. session_at cut p session.kept) gone.place) ∙ opened_state cold gone)
+      ap measure (sym (ap (λ p. session_at events p session.kept) gone.place) ∙ opened_state cold gone)
       ∙ opened_measure before outage (count_of idle.last cold gone.control.control.opening.steps) gone.control.checkpoint gone.control.control.opening
 
   opened_counts : (cold : Bool) (gone : HasOpened state idle old cold session) (high : ℕ) → CountsFirst system high (state handed)
-      → CountsUp state (high + call_raises * measure (session_at cut (Up gone.control) session.kept)) gone.control
+      → CountsUp state (high + call_raises * measure (session_at events (Up gone.control) session.kept)) gone.control
   opened_counts cold gone high first =
-      let more : bound high + 1 ≤ high + call_raises * measure (session_at cut (Up gone.control) session.kept) = omega (arith, opened_measured cold gone) in
+      let more : bound high + 1 ≤ high + call_raises * measure (session_at events (Up gone.control) session.kept) = omega (arith, opened_measured cold gone) in
       record {
         own = λ up.
-            stands_more (bound high + 1) (high + call_raises * measure (session_at cut (Up gone.control) session.kept)) gone.control.journal gone.control.next_unit more
+            stands_more (bound high + 1) (high + call_raises * measure (session_at events (Up gone.control) session.kept)) gone.control.journal gone.control.next_unit more
             (gone.stands (bound high) (λ found. tells_now first.tells) (λ found. shown_counts high first));
         images = λ image left.
-            subst (λ (s : System). CountsUpTo s (high + call_raises * measure (session_at cut (Up gone.control) session.kept)) image) (sym (gone.opens.system_is ∙ sound.system_is))
-            (up_to_more system (bound high + 1) (high + call_raises * measure (session_at cut (Up gone.control) session.kept)) image more (raised gone.control.disk gone.counts high first image left));
+            subst (λ (s : System). CountsUpTo s (high + call_raises * measure (session_at events (Up gone.control) session.kept)) image) (sym (gone.opens.system_is ∙ sound.system_is))
+            (up_to_more system (bound high + 1) (high + call_raises * measure (session_at events (Up gone.control) session.kept)) image more (raised gone.control.disk gone.counts high first image left));
       }
 
   -- ---- the numbers that were told
 
-  told_then : (disk : D) (numbers : List ℕ) → numbers ≡ numbers_so_far before → IsSince (state idle.disk) (state disk) → AreShown state system numbers handed disk
-  told_then disk numbers same since =
-      subst (λ (ns : List ℕ). AreShown state system ns handed disk) (sym same) (shown_stay state system (numbers_so_far before) handed idle.disk disk sound.told since)
-
-  opened_numbers : (cold : Bool) (gone : HasOpened state idle old cold session) → numbers_so_far (session_at cut (Up gone.control) session.kept) ≡ numbers_so_far before
+  opened_numbers : (cold : Bool) (gone : HasOpened state idle old cold session) → numbers_so_far (session_at events (Up gone.control) session.kept) ≡ numbers_so_far before
   opened_numbers cold gone =
-      ap numbers_so_far (sym (ap (λ p. session_at cut p session.kept) gone.place) ∙ opened_state cold gone)
+      ap numbers_so_far (sym (ap (λ p. session_at events p session.kept) gone.place) ∙ opened_state cold gone)
       ∙ append-nil (numbers_told (with_life (map life_of old.lives.items) outage.last (count_of idle.last cold gone.control.control.opening.steps)))
       ∙ with_numbers (map life_of old.lives.items) outage.last (count_of idle.last cold gone.control.control.opening.steps)
 
-  opened_sound : (cold : Bool) → HasOpened state idle old cold session → IsSessionSound state system source handed cut session
+  opened_sound : (cold : Bool) → HasOpened state idle old cold session → IsSessionSound state system source handed events session
   opened_sound cold gone =
-      subst (λ p. IsSoundAt state system source handed cut p session.kept) (sym gone.place) (record {
+      subst (λ p. IsSoundAt state system source handed events p session.kept) (sym gone.place) (record {
         handed_alone = sound.handed_alone;
         system_is = gone.opens.system_is ∙ sound.system_is;
         text_is = gone.opens.text_is ∙ sound.text_is;
@@ -293,9 +290,8 @@ module _ {D : Type 0} (state : D → DiskState) (is_disk : (disk : D) → IsDisk
             (legal_with system (map life_of old.lives.items) outage.last (kept_steps idle.last) (count_of idle.last cold gone.control.control.opening.steps) sound.legal sound.answered);
         valid = sound.valid;
         counts = opened_counts cold gone;
-        cuts = cuts_stay state cut handed idle.disk gone.control.disk sound.cuts (uncut_stays (state idle.disk) (state gone.control.disk) gone.opens.stays);
-        told = told_then gone.control.disk (numbers_so_far (session_at cut (Up gone.control) session.kept)) (opened_numbers cold gone)
-            (record { same = stays_is_same (state idle.disk) (state gone.control.disk) gone.opens.stays; later = gone.opens.any_moment.later });
+        happened = events_go state system events handed idle.disk gone.control.disk sound.happened (record { stays = gone.opens.stays; later = gone.opens.any_moment.later });
+        told = sound.told ∙ sym (opened_numbers cold gone);
       })
 
   -- ---- the disk failed
@@ -305,12 +301,12 @@ module _ {D : Type 0} (state : D → DiskState) (is_disk : (disk : D) → IsDisk
   outage_after after emptied stopped last e t =
       ap (λ l. outage_with (option_map last_life_of l) after.emptied after.stopped) last ∙ ap (λ b. outage_with outage.last b after.stopped) e ∙ ap (outage_with outage.last emptied) t
 
-  failed_state : (cold : Bool) (gone : HasFailed state idle old cold session) → session_of cut_failed session ≡ failed before outage cold ((state idle.disk).faults, (state gone.disk).faults)
+  failed_state : (cold : Bool) (gone : HasFailed state idle old cold session) → session_of events_failed session ≡ failed before outage cold ((state idle.disk).faults, (state gone.disk).faults)
   failed_state cold gone =
-      ap (λ p. session_at cut_failed p session.kept) gone.place
+      ap (λ p. session_at events_failed p session.kept) gone.place
       ∙ same_state (map life_of old.lives.items) (map life_of session.kept.lives.items) (old.stops.items ++ ((state idle.disk).faults, (state gone.disk).faults) ∷ []) session.kept.stops.items
-      (picks_with cut_failed 0) (picks_with cut_failed session.kept.pick) (StandsDown (outage_with outage.last (or_cold cold outage.emptied) true)) (StandsDown (outage_of gone.after))
-      (ap (map life_of) gone.lives) gone.stops (ap (picks_with cut_failed) gone.pick) (ap StandsDown (outage_after gone.after (or_cold cold outage.emptied) true gone.last gone.emptied gone.stopped))
+      (past_with events_failed 0) (past_with events_failed session.kept.pick) (StandsDown (outage_with outage.last (or_cold cold outage.emptied) true)) (StandsDown (outage_of gone.after))
+      (ap (map life_of) gone.lives) gone.stops (ap (past_with events_failed) gone.pick) (ap StandsDown (outage_after gone.after (or_cold cold outage.emptied) true gone.last gone.emptied gone.stopped))
 
   -- what was held before is held still, where a cold start may have emptied it
   keeps_holding : (cold : Bool) (image : Image) → HoldsSession state system source handed (StandsDown outage) image → HoldsSession state system source handed (StandsDown (outage_with outage.last (or_cold cold outage.emptied) true)) image
@@ -413,21 +409,21 @@ module _ {D : Type 0} (state : D → DiskState) (is_disk : (disk : D) → IsDisk
       let comes = failed_from cold gone image left in
       numbered_still cold comes.before image comes.by (sound.numbered comes.before comes.left)
 
-  failed_measured : (cold : Bool) (gone : HasFailed state idle old cold session) → measure (session_at cut_failed (Down gone.after) session.kept) ≡ measure before + 1
+  failed_measured : (cold : Bool) (gone : HasFailed state idle old cold session) → measure (session_at events_failed (Down gone.after) session.kept) ≡ measure before + 1
   failed_measured cold gone =
-      ap measure (sym (ap (λ p. session_at cut_failed p session.kept) gone.place) ∙ failed_state cold gone) ∙ failed_measure before outage cold ((state idle.disk).faults, (state gone.disk).faults)
+      ap measure (sym (ap (λ p. session_at events_failed p session.kept) gone.place) ∙ failed_state cold gone) ∙ failed_measure before outage cold ((state idle.disk).faults, (state gone.disk).faults)
 
   failed_counts : (cold : Bool) (gone : HasFailed state idle old cold session) (high : ℕ) → CountsFirst system high (state handed)
-      → CountsDown system (high + call_raises * measure (session_at cut_failed (Down gone.after) session.kept)) (state gone.after.disk)
+      → CountsDown system (high + call_raises * measure (session_at events_failed (Down gone.after) session.kept)) (state gone.after.disk)
   failed_counts cold gone high first image left =
-      up_to_more system (bound high + 1) (high + call_raises * measure (session_at cut_failed (Down gone.after) session.kept)) image (omega (arith, failed_measured cold gone))
+      up_to_more system (bound high + 1) (high + call_raises * measure (session_at events_failed (Down gone.after) session.kept)) image (omega (arith, failed_measured cold gone))
       (raised gone.disk gone.counts high first image (gone.cut.no_more image left))
 
-  failed_sound : (cold : Bool) → HasFailed state idle old cold session → IsSessionSound state system source handed cut_failed session
+  failed_sound : (cold : Bool) → HasFailed state idle old cold session → IsSessionSound state system source handed events_failed session
   failed_sound cold gone =
       let outage_is : outage_of gone.after ≡ outage_with outage.last (or_cold cold outage.emptied) true = outage_after gone.after (or_cold cold outage.emptied) true gone.last gone.emptied gone.stopped in
       let same : IsSameDisk (state handed) (state gone.disk) = same_on (state handed) (state idle.disk) (state gone.disk) sound.same (stays_is_same (state idle.disk) (state gone.disk) gone.back.stays) in
-      subst (λ p. IsSoundAt state system source handed cut_failed p session.kept) (sym gone.place) (record {
+      subst (λ p. IsSoundAt state system source handed events_failed p session.kept) (sym gone.place) (record {
         handed_alone = sound.handed_alone;
         system_is = gone.back.system_is ∙ sound.system_is;
         text_is = gone.back.text_is ∙ sound.text_is;
@@ -444,36 +440,34 @@ module _ {D : Type 0} (state : D → DiskState) (is_disk : (disk : D) → IsDisk
         numbered = λ image left. subst (λ o. IsNumberedAt setting (StandsDown o) image) (sym outage_is) (failed_numbered cold gone image left);
         valid = sound.valid;
         counts = failed_counts cold gone;
-        cuts = cuts_one state cut old.pick handed gone.disk gone.after.disk
-            (cuts_stay state cut handed idle.disk gone.disk sound.cuts (uncut_stays (state idle.disk) (state gone.disk) gone.back.stays)) gone.cut;
-        told = told_then gone.after.disk (numbers_so_far (session_at cut_failed (Down gone.after) session.kept))
-            (ap numbers_so_far (sym (ap (λ p. session_at cut_failed p session.kept) gone.place) ∙ failed_state cold gone))
-            (since_on (state idle.disk) (state gone.disk) (state gone.after.disk)
-            (record { same = stays_is_same (state idle.disk) (state gone.disk) gone.back.stays; later = gone.back.any_moment.later }) (record { same = gone.cut.same; later = gone.cut.elapses.later }));
+        happened = events_one state system events (CutWith old.pick) handed gone.disk gone.after.disk
+            (events_go state system events handed idle.disk gone.disk sound.happened (record { stays = gone.back.stays; later = gone.back.any_moment.later })) gone.cut;
+        told = cut_numbers events old.pick ∙ sound.told
+            ∙ sym (ap numbers_so_far (sym (ap (λ p. session_at events_failed p session.kept) gone.place) ∙ failed_state cold gone));
       })
 
   -- ---- all is as it was
 
-  idle_state : StaysIdle state idle old session → session_of cut session ≡ before
+  idle_state : StaysIdle state idle old session → session_of events session ≡ before
   idle_state idles =
-      ap (λ p. session_at cut p session.kept) idles.place
+      ap (λ p. session_at events p session.kept) idles.place
       ∙ same_state (map life_of old.lives.items) (map life_of session.kept.lives.items) old.stops.items session.kept.stops.items
-      (picks_with cut old.pick) (picks_with cut session.kept.pick) (StandsDown outage) (StandsDown (outage_of idles.after))
-      (ap (map life_of) idles.lives) idles.stops (ap (picks_with cut) idles.pick) (ap StandsDown (outage_after idles.after outage.emptied outage.stopped idles.last idles.emptied idles.stopped))
+      (past_with events old.pick) (past_with events session.kept.pick) (StandsDown outage) (StandsDown (outage_of idles.after))
+      (ap (map life_of) idles.lives) idles.stops (ap (past_with events) idles.pick) (ap StandsDown (outage_after idles.after outage.emptied outage.stopped idles.last idles.emptied idles.stopped))
 
-  idle_measured : (idles : StaysIdle state idle old session) → measure (session_at cut (Down idles.after) session.kept) ≡ measure before
-  idle_measured idles = ap measure (sym (ap (λ p. session_at cut p session.kept) idles.place) ∙ idle_state idles)
+  idle_measured : (idles : StaysIdle state idle old session) → measure (session_at events (Down idles.after) session.kept) ≡ measure before
+  idle_measured idles = ap measure (sym (ap (λ p. session_at events p session.kept) idles.place) ∙ idle_state idles)
 
   idle_counts : (idles : StaysIdle state idle old session) (high : ℕ) → CountsFirst system high (state handed)
-      → CountsDown system (high + call_raises * measure (session_at cut (Down idles.after) session.kept)) (state idles.after.disk)
+      → CountsDown system (high + call_raises * measure (session_at events (Down idles.after) session.kept)) (state idles.after.disk)
   idle_counts idles high first image left =
-      up_to_more system (bound high) (high + call_raises * measure (session_at cut (Down idles.after) session.kept)) image (omega (arith, idle_measured idles))
+      up_to_more system (bound high) (high + call_raises * measure (session_at events (Down idles.after) session.kept)) image (omega (arith, idle_measured idles))
       (sound.counts high first image (idles.wrote.keeps.no_more image left))
 
-  idle_sound : StaysIdle state idle old session → IsSessionSound state system source handed cut session
+  idle_sound : StaysIdle state idle old session → IsSessionSound state system source handed events session
   idle_sound idles =
       let outage_is : outage_of idles.after ≡ outage = outage_after idles.after outage.emptied outage.stopped idles.last idles.emptied idles.stopped in
-      subst (λ p. IsSoundAt state system source handed cut p session.kept) (sym idles.place) (record {
+      subst (λ p. IsSoundAt state system source handed events p session.kept) (sym idles.place) (record {
         handed_alone = sound.handed_alone;
         system_is = idles.system_is ∙ sound.system_is;
         text_is = idles.text_is ∙ sound.text_is;
@@ -488,10 +482,8 @@ module _ {D : Type 0} (state : D → DiskState) (is_disk : (disk : D) → IsDisk
         numbered = λ image left. subst (λ o. IsNumberedAt setting (StandsDown o) image) (sym outage_is) (sound.numbered image (idles.wrote.keeps.no_more image left));
         valid = sound.valid;
         counts = idle_counts idles;
-        cuts = cuts_stay state cut handed idle.disk idles.after.disk sound.cuts (uncut_stays (state idle.disk) (state idles.after.disk) idles.wrote.keeps.stays);
-        told = told_then idles.after.disk (numbers_so_far (session_at cut (Down idles.after) session.kept))
-            (ap numbers_so_far (sym (ap (λ p. session_at cut p session.kept) idles.place) ∙ idle_state idles))
-            (record { same = stays_is_same (state idle.disk) (state idles.after.disk) idles.wrote.keeps.stays; later = idles.wrote.keeps.elapses.later });
+        happened = events_go state system events handed idle.disk idles.after.disk sound.happened (record { stays = idles.wrote.keeps.stays; later = idles.wrote.keeps.elapses.later });
+        told = sound.told ∙ sym (ap numbers_so_far (sym (ap (λ p. session_at events p session.kept) idles.place) ∙ idle_state idles));
       })
 
   -- ---- a disk that can't be opened
@@ -667,16 +659,16 @@ module _ {D : Type 0} (state : D → DiskState) (is_disk : (disk : D) → IsDisk
   looked_at false (Rule rule sector) refuses = tt
   looked_at false (Text place) refuses = tt
 
-  -- the picks with which the disk was cut then
-  abbrev cut_by : Served → List ℕ
-  cut_by Printed = cut
-  cut_by Broke = cut_failed
-  cut_by (NotServed undone) = cut
+  -- what has been done with the disk then
+  abbrev events_by : Served → List DiskEvent
+  events_by Printed = events
+  events_by Broke = events_failed
+  events_by (NotServed undone) = events
 
   abbrev Restarted : Bool → List ℕ → Served → Type 0
-  Restarted cold text Printed = IsRestarted cold setting before outage (session_of cut session) text
-  Restarted cold text Broke = IsRestarted cold setting before outage (session_of cut_failed session) broken_text
-  Restarted cold text (NotServed undone) = (session_of cut session ≡ before) × UndoneBy undone (restart_asked cold) setting before
+  Restarted cold text Printed = IsRestarted cold setting before outage (session_of events session) text
+  Restarted cold text Broke = IsRestarted cold setting before outage (session_of events_failed session) broken_text
+  Restarted cold text (NotServed undone) = (session_of events session ≡ before) × UndoneBy undone (restart_asked cold) setting before
 
   refused : (cold begun : Bool) (refusal : ImageRefused) (text : List ℕ) (served : Served) → is_some idle.last ≡ begun → StaysIdle state idle old session
       → Refuses (how_of cold) idle.system idle.text (state idle.disk) (error_of refusal) → IsRefusalTold begun refusal text served → Restarted cold text served
@@ -745,7 +737,7 @@ module _ {D : Type 0} (state : D → DiskState) (is_disk : (disk : D) → IsDisk
   opens_above true gone tells = gone.opens.checkpoint ∙ ap (λ (r : RestartSector). r.checkpoint) gone.opens.begins.restart_is ∙ (gone.opens.begins.cold refl).first.checkpoint
 
   -- a life that opened, and a disk that failed
-  pub opens_gone : (cold : Bool) → HasOpened state idle old cold session → OpensLife cold setting before outage (session_of cut session)
+  pub opens_gone : (cold : Bool) → HasOpened state idle old cold session → OpensLife cold setting before outage (session_of events session)
   opens_gone cold gone = record {
     kept = count_of idle.last cold gone.control.control.opening.steps;
     checkpoint = gone.control.checkpoint;
@@ -756,7 +748,7 @@ module _ {D : Type 0} (state : D → DiskState) (is_disk : (disk : D) → IsDisk
     goes = opened_state cold gone;
   }
 
-  pub fails_gone : (cold : Bool) → HasFailed state idle old cold session → FailsToOpen cold before outage (session_of cut_failed session)
+  pub fails_gone : (cold : Bool) → HasFailed state idle old cold session → FailsToOpen cold before outage (session_of events_failed session)
   fails_gone cold gone = record { stop = ((state idle.disk).faults, (state gone.disk).faults); ends = failed_state cold gone }
 
   pub restarted : (cold : Bool) (opening : Opening) (text : List ℕ) (served : Served) → HasGone state idle old cold session opening → IsOpeningTold cold (is_some idle.last) opening text served → Restarted cold text served
@@ -769,7 +761,7 @@ module _ {D : Type 0} (state : D → DiskState) (is_disk : (disk : D) → IsDisk
   restarted cold OpeningMemory text served gone why = subst (λ s. Restarted cold text s) (sym why) (idle_state gone, tt)
   restarted cold OpeningSpent text served (gone, spent) why = subst (λ s. Restarted cold text s) (sym why) (idle_state gone, spent_down cold spent)
 
-  pub gone_sound : (cold : Bool) (opening : Opening) → HasGone state idle old cold session opening → IsSessionSound state system source handed (cut_opening cut old opening) session
+  pub gone_sound : (cold : Bool) (opening : Opening) → HasGone state idle old cold session opening → IsSessionSound state system source handed (events_opening events old opening) session
   gone_sound cold Opened gone = opened_sound cold gone
   gone_sound cold OpeningBroke gone = failed_sound cold gone
   gone_sound cold (Refused refusal) gone = idle_sound gone.0
@@ -777,25 +769,25 @@ module _ {D : Type 0} (state : D → DiskState) (is_disk : (disk : D) → IsDisk
   gone_sound cold OpeningSpent gone = idle_sound gone.0
 
   -- as it was printed
-  cut_refused : (begun : Bool) (refusal : ImageRefused) (text : List ℕ) (served : Served) → IsRefusalTold begun refusal text served → cut ≡ cut_by served
-  cut_refused true refusal text served (printed, same) = subst (λ (s : Served). cut ≡ cut_by s) (sym printed) refl
-  cut_refused false refusal text served undone = subst (λ (s : Served). cut ≡ cut_by s) (sym undone) refl
+  events_refused : (begun : Bool) (refusal : ImageRefused) (text : List ℕ) (served : Served) → IsRefusalTold begun refusal text served → events ≡ events_by served
+  events_refused true refusal text served (printed, same) = subst (λ (s : Served). events ≡ events_by s) (sym printed) refl
+  events_refused false refusal text served undone = subst (λ (s : Served). events ≡ events_by s) (sym undone) refl
 
-  cut_told : (cold begun : Bool) (opening : Opening) (text : List ℕ) (served : Served) → IsOpeningTold cold begun opening text served → cut_opening cut old opening ≡ cut_by served
-  cut_told cold begun Opened text served (printed, same) = subst (λ (s : Served). cut ≡ cut_by s) (sym printed) refl
-  cut_told cold begun OpeningBroke text served broke = subst (λ (s : Served). cut_failed ≡ cut_by s) (sym broke) refl
-  cut_told cold begun (Refused refusal) text served told = cut_refused begun refusal text served told
-  cut_told cold begun OpeningMemory text served undone = subst (λ (s : Served). cut ≡ cut_by s) (sym undone) refl
-  cut_told cold begun OpeningSpent text served undone = subst (λ (s : Served). cut ≡ cut_by s) (sym undone) refl
+  events_as_told : (cold begun : Bool) (opening : Opening) (text : List ℕ) (served : Served) → IsOpeningTold cold begun opening text served → events_opening events old opening ≡ events_by served
+  events_as_told cold begun Opened text served (printed, same) = subst (λ (s : Served). events ≡ events_by s) (sym printed) refl
+  events_as_told cold begun OpeningBroke text served broke = subst (λ (s : Served). events_failed ≡ events_by s) (sym broke) refl
+  events_as_told cold begun (Refused refusal) text served told = events_refused begun refusal text served told
+  events_as_told cold begun OpeningMemory text served undone = subst (λ (s : Served). events ≡ events_by s) (sym undone) refl
+  events_as_told cold begun OpeningSpent text served undone = subst (λ (s : Served). events ≡ events_by s) (sym undone) refl
 
   -- a block that asks for a restart
-  served_restart : (asked : Asked) (text : List ℕ) (served : Served) (cold : Bool) → asked_restart asked ≡ Some cold → Restarted cold text served → IsServedSo asked text served setting before (session_of (cut_by served) session)
-  served_restart Restart text Printed cold is one = subst (λ c. IsRestarted c setting before outage (session_of cut session) text) (some_is cold false is) one
-  served_restart Restart text Broke cold is one = subst (λ c. IsRestarted c setting before outage (session_of cut_failed session) broken_text) (some_is cold false is) one
+  served_restart : (asked : Asked) (text : List ℕ) (served : Served) (cold : Bool) → asked_restart asked ≡ Some cold → Restarted cold text served → IsServedSo asked text served setting before (session_of (events_by served) session)
+  served_restart Restart text Printed cold is one = subst (λ c. IsRestarted c setting before outage (session_of events session) text) (some_is cold false is) one
+  served_restart Restart text Broke cold is one = subst (λ c. IsRestarted c setting before outage (session_of events_failed session) broken_text) (some_is cold false is) one
   served_restart Restart text (NotServed undone) cold is one =
       (one.0, subst (λ s. UndoneBy undone Restart setting s) (sym one.0) (subst (λ c. UndoneBy undone (restart_asked c) setting before) (some_is cold false is) one.1))
-  served_restart ColdStart text Printed cold is one = subst (λ c. IsRestarted c setting before outage (session_of cut session) text) (some_is cold true is) one
-  served_restart ColdStart text Broke cold is one = subst (λ c. IsRestarted c setting before outage (session_of cut_failed session) broken_text) (some_is cold true is) one
+  served_restart ColdStart text Printed cold is one = subst (λ c. IsRestarted c setting before outage (session_of events session) text) (some_is cold true is) one
+  served_restart ColdStart text Broke cold is one = subst (λ c. IsRestarted c setting before outage (session_of events_failed session) broken_text) (some_is cold true is) one
   served_restart ColdStart text (NotServed undone) cold is one =
       (one.0, subst (λ s. UndoneBy undone ColdStart setting s) (sym one.0) (subst (λ c. UndoneBy undone (restart_asked c) setting before) (some_is cold true is) one.1))
   served_restart (Bad rule) text served cold is one = cc
@@ -807,22 +799,22 @@ module _ {D : Type 0} (state : D → DiskState) (is_disk : (disk : D) → IsDisk
   served_restart (PowerIn writes pick) text served cold is one = cc
 
   pub served_down : (asked : Asked) (text : List ℕ) (served : Served) (cold : Bool) → asked_restart asked ≡ Some cold → IsRestartedSo state idle old cold session text served
-      → LeadsBy state (λ setting old new. IsServedSo asked text served setting old new) system source handed cut (session_down idle old) session
+      → LeadsBy state (λ setting old new. IsServedSo asked text served setting old new) system source handed events (session_down idle old) session
   served_down asked text served cold is one = record {
-    cut_now = cut_by served;
+    events_now = events_by served;
     goes = served_restart asked text served cold is (restarted cold one.opening text served one.gone one.told);
-    sound = subst (λ picks. IsSessionSound state system source handed picks session) (cut_told cold (is_some idle.last) one.opening text served one.told) (gone_sound cold one.opening one.gone);
+    sound = subst (λ then_events. IsSessionSound state system source handed then_events session) (events_as_told cold (is_some idle.last) one.opening text served one.told) (gone_sound cold one.opening one.gone);
   }
 
 -- another block
 pub served_else : {D : Type 0} (state : D → DiskState) (idle : Idle D) (old : Kept) (setting : Setting) (asked : Asked) → asked_restart asked ≡ None
-    → (cut : List ℕ) → IsServedSo asked down_text Printed setting (session_at cut (Down idle) old) (session_at cut (Down idle) old)
-served_else state idle old setting Restart is cut = cc
-served_else state idle old setting ColdStart is cut = cc
-served_else state idle old setting (Bad rule) is cut = (refl, refl)
-served_else state idle old setting (BadCommand rule) is cut = (refl, refl)
-served_else state idle old setting (Stopped terminal number reason) is cut = (refl, refl)
-served_else state idle old setting (Call call) is cut = (refl, refl)
-served_else state idle old setting (Quiet most) is cut = (refl, refl)
-served_else state idle old setting (Power pick) is cut = (refl, refl)
-served_else state idle old setting (PowerIn writes pick) is cut = (refl, refl)
+    → (events : List DiskEvent) → IsServedSo asked down_text Printed setting (session_at events (Down idle) old) (session_at events (Down idle) old)
+served_else state idle old setting Restart is events = cc
+served_else state idle old setting ColdStart is events = cc
+served_else state idle old setting (Bad rule) is events = (refl, refl)
+served_else state idle old setting (BadCommand rule) is events = (refl, refl)
+served_else state idle old setting (Stopped terminal number reason) is events = (refl, refl)
+served_else state idle old setting (Call call) is events = (refl, refl)
+served_else state idle old setting (Quiet most) is events = (refl, refl)
+served_else state idle old setting (Power pick) is events = (refl, refl)
+served_else state idle old setting (PowerIn writes pick) is events = (refl, refl)

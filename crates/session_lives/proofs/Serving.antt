@@ -1,24 +1,26 @@
 -- What was asked of a control region that is up, as a block that was served.
 use Rattle.std.proofs.Common.{◌≡◌, ℕ, ◌+◌, ◌*◌, ◌≤◌, ◌<◌, Bool, true, false, List, [], ◌∷◌, ◌++◌, length, map, sym, ◌∙◌, ap, subst, refl, arith, inl, inr}
 use Rattle.std.proofs.lemmas.List.{append-nil}
-use Rattle.std.specs.Prelude.{if◌then◌else◌, Option, Some, None, vec_len, vec_capacity}
+use Rattle.std.specs.Prelude.{if◌then◌else◌, Option, Some, None, Ok, Err, vec_len, vec_capacity}
 use Rattle.tm_disk.specs.Disk.{DiskState, IsSameDisk, Only, Rose}
 use Rattle.tm_disk.proofs.Words.{same_on}
 use Rattle.model_system.specs.System.{System}
 use Rattle.model_machine.specs.declared.entry.Entry.{Entry}
+use Rattle.model_machine.specs.declared.entry.Entry.TheVariants.{Accept, Show, Acked, Turn as TurnEntry, Commanded, Checked, Quiet as IsQuiet}
 use Rattle.model_machine.specs.declared.entry.ControlCall.TheVariants.{Turn}
 use Rattle.model_machine.specs.Machine.{start_of}
 use Rattle.model_machine.specs.History.{May, AreSteps, IsCall, call_of, control_moment, moment_after}
 use Rattle.model_session.specs.declared.asked.Asked.{Asked}
 use Rattle.model_session.specs.declared.asked.Asked.TheVariants.{Bad, BadCommand, Stopped, Call, Quiet, Power as AskedPower, PowerIn, Restart, ColdStart}
 use Rattle.model_session.specs.Text.{entry_text, broken_text, armed_text}
-use Rattle.model_session.specs.QuietTurns.{IsQuieted, IsBrokenOff, quieted_text, region_behind_turns}
+use Rattle.model_session.specs.QuietTurns.{AreTurns, IsQuieted, IsBrokenOff, quieted_text, region_behind_turns}
 use Rattle.model_session.specs.Lives.{AreLegal, now_in}
-use Rattle.model_session.specs.SessionState.{Setting, Picks, SessionState, AreStops, life_gone_on, called_on, broken, pick_armed}
+use Rattle.model_session.specs.SessionState.{Setting, DiskEvent, DiskPast, SessionState, AreStops, life_gone_on, called_on, broken, stop_armed, told_one, told_by}
 use Rattle.model_session.specs.SessionState.Standing.{Up as StandsUp}
+use Rattle.model_session.specs.SessionState.DiskEvent.{StopsAt, CutWith, Tells}
 use Rattle.model_session.specs.Session.{IsServedUp, IsBegunBy}
 use Rattle.tm_control.specs.ControlOnDisk.{ControlOnDisk}
-use Rattle.tm_control.specs.ControlCalls.{IsSameControl, AddedNothing}
+use Rattle.tm_control.specs.ControlCalls.{IsSameControl, AddedNothing, StaysSo}
 use Rattle.session_lives.specs.declared.called.Called.{Called}
 use Rattle.session_lives.specs.declared.called.Called.TheVariants.{Answered, Frozen, Power, Broke, Memory, Spent}
 use Rattle.session_lives.specs.declared.called.Served.{Served}
@@ -28,21 +30,34 @@ use Rattle.session_lives.specs.declared.place.Session.{Session}
 use Rattle.session_law.specs.Measures.{call_raises, lives_measure, measure}
 use Rattle.session_law.specs.SpentCounters.{HasSpent, IsSpentAt}
 use Rattle.session_lives.specs.ControlCounts.{CountsUp, KeepsPace}
-use Rattle.session_lives.specs.DiskCuts.{AreCuts}
-use Rattle.session_lives.specs.ToldNumbers.{numbers_in, numbers_told, ShowsTold, IsSince, AreShown}
+use Rattle.session_lives.specs.DiskEvents.{GoesOn, AreEvents}
+use Rattle.session_lives.specs.ToldNumbers.{numbers_in, numbers_told, told_numbers, ShowsTold}
 use Rattle.session_lives.specs.RunningSession.{life_of, last_up, session_at, session_of, session_up, session_setting, CountsFirst, IsUpReady, IsUpSound, IsSessionSound, IsSoundAt, IsReadyAt, LeadsBy}
-use Rattle.session_lives.specs.AskedControl.{IsAsked, DoesAsked, Freezes, AskedFails, PowersOff, Undoes, IsSpentUp, LooksAtCounters, pick_by}
+use Rattle.session_lives.specs.AskedControl.{IsAsked, DoesAsked, Freezes, AskedFails, PowersOff, Undoes, IsSpentUp, LooksAtCounters, StaysBy, pick_by}
 use Rattle.session_lives.specs.Openings.{IsEndable, HasEndedLife, IsAloneBy, IsCallSettled, CountsOn, IsServedSo}
 use Rattle.session_lives.proofs.Counting.{counts_more}
-use Rattle.session_lives.proofs.Cutting.{cuts_stay, cuts_one}
-use Rattle.session_lives.proofs.Telling.{numbers_more, fault_numbers, turns_numbers, shown_stay, shown_none, shown_entry, shown_behind}
-use Rattle.session_lives.proofs.Ends.{picks_with, state_with, up_state, up_with, ended_state, broken_state, down_sound, stop_behind, no_stop}
+use Rattle.session_lives.proofs.Happening.{events_go, events_one, events_told, events_armed}
+use Rattle.session_lives.proofs.Telling.{numbers_more, fault_numbers, turns_numbers, turns_told, cut_numbers, armed_numbers, one_numbers, numbers_behind}
+use Rattle.session_lives.proofs.Staying.{stays_else, not_frozen, not_power, not_broke, not_memory, not_spent}
+use Rattle.session_lives.proofs.Ends.{past_with, state_with, up_state, up_with, ended_state, broken_state, down_sound, stop_behind, no_stop}
 use Rattle.session_lives.proofs.Picks.{pick_broke, pick_undone, pick_spent}
 
 -- the pick that is kept, by whether the disk can be told to stop
-armed_one : (can : Bool) (cut : List ℕ) (pick before after : ℕ) → after ≡ (if can then pick else before) → picks_with cut after ≡ pick_armed can pick (picks_with cut before)
-armed_one true cut pick before after is = ap (picks_with cut) is
-armed_one false cut pick before after is = ap (picks_with cut) is
+armed_one : (can : Bool) (events : List DiskEvent) (writes pick before after : ℕ) → after ≡ (if can then pick else before)
+    → past_with (stop_armed can writes pick (past_with events before)).events after ≡ stop_armed can writes pick (past_with events before)
+armed_one true events writes pick before after is = ap (past_with (events ++ StopsAt writes ∷ [])) is
+armed_one false events writes pick before after is = ap (past_with events) is
+
+-- an entry leaves the pick as it is
+told_picked : (entry : Entry) (events : List DiskEvent) (before after : ℕ) → after ≡ before → past_with (told_one entry (past_with events before)).events after ≡ told_one entry (past_with events before)
+told_picked (Checked freeze (Ok number)) events before after is = ap (past_with (events ++ Tells number ∷ [])) is
+told_picked (Checked freeze (Err refused)) events before after is = ap (past_with events) is
+told_picked (Accept terminal number segments answer) events before after is = ap (past_with events) is
+told_picked (Show terminal answer) events before after is = ap (past_with events) is
+told_picked (Acked terminal number answer) events before after is = ap (past_with events) is
+told_picked (TurnEntry region answer) events before after is = ap (past_with events) is
+told_picked (Commanded command answer) events before after is = ap (past_with events) is
+told_picked (IsQuiet quiet) events before after is = ap (past_with events) is
 
 -- it is up still
 module _ {D : Type 0} (state : D → DiskState) (a b : ControlOnDisk D) where
@@ -58,43 +73,114 @@ module _ {D : Type 0} (state : D → DiskState) (a b : ControlOnDisk D) where
   up_undone Restart added = added.up
   up_undone ColdStart added = added.up
 
-module _ {D : Type 0} (state : D → DiskState) (system : System) (source : List ℕ) (handed : D) (cut : List ℕ) (a b : ControlOnDisk D) (old kept : Kept) (session : Session D) (text : List ℕ)
-    (sound : IsUpSound state system source handed cut a old) (stays : IsSameControl state a b) (lives : kept.lives ≡ old.lives) (stops : kept.stops ≡ old.stops) (pace : KeepsPace state a b) where
+module _ {D : Type 0} (state : D → DiskState) (system : System) (source : List ℕ) (handed : D) (events : List DiskEvent) (a b : ControlOnDisk D) (old kept : Kept) (session : Session D) (text : List ℕ)
+    (sound : IsUpSound state system source handed events a old) (stays : IsSameControl state a b) (lives : kept.lives ≡ old.lives) (stops : kept.stops ≡ old.stops) (pace : KeepsPace state a b) where
   abbrev before : SessionState
-  before = session_at cut (Up a) old
+  before = session_at events (Up a) old
 
   abbrev setting : Setting
   setting = session_setting state system source handed
 
+  -- what was done with the disk before
+  abbrev past : DiskPast
+  past = past_with events old.pick
+
   -- where the session stands now
-  goes_up : session ≡ session_up b kept → session_of cut session ≡ session_at cut (Up b) kept
-  goes_up on = ap (λ (s : Session D). session_of cut s) on
+  goes_up : (now : List DiskEvent) → session ≡ session_up b kept → session_of now session ≡ session_at now (Up b) kept
+  goes_up now on = ap (λ (s : Session D). session_of now s) on
 
-  up_after : session ≡ session_up b kept → kept.pick ≡ old.pick → (entries : List Entry) → b.control.history ≡ a.control.history ++ entries → session_of cut session ≡ life_gone_on before (last_up a) entries
-  up_after on pick entries history = goes_up on ∙ up_state cut a b old kept entries stays.opening stays.checkpoint history lives stops pick
+  up_after : (now : List DiskEvent) → session ≡ session_up b kept → (entries : List Entry) → past_with now kept.pick ≡ told_by entries past → b.control.history ≡ a.control.history ++ entries
+      → session_of now session ≡ life_gone_on before (last_up a) entries
+  up_after now on entries same history = goes_up now on ∙ up_state events now a b old kept entries stays.opening stays.checkpoint history lives stops same
 
-  picked_after : session ≡ session_up b kept → (picks : Picks) → picks_with cut kept.pick ≡ picks → b.control.history ≡ a.control.history
-      → session_of cut session ≡ state_with (map life_of old.lives.items) old.stops.items picks (StandsUp (last_up a))
-  picked_after on picks is history = goes_up on ∙ up_with cut a b old kept picks stays.opening stays.checkpoint history lives stops is
+  past_after : (now : List DiskEvent) → session ≡ session_up b kept → (then_past : DiskPast) → past_with now kept.pick ≡ then_past → b.control.history ≡ a.control.history
+      → session_of now session ≡ state_with (map life_of old.lives.items) old.stops.items then_past (StandsUp (last_up a))
+  past_after now on then_past is history = goes_up now on ∙ up_with now a b old kept then_past stays.opening stays.checkpoint history lives stops is
 
-  same_after : session ≡ session_up b kept → kept.pick ≡ old.pick → b.control.history ≡ a.control.history → session_of cut session ≡ before
-  same_after on pick history = picked_after on (picks_with cut old.pick) (ap (picks_with cut) pick) history
+  same_after : session ≡ session_up b kept → kept.pick ≡ old.pick → b.control.history ≡ a.control.history → session_of events session ≡ before
+  same_after on pick history = past_after events on past (ap (past_with events) pick) history
 
-  -- ---- what the disk was cut with
+  -- ---- what happened at the disk
 
-  cuts_now : AreCuts state cut handed b.disk
-  cuts_now = cuts_stay state cut handed a.disk b.disk sound.cuts (record { same = stays.disk; cuts = stays.cuts })
+  went_on : StaysSo state a b → GoesOn (state a.disk) (state b.disk)
+  went_on by = record { stays = by.disk; later = by.later }
 
-  cuts_left : (over : HasEndedLife state b kept None false session) → AreCuts state cut handed over.idle.disk
-  cuts_left over = subst (λ (d : D). AreCuts state cut handed d) (sym over.disk) cuts_now
+  happened_now : StaysSo state a b → AreEvents state system events handed b.disk
+  happened_now by = events_go state system events handed a.disk b.disk sound.happened (went_on by)
 
-  cuts_with : {stopped : Bool} (pick : ℕ) → (over : HasEndedLife state b kept (Some pick) stopped session) → AreCuts state (cut ++ pick ∷ []) handed over.idle.disk
-  cuts_with pick over = cuts_one state cut pick handed b.disk over.idle.disk cuts_now over.disk
+  -- an entry was told
+  abbrev with_entry : Entry → List DiskEvent
+  with_entry entry = (told_one entry past).events
+
+  happened_entry : (entry : Entry) → StaysSo state a b → ShowsTold b.control.system entry (state b.disk) → AreEvents state system (with_entry entry) handed b.disk
+  happened_entry entry by shows =
+      events_told state system entry past handed b.disk (happened_now by) (subst (λ (s : System). ShowsTold s entry (state b.disk)) (stays.system ∙ sound.system_is) shows)
+
+  -- it was told to stop, where it can be told so
+  abbrev with_stop : ℕ → ℕ → List DiskEvent
+  with_stop writes pick = (stop_armed setting.can_arm writes pick past).events
+
+  happened_armed : (writes pick : ℕ) → StaysBy state (PowerIn writes pick) Answered a b → AreEvents state system (with_stop writes pick) handed b.disk
+  happened_armed writes pick by =
+      subst (λ (can : Bool). AreEvents state system (stop_armed can writes pick past).events handed b.disk) sound.same.can_arm
+      (events_armed state system (state a.disk).can_arm writes pick past handed a.disk b.disk sound.happened by.told by.until_stop)
+
+  happened_left : (now : List DiskEvent) (over : HasEndedLife state b kept None false session) → AreEvents state system now handed b.disk → AreEvents state system now handed over.idle.disk
+  happened_left now over are = subst (λ (d : D). AreEvents state system now handed d) (sym over.disk) are
+
+  happened_cut : {stopped : Bool} (pick : ℕ) → (over : HasEndedLife state b kept (Some pick) stopped session) → StaysSo state a b → AreEvents state system (events ++ CutWith pick ∷ []) handed over.idle.disk
+  happened_cut pick over by = events_one state system events (CutWith pick) handed b.disk over.idle.disk (happened_now by) over.disk
 
   -- the pick that is kept where the disk was told to stop
-  armed_picks : (writes pick : ℕ) → kept.pick ≡ pick_by (PowerIn writes pick) Answered (state a.disk).can_arm old.pick → picks_with cut kept.pick ≡ pick_armed setting.can_arm pick (picks_with cut old.pick)
-  armed_picks writes pick is =
-      subst (λ can. picks_with cut kept.pick ≡ pick_armed can pick (picks_with cut old.pick)) sound.same.can_arm (armed_one (state a.disk).can_arm cut pick old.pick kept.pick is)
+  armed_past : (writes pick : ℕ) → kept.pick ≡ pick_by (PowerIn writes pick) Answered (state a.disk).can_arm old.pick → past_with (with_stop writes pick) kept.pick ≡ stop_armed setting.can_arm writes pick past
+  armed_past writes pick is =
+      subst (λ (can : Bool). past_with (stop_armed can writes pick past).events kept.pick ≡ stop_armed can writes pick past) sound.same.can_arm
+      (armed_one (state a.disk).can_arm events writes pick old.pick kept.pick is)
+
+  -- what has been done with it behind a call that was answered, and behind a freeze
+  abbrev events_done : (asked : Asked) → DoesAsked state asked a b text → List DiskEvent
+  events_done (Bad rule) does_it = events
+  events_done (BadCommand rule) does_it = events
+  events_done (Stopped terminal number reason) does_it = events
+  events_done (Call call) told = with_entry told.entry
+  events_done (Quiet most) turned = events
+  events_done (AskedPower pick) never = events
+  events_done (PowerIn writes pick) does_it = with_stop writes pick
+  events_done Restart does_it = events
+  events_done ColdStart does_it = events
+
+  abbrev events_frozen : (asked : Asked) → Freezes state asked a b text → List DiskEvent
+  events_frozen (Bad rule) never = events
+  events_frozen (BadCommand rule) never = events
+  events_frozen (Stopped terminal number reason) never = events
+  events_frozen (Call call) frozen = with_entry frozen.entry
+  events_frozen (Quiet most) never = events
+  events_frozen (AskedPower pick) never = events
+  events_frozen (PowerIn writes pick) never = events
+  events_frozen Restart never = events
+  events_frozen ColdStart never = events
+
+  happened_done : (asked : Asked) → (does_it : DoesAsked state asked a b text) → StaysBy state asked Answered a b → AreEvents state system (events_done asked does_it) handed b.disk
+  happened_done (Bad rule) does_it by = happened_now by
+  happened_done (BadCommand rule) does_it by = happened_now by
+  happened_done (Stopped terminal number reason) does_it by = happened_now by
+  happened_done (Call call) told by = happened_entry told.entry by told.told
+  happened_done (Quiet most) turned by = happened_now by
+  happened_done (AskedPower pick) never by = absurd never
+  happened_done (PowerIn writes pick) does_it by = happened_armed writes pick by
+  happened_done Restart does_it by = happened_now by
+  happened_done ColdStart does_it by = happened_now by
+
+  happened_frozen : (asked : Asked) → (frozen : Freezes state asked a b text) → StaysSo state a b → AreEvents state system (events_frozen asked frozen) handed b.disk
+  happened_frozen (Bad rule) never by = absurd never
+  happened_frozen (BadCommand rule) never by = absurd never
+  happened_frozen (Stopped terminal number reason) never by = absurd never
+  happened_frozen (Call call) frozen by = happened_entry frozen.entry by frozen.told
+  happened_frozen (Quiet most) never by = absurd never
+  happened_frozen (AskedPower pick) never by = absurd never
+  happened_frozen (PowerIn writes pick) never by = absurd never
+  happened_frozen Restart never by = absurd never
+  happened_frozen ColdStart never by = absurd never
 
   -- the machine's answer, in the system's own words
   may_in : (entry : Entry) → May a.control.system (control_moment a.control) entry → May system (now_in system (last_up a)) entry
@@ -117,51 +203,47 @@ module _ {D : Type 0} (state : D → DiskState) (system : System) (source : List
 
   -- ---- the numbers that were told
 
-  abbrev Told : Type 0
-  Told = AreShown state system (numbers_told (map life_of kept.lives.items) ++ numbers_in b.control.history) handed b.disk
+  abbrev Told : List DiskEvent → Type 0
+  Told now = told_numbers now ≡ numbers_told (map life_of kept.lives.items) ++ numbers_in b.control.history
 
-  since_now : IsSince (state a.disk) (state b.disk)
-  since_now = record { same = stays.disk; later = stays.later }
+  told_with : (now : List DiskEvent) (entries : List Entry) → b.control.history ≡ a.control.history ++ entries → told_numbers now ≡ told_numbers events ++ numbers_in entries → Told now
+  told_with now entries history more =
+      numbers_behind (map life_of old.lives.items) (map life_of kept.lives.items) a.control.history b.control.history entries (told_numbers events) (told_numbers now)
+      (ap (λ v. map life_of v.items) lives) history sound.told more
 
-  told_with : (entries : List Entry) → b.control.history ≡ a.control.history ++ entries → AreShown state system (numbers_in entries) a.disk b.disk → Told
-  told_with entries history shown =
-      shown_behind state system (map life_of old.lives.items) (map life_of kept.lives.items) a.control.history b.control.history entries handed a.disk b.disk
-      (ap (λ v. map life_of v.items) lives) history sound.told shown
+  told_none : (entries : List Entry) → b.control.history ≡ a.control.history ++ entries → numbers_in entries ≡ [] → Told events
+  told_none entries history none =
+      told_with events entries history (sym (ap (λ (numbers : List ℕ). told_numbers events ++ numbers) none ∙ append-nil (told_numbers events)))
 
-  told_same : b.control.history ≡ a.control.history → Told
-  told_same history = told_with [] (history ∙ sym (append-nil a.control.history)) since_now
+  told_same : b.control.history ≡ a.control.history → Told events
+  told_same history = told_none [] (history ∙ sym (append-nil a.control.history)) refl
 
-  told_entry : (entry : Entry) → b.control.history ≡ a.control.history ++ entry ∷ [] → ShowsTold b.control.system entry (state b.disk) → Told
-  told_entry entry history shows =
-      told_with (entry ∷ []) history
-      (shown_entry state system entry a.disk b.disk since_now (subst (λ (s : System). ShowsTold s entry (state b.disk)) (stays.system ∙ sound.system_is) shows))
+  told_entry : (entry : Entry) → b.control.history ≡ a.control.history ++ entry ∷ [] → Told (with_entry entry)
+  told_entry entry history = told_with (with_entry entry) (entry ∷ []) history (one_numbers entry past)
 
-  told_none : (entries : List Entry) → b.control.history ≡ a.control.history ++ entries → numbers_in entries ≡ [] → Told
-  told_none entries history none = told_with entries history (shown_none state system (numbers_in entries) a.disk b.disk none since_now)
-
-  told_done : (asked : Asked) → DoesAsked state asked a b text → Told
+  told_done : (asked : Asked) → (does_it : DoesAsked state asked a b text) → Told (events_done asked does_it)
   told_done (Bad rule) does_it = told_same does_it.0.adds.history
   told_done (BadCommand rule) does_it = told_same does_it.0.adds.history
   told_done (Stopped terminal number reason) does_it = told_same does_it.0.adds.history
-  told_done (Call call) told = told_entry told.entry told.answered.adds.history told.told
+  told_done (Call call) told = told_entry told.entry told.answered.adds.history
   told_done (Quiet most) turned = told_none turned.turns turned.adds.history (turns_numbers a.control.system 0 (control_moment a.control) turned.turns turned.quieted.turns)
   told_done (AskedPower pick) never = absurd never
-  told_done (PowerIn writes pick) does_it = told_same does_it.0.adds.history
+  told_done (PowerIn writes pick) does_it = armed_numbers setting.can_arm writes pick past ∙ told_same does_it.0.adds.history
   told_done Restart does_it = told_same does_it.0.adds.history
   told_done ColdStart does_it = told_same does_it.0.adds.history
 
-  told_frozen : (asked : Asked) → Freezes state asked a b text → Told
+  told_frozen : (asked : Asked) → (frozen : Freezes state asked a b text) → Told (events_frozen asked frozen)
   told_frozen (Bad rule) never = absurd never
   told_frozen (BadCommand rule) never = absurd never
   told_frozen (Stopped terminal number reason) never = absurd never
-  told_frozen (Call call) frozen = told_entry frozen.entry frozen.answered.adds.history frozen.told
+  told_frozen (Call call) frozen = told_entry frozen.entry frozen.answered.adds.history
   told_frozen (Quiet most) never = absurd never
   told_frozen (AskedPower pick) never = absurd never
   told_frozen (PowerIn writes pick) never = absurd never
   told_frozen Restart never = absurd never
   told_frozen ColdStart never = absurd never
 
-  told_power : (asked : Asked) (pick : ℕ) → PowersOff state asked pick a b text → Told
+  told_power : (asked : Asked) (pick : ℕ) → PowersOff state asked pick a b text → Told events
   told_power (Bad rule) pick never = absurd never
   told_power (BadCommand rule) pick never = absurd never
   told_power (Stopped terminal number reason) pick never = absurd never
@@ -172,7 +254,7 @@ module _ {D : Type 0} (state : D → DiskState) (system : System) (source : List
   told_power Restart pick never = absurd never
   told_power ColdStart pick never = absurd never
 
-  told_failed : (asked : Asked) → AskedFails state asked a b → Told
+  told_failed : (asked : Asked) → AskedFails state asked a b → Told events
   told_failed (Bad rule) never = absurd never
   told_failed (BadCommand rule) never = absurd never
   told_failed (Stopped terminal number reason) never = absurd never
@@ -187,7 +269,7 @@ module _ {D : Type 0} (state : D → DiskState) (system : System) (source : List
   told_failed Restart never = absurd never
   told_failed ColdStart never = absurd never
 
-  told_undone : (asked : Asked) → Undoes state asked a b → Told
+  told_undone : (asked : Asked) → Undoes state asked a b → Told events
   told_undone (Bad rule) added = told_same added.adds.history
   told_undone (BadCommand rule) added = told_same added.adds.history
   told_undone (Stopped terminal number reason) added = told_same added.adds.history
@@ -199,15 +281,9 @@ module _ {D : Type 0} (state : D → DiskState) (system : System) (source : List
   told_undone Restart added = told_same added.adds.history
   told_undone ColdStart added = told_same added.adds.history
 
-  -- and behind a life's end
-  told_left : (over : HasEndedLife state b kept None false session) → Told → AreShown state system (numbers_told (map life_of kept.lives.items) ++ numbers_in b.control.history) handed over.idle.disk
-  told_left over told = subst (λ (d : D). AreShown state system (numbers_told (map life_of kept.lives.items) ++ numbers_in b.control.history) handed d) (sym over.disk) told
-
-  told_cut : {stopped : Bool} (pick : ℕ) → (over : HasEndedLife state b kept (Some pick) stopped session) → Told
-      → AreShown state system (numbers_told (map life_of kept.lives.items) ++ numbers_in b.control.history) handed over.idle.disk
-  told_cut pick over told =
-      shown_stay state system (numbers_told (map life_of kept.lives.items) ++ numbers_in b.control.history) handed b.disk over.idle.disk told
-      (record { same = over.disk.same; later = over.disk.elapses.later })
+  -- and behind a cut
+  told_cut : (pick : ℕ) → Told events → Told (events ++ CutWith pick ∷ [])
+  told_cut pick told = cut_numbers events pick ∙ told
 
   -- ---- how far it counts
 
@@ -215,19 +291,20 @@ module _ {D : Type 0} (state : D → DiskState) (system : System) (source : List
   abbrev base : ℕ → ℕ
   base high = high + call_raises * (lives_measure (map life_of old.lives.items) + length old.stops.items + 1)
 
-  counts_now : (high : ℕ) → CountsFirst system high (state handed) → CountsUp state (high + call_raises * measure (session_at cut (Up b) kept)) b
+  counts_now : (high : ℕ) → CountsFirst system high (state handed) → CountsUp state (high + call_raises * measure (session_at events (Up b) kept)) b
   counts_now high first =
       let logs : a.control.system.logs ≤ 2048 = subst (λ (s : System). s.logs ≤ 2048) (sym sound.system_is) sound.valid.most_logs in
       let same_lives : lives_measure (map life_of kept.lives.items) ≡ lives_measure (map life_of old.lives.items) = ap (λ v. lives_measure (map life_of v.items)) lives in
       let same_stops : length kept.stops.items ≡ length old.stops.items = ap (λ v. length v.items) stops in
-      counts_more state (base high + call_raises * length b.control.history) (high + call_raises * measure (session_at cut (Up b) kept)) b (omega (arith, same_lives, same_stops))
+      counts_more state (base high + call_raises * length b.control.history) (high + call_raises * measure (session_at events (Up b) kept)) b (omega (arith, same_lives, same_stops))
       (pace logs (base high) (counts_more state (high + call_raises * measure before) (base high + call_raises * length a.control.history) a (omega arith) (sound.counts high first)))
 
   -- ---- what is sound behind it
 
-  pub up_sound : session ≡ session_up b kept → (state b.disk).faults ≡ (state a.disk).faults → Told → IsSessionSound state system source handed cut session
-  up_sound on calm told =
-      subst (λ (s : Session D). IsSoundAt state system source handed cut s.place s.kept) (sym on)
+  pub up_sound : (now : List DiskEvent) → session ≡ session_up b kept → (state b.disk).faults ≡ (state a.disk).faults → AreEvents state system now handed b.disk → Told now
+      → IsSessionSound state system source handed now session
+  up_sound now on calm happened told =
+      subst (λ (s : Session D). IsSoundAt state system source handed now s.place s.kept) (sym on)
       (record {
         handed_alone = sound.handed_alone;
         system_is = stays.system ∙ sound.system_is;
@@ -239,7 +316,7 @@ module _ {D : Type 0} (state : D → DiskState) (system : System) (source : List
         legal = subst (λ v. AreLegal system (map life_of v.items)) (sym lives) sound.legal;
         valid = sound.valid;
         counts = counts_now;
-        cuts = cuts_now;
+        happened = happened;
         told = told;
       })
 
@@ -255,28 +332,32 @@ module _ {D : Type 0} (state : D → DiskState) (system : System) (source : List
   began_before : b.began ≡ (state a.disk).faults
   began_before = stays.began ∙ sound.began
 
-  pub power_sound : {by : Option ℕ} (cut_then : List ℕ) → (over : HasEndedLife state b kept by false session) → AreCuts state cut_then handed over.idle.disk
-      → AreShown state system (numbers_told (map life_of kept.lives.items) ++ numbers_in b.control.history) handed over.idle.disk → (state b.disk).faults ≡ (state a.disk).faults
-      → IsSessionSound state system source handed cut_then session
-  power_sound cut_then over cuts told calm =
-      subst (λ p. IsSoundAt state system source handed cut_then p session.kept) (sym over.place)
-      (down_sound state system source handed b (stays.system ∙ sound.system_is) sound.handed_alone (stays.text ∙ sound.text_is) sound.size cut_then kept session.kept false over.idle cuts told over.down same_now legal_now
+  pub power_sound : {by : Option ℕ} (events_then : List DiskEvent) → (over : HasEndedLife state b kept by false session) → AreEvents state system events_then handed over.idle.disk
+      → Told events_then → (state b.disk).faults ≡ (state a.disk).faults → IsSessionSound state system source handed events_then session
+  power_sound events_then over happened told calm =
+      subst (λ p. IsSoundAt state system source handed events_then p session.kept) (sym over.place)
+      (down_sound state system source handed b (stays.system ∙ sound.system_is) sound.handed_alone (stays.text ∙ sound.text_is) sound.size events_then kept session.kept false over.idle happened told over.down same_now legal_now
       (no_stop state system source handed b (stays.system ∙ sound.system_is) kept session.kept over.idle over.down stops_now (began_before ∙ sym calm)) sound.valid counts_now)
 
-  pub broke_sound : {by : Option ℕ} (cut_then : List ℕ) → (over : HasEndedLife state b kept by true session) → AreCuts state cut_then handed over.idle.disk
-      → AreShown state system (numbers_told (map life_of kept.lives.items) ++ numbers_in b.control.history) handed over.idle.disk → Rose (state a.disk).faults (state b.disk).faults
-      → IsSessionSound state system source handed cut_then session
-  broke_sound cut_then over cuts told rose =
-      subst (λ p. IsSoundAt state system source handed cut_then p session.kept) (sym over.place)
-      (down_sound state system source handed b (stays.system ∙ sound.system_is) sound.handed_alone (stays.text ∙ sound.text_is) sound.size cut_then kept session.kept true over.idle cuts told over.down same_now legal_now
+  pub broke_sound : {by : Option ℕ} (events_then : List DiskEvent) → (over : HasEndedLife state b kept by true session) → AreEvents state system events_then handed over.idle.disk
+      → Told events_then → Rose (state a.disk).faults (state b.disk).faults → IsSessionSound state system source handed events_then session
+  broke_sound events_then over happened told rose =
+      subst (λ p. IsSoundAt state system source handed events_then p session.kept) (sym over.place)
+      (down_sound state system source handed b (stays.system ∙ sound.system_is) sound.handed_alone (stays.text ∙ sound.text_is) sound.size events_then kept session.kept true over.idle happened told over.down same_now legal_now
       (stop_behind state system source handed b (stays.system ∙ sound.system_is) kept session.kept over.idle (state a.disk).faults over.down stops_now began_before stays.disk.faults rose) sound.valid counts_now)
 
   -- ---- what was served
 
-  nothing : session ≡ session_up b kept → kept.pick ≡ old.pick → AddedNothing state a b → session_of cut session ≡ before
+  turned_after : session ≡ session_up b kept → kept.pick ≡ old.pick → (turns : List Entry) → AreTurns a.control.system 0 (control_moment a.control) turns
+      → b.control.history ≡ a.control.history ++ turns → session_of events session ≡ life_gone_on before (last_up a) turns
+  turned_after on pick turns are history =
+      up_after events on turns (ap (past_with events) pick ∙ sym (turns_told a.control.system 0 (control_moment a.control) turns past are)) history
+
+  nothing : session ≡ session_up b kept → kept.pick ≡ old.pick → AddedNothing state a b → session_of events session ≡ before
   nothing on pick added = same_after on pick added.adds.history
 
-  does : (asked : Asked) → DoesAsked state asked a b text → kept.pick ≡ pick_by asked Answered (state a.disk).can_arm old.pick → session ≡ session_up b kept → IsServedUp asked setting before (last_up a) (session_of cut session) text
+  does : (asked : Asked) → (does_it : DoesAsked state asked a b text) → kept.pick ≡ pick_by asked Answered (state a.disk).can_arm old.pick → session ≡ session_up b kept
+      → IsServedUp asked setting before (last_up a) (session_of (events_done asked does_it) session) text
   does (Bad rule) (added, printed) pick on = (nothing on pick added, printed)
   does (BadCommand rule) (added, printed) pick on = (nothing on pick added, printed)
   does (Stopped terminal number reason) (added, printed) pick on = (nothing on pick added, printed)
@@ -284,32 +365,33 @@ module _ {D : Type 0} (state : D → DiskState) (system : System) (source : List
     entry = told.entry;
     asked = told.asked;
     may = may_in told.entry told.answered.adds.may;
-    goes = subst (λ ends. session_of cut session ≡ called_on ends before (last_up a) (told.entry ∷ [])) (sym told.goes_on)
-        (up_after on pick (told.entry ∷ []) told.answered.adds.history);
+    goes = subst (λ ends. session_of (with_entry told.entry) session ≡ called_on ends before (last_up a) (told.entry ∷ [])) (sym told.goes_on)
+        (up_after (with_entry told.entry) on (told.entry ∷ []) (told_picked told.entry events old.pick kept.pick pick) told.answered.adds.history);
     printed = text_in told.entry told.printed;
   })
   does (Quiet most) turned pick on = inl (record {
     turns = turned.turns;
     steps = steps_in turned.turns turned.steps;
     quieted = quieted_in most turned.turns turned.quieted;
-    goes = up_after on pick turned.turns turned.adds.history;
+    goes = turned_after on pick turned.turns turned.quieted.turns turned.adds.history;
     printed = quiet_text_in turned.turns turned.printed;
   })
   does (AskedPower pick) never is on = absurd never
   does (PowerIn writes pick) (added, printed) is on =
-      (picked_after on (pick_armed setting.can_arm pick (picks_with cut old.pick)) (armed_picks writes pick is) added.adds.history, subst (λ can. text ≡ armed_text can writes) sound.same.can_arm printed)
+      (past_after (with_stop writes pick) on (stop_armed setting.can_arm writes pick past) (armed_past writes pick is) added.adds.history, subst (λ can. text ≡ armed_text can writes) sound.same.can_arm printed)
   does Restart (added, printed) pick on = (nothing on pick added, printed)
   does ColdStart (added, printed) pick on = (nothing on pick added, printed)
 
-  freezes : (asked : Asked) → Freezes state asked a b text → kept.pick ≡ pick_by asked Frozen (state a.disk).can_arm old.pick → HasEndedLife state b kept None false session → IsServedUp asked setting before (last_up a) (session_of cut session) text
+  freezes : (asked : Asked) → (frozen : Freezes state asked a b text) → kept.pick ≡ pick_by asked Frozen (state a.disk).can_arm old.pick → HasEndedLife state b kept None false session
+      → IsServedUp asked setting before (last_up a) (session_of (events_frozen asked frozen) session) text
   freezes (Call call) frozen pick over = inl (record {
     entry = frozen.entry;
     asked = frozen.asked;
     may = may_in frozen.entry frozen.answered.adds.may;
-    goes = subst (λ ends. session_of cut session ≡ called_on ends before (last_up a) (frozen.entry ∷ [])) (sym frozen.ends)
-        (ap (λ p. session_at cut p session.kept) over.place
-        ∙ ended_state state cut a b old kept session.kept (picks_with cut old.pick) over.idle (frozen.entry ∷ []) over.down lives stops (ap (picks_with cut) (over.pick ∙ pick))
-        stays.opening stays.checkpoint frozen.answered.adds.history);
+    goes = subst (λ ends. session_of (with_entry frozen.entry) session ≡ called_on ends before (last_up a) (frozen.entry ∷ [])) (sym frozen.ends)
+        (ap (λ p. session_at (with_entry frozen.entry) p session.kept) over.place
+        ∙ ended_state state (with_entry frozen.entry) a b old kept session.kept (told_one frozen.entry past) over.idle (frozen.entry ∷ []) over.down lives stops
+        (told_picked frozen.entry events old.pick session.kept.pick (over.pick ∙ pick)) stays.opening stays.checkpoint frozen.answered.adds.history);
     printed = text_in frozen.entry frozen.printed;
   })
   freezes (Bad rule) never is over = absurd never
@@ -321,16 +403,16 @@ module _ {D : Type 0} (state : D → DiskState) (system : System) (source : List
   freezes Restart never is over = absurd never
   freezes ColdStart never is over = absurd never
 
-  -- the picks with which the disk was cut behind a stop
-  abbrev cut_stopped : List ℕ
-  cut_stopped = cut ++ old.pick ∷ []
+  -- a stop is a cut with the pick that was kept
+  abbrev events_stopped : List DiskEvent
+  events_stopped = events ++ CutWith old.pick ∷ []
 
   ends_with : {pick : ℕ} → (entries : List Entry) → b.control.history ≡ a.control.history ++ entries → (over : HasEndedLife state b kept (Some pick) true session)
-      → session_of cut_stopped session ≡ broken before (last_up a) entries (b.began, (state over.down.disk).faults)
+      → session_of events_stopped session ≡ broken before (last_up a) entries (b.began, (state over.down.disk).faults)
   ends_with entries history over =
-      ap (λ p. session_at cut_stopped p session.kept) over.place ∙ broken_state state cut a b old kept session.kept over.idle entries over.down lives stops over.pick stays.opening stays.checkpoint history
+      ap (λ p. session_at events_stopped p session.kept) over.place ∙ broken_state state events a b old kept session.kept over.idle entries over.down lives stops over.pick stays.opening stays.checkpoint history
 
-  fails : (asked : Asked) → AskedFails state asked a b → HasEndedLife state b kept (Some kept.pick) true session → IsServedUp asked setting before (last_up a) (session_of cut_stopped session) broken_text
+  fails : (asked : Asked) → AskedFails state asked a b → HasEndedLife state b kept (Some kept.pick) true session → IsServedUp asked setting before (last_up a) (session_of events_stopped session) broken_text
   fails (Call call) failed over = inr (record {
     entry = failed.entry;
     stop = (b.began, (state over.down.disk).faults);
@@ -372,11 +454,11 @@ module _ {D : Type 0} (state : D → DiskState) (system : System) (source : List
   rose_in ColdStart never = absurd never
 
   powers : (asked : Asked) (pick : ℕ) → PowersOff state asked pick a b text → HasEndedLife state b kept (Some pick) false session
-      → IsServedUp asked setting before (last_up a) (session_of (cut ++ pick ∷ []) session) text
+      → IsServedUp asked setting before (last_up a) (session_of (events ++ CutWith pick ∷ []) session) text
   powers (AskedPower asked) pick (same, unchanged, added, printed) over = (
-    ap (λ p. session_at (cut ++ pick ∷ []) p session.kept) over.place
-        ∙ ended_state state (cut ++ pick ∷ []) a b old kept session.kept (picks_with (cut ++ asked ∷ []) 0) over.idle [] over.down lives stops
-        (ap (picks_with (cut ++ pick ∷ [])) over.pick ∙ ap (λ n. picks_with (cut ++ n ∷ []) 0) same) stays.opening stays.checkpoint (added.adds.history ∙ sym (append-nil a.control.history)),
+    ap (λ p. session_at (events ++ CutWith pick ∷ []) p session.kept) over.place
+        ∙ ended_state state (events ++ CutWith pick ∷ []) a b old kept session.kept (past_with (events ++ CutWith asked ∷ []) 0) over.idle [] over.down lives stops
+        (ap (past_with (events ++ CutWith pick ∷ [])) over.pick ∙ ap (λ n. past_with (events ++ CutWith n ∷ []) 0) same) stays.opening stays.checkpoint (added.adds.history ∙ sym (append-nil a.control.history)),
     printed,
   )
   powers (Bad rule) pick never over = absurd never
@@ -388,10 +470,10 @@ module _ {D : Type 0} (state : D → DiskState) (system : System) (source : List
   powers Restart pick never over = absurd never
   powers ColdStart pick never over = absurd never
 
-  undoes : (asked : Asked) → Undoes state asked a b → kept.pick ≡ old.pick → session ≡ session_up b kept → IsBegunBy asked system before before.standing (session_of cut session)
+  undoes : (asked : Asked) → Undoes state asked a b → kept.pick ≡ old.pick → session ≡ session_up b kept → IsBegunBy asked system before before.standing (session_of events session)
   undoes (Quiet most) (inl added) pick on = inl (nothing on pick added)
   undoes (Quiet most) (inr stand) pick on =
-      inr (record { turns = stand.turns; steps = steps_in stand.turns stand.steps; begun = begun_in most stand.turns stand.begun; goes = up_after on pick stand.turns stand.adds.history })
+      inr (record { turns = stand.turns; steps = steps_in stand.turns stand.steps; begun = begun_in most stand.turns stand.begun; goes = turned_after on pick stand.turns stand.begun.turns stand.adds.history })
   undoes (Bad rule) added pick on = nothing on pick added
   undoes (BadCommand rule) added pick on = nothing on pick added
   undoes (Stopped terminal number reason) added pick on = nothing on pick added
@@ -402,9 +484,9 @@ module _ {D : Type 0} (state : D → DiskState) (system : System) (source : List
   undoes ColdStart added pick on = nothing on pick added
 
   -- a counter is spent
-  has_spent : b.up ≡ true → IsSpentUp b → IsSpentAt setting.counts setting (session_at cut (Up b) kept)
+  has_spent : b.up ≡ true → IsSpentUp b → IsSpentAt setting.counts setting (session_at events (Up b) kept)
   has_spent up spent =
-      subst (λ s. HasSpent setting.counts (measure (session_at cut (Up b) kept)) (moment_after s (start_of s b.control.opening) b.control.history).lasting) (stays.system ∙ sound.system_is)
+      subst (λ s. HasSpent setting.counts (measure (session_at events (Up b) kept)) (moment_after s (start_of s b.control.opening) b.control.history).lasting) (stays.system ∙ sound.system_is)
       (record {
         epoch = b.journal.restart.epoch;
         sequence = b.journal.log.sequence + b.journal.log.place;
@@ -416,11 +498,11 @@ module _ {D : Type 0} (state : D → DiskState) (system : System) (source : List
             record { epoch_low = stands.epoch; sequence_low = stands.sequence; checkpoint_low = stands.checkpoint; unit_low = stands.unit };
       })
 
-  spent_now_at : session ≡ session_up b kept → b.up ≡ true → IsSpentUp b → IsSpentAt setting.counts setting (session_of cut session)
-  spent_now_at on up spent = subst (λ s. IsSpentAt setting.counts setting s) (sym (goes_up on)) (has_spent up spent)
+  spent_now_at : session ≡ session_up b kept → b.up ≡ true → IsSpentUp b → IsSpentAt setting.counts setting (session_of events session)
+  spent_now_at on up spent = subst (λ s. IsSpentAt setting.counts setting s) (sym (goes_up events on)) (has_spent up spent)
 
-  counts_on : (asked : Asked) → LooksAtCounters asked → session ≡ session_up b kept → CountsOn (session_of cut session).standing asked
-  counts_on asked looks on = subst (λ (s : SessionState). CountsOn s.standing asked) (sym (goes_up on)) looks
+  counts_on : (asked : Asked) → LooksAtCounters asked → session ≡ session_up b kept → CountsOn (session_of events session).standing asked
+  counts_on asked looks on = subst (λ (s : SessionState). CountsOn s.standing asked) (sym (goes_up events on)) looks
 
   -- ---- the disk fails in a stop alone
 
@@ -471,39 +553,56 @@ module _ {D : Type 0} (state : D → DiskState) (system : System) (source : List
 
   -- ---- all of it
 
-  pub served_up : (asked : Asked) (called : Called) (served : Served) → IsAsked state asked a b text called → kept.pick ≡ pick_by asked called (state a.disk).can_arm old.pick → IsCallSettled state (session_up b kept) called session served
-      → LeadsBy state (λ setting old new. IsServedSo asked text served setting old new) system source handed cut (session_up a old) session
-  served_up asked Answered served does_it pick (on, printed) =
-      subst (λ s. LeadsBy state (λ setting old new. IsServedSo asked text s setting old new) system source handed cut (session_up a old) session) (sym printed)
-      (record { cut_now = cut; goes = does asked does_it pick on; sound = up_sound on (calm_done asked does_it) (told_done asked does_it) })
-  served_up asked Frozen served frozen pick (over, printed) =
-      subst (λ s. LeadsBy state (λ setting old new. IsServedSo asked text s setting old new) system source handed cut (session_up a old) session) (sym printed)
-      (record { cut_now = cut; goes = freezes asked frozen pick over; sound = power_sound cut over (cuts_left over) (told_left over (told_frozen asked frozen)) (calm_frozen asked frozen) })
-  served_up asked (Power pick) served power is (over, printed) =
-      subst (λ s. LeadsBy state (λ setting old new. IsServedSo asked text s setting old new) system source handed cut (session_up a old) session) (sym printed)
+  pub served_up : (asked : Asked) (called : Called) (served : Served) → StaysBy state asked called a b → IsAsked state asked a b text called → kept.pick ≡ pick_by asked called (state a.disk).can_arm old.pick
+      → IsCallSettled state (session_up b kept) called session served
+      → LeadsBy state (λ setting old new. IsServedSo asked text served setting old new) system source handed events (session_up a old) session
+  served_up asked Answered served by does_it pick (on, printed) =
+      subst (λ s. LeadsBy state (λ setting old new. IsServedSo asked text s setting old new) system source handed events (session_up a old) session) (sym printed)
       (record {
-        cut_now = cut ++ pick ∷ [];
+        events_now = events_done asked does_it;
+        goes = does asked does_it pick on;
+        sound = up_sound (events_done asked does_it) on (calm_done asked does_it) (happened_done asked does_it by) (told_done asked does_it);
+      })
+  served_up asked Frozen served by frozen pick (over, printed) =
+      subst (λ s. LeadsBy state (λ setting old new. IsServedSo asked text s setting old new) system source handed events (session_up a old) session) (sym printed)
+      (record {
+        events_now = events_frozen asked frozen;
+        goes = freezes asked frozen pick over;
+        sound = power_sound (events_frozen asked frozen) over
+            (happened_left (events_frozen asked frozen) over (happened_frozen asked frozen (stays_else state asked Frozen a b not_frozen by)))
+            (told_frozen asked frozen) (calm_frozen asked frozen);
+      })
+  served_up asked (Power pick) served by power is (over, printed) =
+      subst (λ s. LeadsBy state (λ setting old new. IsServedSo asked text s setting old new) system source handed events (session_up a old) session) (sym printed)
+      (record {
+        events_now = events ++ CutWith pick ∷ [];
         goes = powers asked pick power over;
-        sound = power_sound (cut ++ pick ∷ []) over (cuts_with pick over) (told_cut pick over (told_power asked pick power)) (calm_power asked pick power);
+        sound = power_sound (events ++ CutWith pick ∷ []) over (happened_cut pick over (stays_else state asked (Power pick) a b (not_power pick) by))
+            (told_cut pick (told_power asked pick power)) (calm_power asked pick power);
       })
-  served_up asked Broke served failed pick (over, broke) =
-      subst (λ s. LeadsBy state (λ setting old new. IsServedSo asked text s setting old new) system source handed cut (session_up a old) session) (sym broke)
+  served_up asked Broke served by failed pick (over, broke) =
+      subst (λ s. LeadsBy state (λ setting old new. IsServedSo asked text s setting old new) system source handed events (session_up a old) session) (sym broke)
       (record {
-        cut_now = cut_stopped;
+        events_now = events_stopped;
         goes = fails asked failed over;
-        sound = broke_sound cut_stopped over
-            (subst (λ n. AreCuts state (cut ++ n ∷ []) handed over.idle.disk) (pick ∙ pick_broke asked (state a.disk).can_arm old.pick) (cuts_with kept.pick over))
-            (told_cut kept.pick over (told_failed asked failed)) (rose_in asked failed);
+        sound = broke_sound events_stopped over
+            (subst (λ n. AreEvents state system (events ++ CutWith n ∷ []) handed over.idle.disk) (pick ∙ pick_broke asked (state a.disk).can_arm old.pick)
+            (happened_cut kept.pick over (stays_else state asked Broke a b not_broke by)))
+            (told_cut old.pick (told_failed asked failed)) (rose_in asked failed);
       })
-  served_up asked Memory served undone pick (on, why) =
-      subst (λ s. LeadsBy state (λ setting old new. IsServedSo asked text s setting old new) system source handed cut (session_up a old) session) (sym why)
-      (record { cut_now = cut; goes = (undoes asked undone (pick ∙ pick_undone asked (state a.disk).can_arm old.pick) on, tt); sound = up_sound on (calm_undone asked undone) (told_undone asked undone) })
-  served_up asked Spent served (undone, spent, looks) pick (on, why) =
-      subst (λ s. LeadsBy state (λ setting old new. IsServedSo asked text s setting old new) system source handed cut (session_up a old) session) (sym why)
+  served_up asked Memory served by undone pick (on, why) =
+      subst (λ s. LeadsBy state (λ setting old new. IsServedSo asked text s setting old new) system source handed events (session_up a old) session) (sym why)
       (record {
-        cut_now = cut;
+        events_now = events;
+        goes = (undoes asked undone (pick ∙ pick_undone asked (state a.disk).can_arm old.pick) on, tt);
+        sound = up_sound events on (calm_undone asked undone) (happened_now (stays_else state asked Memory a b not_memory by)) (told_undone asked undone);
+      })
+  served_up asked Spent served by (undone, spent, looks) pick (on, why) =
+      subst (λ s. LeadsBy state (λ setting old new. IsServedSo asked text s setting old new) system source handed events (session_up a old) session) (sym why)
+      (record {
+        events_now = events;
         goes = (undoes asked undone (pick ∙ pick_spent asked (state a.disk).can_arm old.pick) on, (spent_now_at on (up_undone state a b asked undone) spent, counts_on asked looks on));
-        sound = up_sound on (calm_undone asked undone) (told_undone asked undone);
+        sound = up_sound events on (calm_undone asked undone) (happened_now (stays_else state asked Spent a b not_spent by)) (told_undone asked undone);
       })
 
 -- ---- what is ready behind it

@@ -1,4 +1,5 @@
 -- What stays over what was asked.
+use Rattle.std.proofs.Common.{◌≡◌, ℕ, refl}
 use Rattle.tm_disk.specs.Disk.{DiskState}
 use Rattle.tm_disk.proofs.Words.{stays_is_same}
 use Rattle.model_session.specs.declared.asked.Asked.{Asked}
@@ -38,3 +39,36 @@ module _ {D : Type 0} (state : D → DiskState) where
   same_by (AskedPower pick) called a b h = same_of a b h
   same_by Restart called a b h = same_of a b h
   same_by ColdStart called a b h = same_of a b h
+
+  -- only a POWER IN that was served tells the disk to stop
+  pub stays_else : (asked : Asked) (called : Called) (a b : ControlOnDisk D) → (called ≡ Answered → ⊥) → StaysBy state asked called a b → StaysSo state a b
+  stays_else (PowerIn writes pick) Answered a b other h = absurd (other refl)
+  stays_else (PowerIn writes pick) Frozen a b other h = h
+  stays_else (PowerIn writes pick) (Power picked) a b other h = h
+  stays_else (PowerIn writes pick) Broke a b other h = h
+  stays_else (PowerIn writes pick) Memory a b other h = h
+  stays_else (PowerIn writes pick) Spent a b other h = h
+  stays_else (Bad rule) called a b other h = h
+  stays_else (BadCommand rule) called a b other h = h
+  stays_else (Stopped terminal number reason) called a b other h = h
+  stays_else (Call call) called a b other h = h
+  stays_else (Quiet most) called a b other h = h
+  stays_else (AskedPower pick) called a b other h = h
+  stays_else Restart called a b other h = h
+  stays_else ColdStart called a b other h = h
+
+-- how a call went but by being answered
+pub not_frozen : Frozen ≡ Answered → ⊥
+not_frozen e = cc
+
+pub not_power : (pick : ℕ) → Power pick ≡ Answered → ⊥
+not_power pick e = cc
+
+pub not_broke : Broke ≡ Answered → ⊥
+not_broke e = cc
+
+pub not_memory : Memory ≡ Answered → ⊥
+not_memory e = cc
+
+pub not_spent : Spent ≡ Answered → ⊥
+not_spent e = cc

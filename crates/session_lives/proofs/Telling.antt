@@ -1,9 +1,7 @@
--- The disk has shown the numbers that were told, over further entries, openings and ends of lives.
-use Rattle.std.proofs.Common.{◌≡◌, ℕ, suc, true, List, [], ◌∷◌, ◌++◌, sym, ◌∙◌, ap, subst, refl, arith, append_assoc}
+-- The numbers of checkpoints that are told, in lives and at their disk.
+use Rattle.std.proofs.Common.{◌≡◌, ℕ, suc, Bool, true, false, List, [], ◌∷◌, ◌++◌, sym, ◌∙◌, ap, refl, append_assoc}
 use Rattle.std.proofs.lemmas.List.{append-nil}
 use Rattle.std.specs.Prelude.{Option, Some, None, Ok, Err}
-use Rattle.tm_disk.specs.Disk.{DiskState}
-use Rattle.tm_disk.proofs.Words.{same_itself, same_on}
 use Rattle.model_system.specs.System.{System}
 use Rattle.model_machine.specs.declared.entry.Entry.{Entry}
 use Rattle.model_machine.specs.declared.entry.Entry.TheVariants.{Accept, Show, Acked, Turn as TurnEntry, Commanded, Checked, Quiet}
@@ -12,7 +10,9 @@ use Rattle.model_machine.specs.Machine.{Moment}
 use Rattle.model_machine.specs.History.{call_of, after_entry}
 use Rattle.model_session.specs.Lives.{LifeState, LastLife, is_disk_fault, kept_life, with_life}
 use Rattle.model_session.specs.QuietTurns.{AreTurns, region_behind_turns}
-use Rattle.session_lives.specs.ToldNumbers.{numbers_in, numbers_told, numbers_of, ShowsTold, IsSince, AreShown}
+use Rattle.model_session.specs.SessionState.{DiskEvent, DiskPast, stop_armed, told_one, told_by}
+use Rattle.model_session.specs.SessionState.DiskEvent.{StopsAt, CutWith, Tells}
+use Rattle.session_lives.specs.ToldNumbers.{numbers_in, numbers_told, numbers_of, told_numbers}
 
 -- ---- numbers
 
@@ -60,51 +60,53 @@ with_numbers lives (Some life) kept = lives_more lives where
   lives_more [] = append-nil (numbers_in life.history)
   lives_more (first ∷ before) = ap (λ (numbers : List ℕ). numbers_in first.history ++ numbers) (lives_more before) ∙ sym (append_assoc (numbers_in first.history) (numbers_told before) (numbers_in life.history))
 
--- ---- moments
+-- ---- at the disk
 
-pub since_itself : (disk : DiskState) → IsSince disk disk
-since_itself disk = record { same = same_itself disk; later = omega arith }
+told_more : (events more : List DiskEvent) → told_numbers (events ++ more) ≡ told_numbers events ++ told_numbers more
+told_more [] more = refl
+told_more (Tells number ∷ events) more = ap (λ (numbers : List ℕ). number ∷ numbers) (told_more events more)
+told_more (StopsAt writes ∷ events) more = told_more events more
+told_more (CutWith pick ∷ events) more = told_more events more
 
-pub since_on : (old mid new : DiskState) → IsSince old mid → IsSince mid new → IsSince old new
-since_on old mid new a b = record { same = same_on old mid new a.same b.same; later = omega (arith, a.later, b.later) }
+-- neither a cut tells of one, nor that the disk was told to stop
+pub cut_numbers : (events : List DiskEvent) (pick : ℕ) → told_numbers (events ++ CutWith pick ∷ []) ≡ told_numbers events
+cut_numbers events pick = told_more events (CutWith pick ∷ []) ∙ append-nil (told_numbers events)
 
-module _ {D : Type 0} (state : D → DiskState) (system : System) where
-  pub shown_stay : (numbers : List ℕ) (old mid new : D) → AreShown state system numbers old mid → IsSince (state mid) (state new) → AreShown state system numbers old new
-  shown_stay [] old mid new shown since = since_on (state old) (state mid) (state new) shown since
-  shown_stay (number ∷ numbers) old mid new shown since =
-      record { moment = shown.moment; since = shown.since; shows = shown.shows; goes_on = shown_stay numbers shown.moment mid new shown.goes_on since }
+pub armed_numbers : (can : Bool) (writes pick : ℕ) (past : DiskPast) → told_numbers (stop_armed can writes pick past).events ≡ told_numbers past.events
+armed_numbers true writes pick past = told_more past.events (StopsAt writes ∷ []) ∙ append-nil (told_numbers past.events)
+armed_numbers false writes pick past = refl
 
-  shown_since : (numbers : List ℕ) (old mid new : D) → IsSince (state old) (state mid) → AreShown state system numbers mid new → AreShown state system numbers old new
-  shown_since [] old mid new since shown = since_on (state old) (state mid) (state new) since shown
-  shown_since (number ∷ numbers) old mid new since shown =
-      record { moment = shown.moment; since = since_on (state old) (state mid) (state shown.moment) since shown.since; shows = shown.shows; goes_on = shown.goes_on }
+-- an entry tells of its own
+pub one_numbers : (entry : Entry) (past : DiskPast) → told_numbers (told_one entry past).events ≡ told_numbers past.events ++ numbers_in (entry ∷ [])
+one_numbers (Checked freeze (Ok number)) past = told_more past.events (Tells number ∷ [])
+one_numbers (Checked freeze (Err refused)) past = sym (append-nil (told_numbers past.events))
+one_numbers (Accept terminal number segments answer) past = sym (append-nil (told_numbers past.events))
+one_numbers (Show terminal answer) past = sym (append-nil (told_numbers past.events))
+one_numbers (Acked terminal number answer) past = sym (append-nil (told_numbers past.events))
+one_numbers (TurnEntry region answer) past = sym (append-nil (told_numbers past.events))
+one_numbers (Commanded command answer) past = sym (append-nil (told_numbers past.events))
+one_numbers (Quiet quiet) past = sym (append-nil (told_numbers past.events))
 
-  shown_on : (numbers more : List ℕ) (old mid new : D) → AreShown state system numbers old mid → AreShown state system more mid new → AreShown state system (numbers ++ more) old new
-  shown_on [] more old mid new first second = shown_since more old mid new first second
-  shown_on (number ∷ numbers) more old mid new first second =
-      record { moment = first.moment; since = first.since; shows = first.shows; goes_on = shown_on numbers more first.moment mid new first.goes_on second }
+-- a turn tells of none
+turn_told : (entry : Entry) (past : DiskPast) (region : ℕ) → call_of entry ≡ Turn region → told_one entry past ≡ past
+turn_told (Checked freeze answer) past region is = cc
+turn_told (Accept terminal number segments answer) past region is = refl
+turn_told (Show terminal answer) past region is = refl
+turn_told (Acked terminal number answer) past region is = refl
+turn_told (TurnEntry other answer) past region is = refl
+turn_told (Commanded command answer) past region is = refl
+turn_told (Quiet quiet) past region is = refl
 
-  -- no number was told
-  pub shown_none : (numbers : List ℕ) (old new : D) → numbers ≡ [] → IsSince (state old) (state new) → AreShown state system numbers old new
-  shown_none numbers old new none since = subst (λ (ns : List ℕ). AreShown state system ns old new) (sym none) since
+pub turns_told : (system : System) (before : ℕ) (moment : Moment) (turns : List Entry) (past : DiskPast) → AreTurns system before moment turns → told_by turns past ≡ past
+turns_told system before moment [] past are = refl
+turns_told system before moment (entry ∷ entries) past are =
+    ap (told_by entries) (turn_told entry past (region_behind_turns system before) are.1) ∙ turns_told system (suc before) (after_entry system moment entry) entries past are.2
 
-  -- an entry was told, and the disk shows its number
-  pub shown_entry : (entry : Entry) (old new : D) → IsSince (state old) (state new) → ShowsTold system entry (state new) → AreShown state system (numbers_in (entry ∷ [])) old new
-  shown_entry (Checked freeze (Ok number)) old new since shows = record { moment = new; since = since; shows = shows; goes_on = since_itself (state new) }
-  shown_entry (Checked freeze (Err refused)) old new since shows = since
-  shown_entry (Accept terminal number segments answer) old new since shows = since
-  shown_entry (Show terminal answer) old new since shows = since
-  shown_entry (Acked terminal number answer) old new since shows = since
-  shown_entry (TurnEntry region answer) old new since shows = since
-  shown_entry (Commanded command answer) old new since shows = since
-  shown_entry (Quiet quiet) old new since shows = since
-
-  -- a life went on with entries
-  pub shown_behind : (lives lives' : List LifeState) (before after entries : List Entry) (handed old new : D) → lives' ≡ lives → after ≡ before ++ entries
-      → AreShown state system (numbers_told lives ++ numbers_in before) handed old → AreShown state system (numbers_in entries) old new → AreShown state system (numbers_told lives' ++ numbers_in after) handed new
-  shown_behind lives lives' before after entries handed old new same more first second =
-      subst (λ (ns : List ℕ). AreShown state system ns handed new)
-      (append_assoc (numbers_told lives) (numbers_in before) (numbers_in entries)
-      ∙ ap (λ (ns : List ℕ). numbers_told lives ++ ns) (sym (numbers_more before entries) ∙ ap numbers_in (sym more))
-      ∙ ap (λ (ls : List LifeState). numbers_told ls ++ numbers_in after) (sym same))
-      (shown_on (numbers_told lives ++ numbers_in before) (numbers_in entries) handed old new first second)
+-- a life went on with entries, and they were told
+pub numbers_behind : (lives lives' : List LifeState) (before after entries : List Entry) (told told' : List ℕ) → lives' ≡ lives → after ≡ before ++ entries
+    → told ≡ numbers_told lives ++ numbers_in before → told' ≡ told ++ numbers_in entries → told' ≡ numbers_told lives' ++ numbers_in after
+numbers_behind lives lives' before after entries told told' same more first second =
+    second ∙ ap (λ (ns : List ℕ). ns ++ numbers_in entries) first
+    ∙ append_assoc (numbers_told lives) (numbers_in before) (numbers_in entries)
+    ∙ ap (λ (ns : List ℕ). numbers_told lives ++ ns) (sym (numbers_more before entries) ∙ ap numbers_in (sym more))
+    ∙ ap (λ (ls : List LifeState). numbers_told ls ++ numbers_in after) (sym same)

@@ -107,8 +107,8 @@ DoesAsked state (PowerIn writes pick) old new text = AddedNothing state old new 
 DoesAsked state Restart old new text = AddedNothing state old new × (text ≡ up_text)
 DoesAsked state ColdStart old new text = AddedNothing state old new × (text ≡ up_text)
 
--- What it leaves as it was. POWER IN tells the disk to stop as the line says. Nothing else tells it so or puts a stop off,
--- which may be nearer.
+-- What it leaves as it was. POWER IN tells the disk to stop as the line says. Nothing else tells it so, and a stop to come is nearer by
+-- just the writes that were made.
 abbrev pub StaysBy : {D : Type 0} → (D → DiskState) → Asked → Called → ControlOnDisk D → ControlOnDisk D → Type 0
 StaysBy state (PowerIn writes pick) Answered old new = HasArmed state writes old new
 StaysBy state _ _ old new = StaysSo state old new

@@ -4,7 +4,7 @@ use Rattle.std.specs.Option.{is_some}
 use Rattle.tm_disk.specs.Disk.{Image, DiskState, IsSameDisk}
 use Rattle.model_system.specs.System.{System}
 use Rattle.model_session.specs.Lives.{AreLegal}
-use Rattle.model_session.specs.SessionState.{SessionState, Stop, AreAllLives, AreStops, last_life}
+use Rattle.model_session.specs.SessionState.{DiskEvent, SessionState, Stop, AreAllLives, AreStops, last_life}
 use Rattle.openings.specs.FirstImage.{sectors_needed}
 use Rattle.tm_control.specs.ControlOnDisk.{ControlOnDisk, Lasts}
 use Rattle.tm_control.specs.ClosedControl.{Closes}
@@ -14,8 +14,8 @@ use Rattle.session_lives.specs.declared.place.Place.{Place}
 use Rattle.session_lives.specs.declared.place.Place.TheVariants.{Up, Down, Moved}
 use Rattle.session_lives.specs.declared.place.Kept.{Kept}
 use Rattle.session_lives.specs.declared.place.Session.{Session}
-use Rattle.session_lives.specs.DiskCuts.{AreCuts}
-use Rattle.session_lives.specs.ToldNumbers.{numbers_told, AreShown}
+use Rattle.session_lives.specs.DiskEvents.{AreEvents}
+use Rattle.session_lives.specs.ToldNumbers.{numbers_told, told_numbers}
 use Rattle.session_lives.specs.RunningSession.{life_of, session_of, session_setting, HoldsSession, IsNumberedAt, IsSessionSound}
 
 -- the disk has sectors enough for the system
@@ -52,8 +52,8 @@ IsClosedAt state Moved kept disk lives stops = ⊥
 abbrev pub IsSessionClosed : {D : Type 0} → (D → DiskState) → Session D → D → List Life → List Stop → Type 0
 IsSessionClosed state session disk lives stops = IsClosedAt state session.place session.kept disk lives stops
 
--- What is left of a session that stood so at its end, and what was kept of it. The disk is the one that was handed in, cut with
--- the picks of the session, and has shown the numbers that were told. Where a life has begun, it has sectors enough.
+-- What is left of a session that stood so at its end, and what was kept of it. The disk is the one that was handed in, and just the
+-- session's events happened at it, which tell of the checkpoints that the lives tell of. Where a life has begun, it has sectors enough.
 pub record Remains {D : Type 0} (state : D → DiskState) (system : System) (source : List ℕ) (handed disk : D) (last : SessionState) (lives : List Life) (stops : List Stop) : Type 0 where
   pub lives_are : AreAllLives system last (map life_of lives)
   pub legal : AreLegal system (map life_of lives)
@@ -63,11 +63,11 @@ pub record Remains {D : Type 0} (state : D → DiskState) (system : System) (sou
   pub images : (image : Image) → (state disk).may_leave image → HoldsSession state system source handed last.standing image
   pub numbered : (image : Image) → (state disk).may_leave image → IsNumberedAt (session_setting state system source handed) last.standing image
   pub enough : is_some (last_life last.standing) ≡ true → HasSectors system (state handed)
-  pub cuts : AreCuts state last.picks.cut handed disk
-  pub told : AreShown state system (numbers_told (map life_of lives)) handed disk
+  pub happened : AreEvents state system last.disk.events handed disk
+  pub told : told_numbers last.disk.events ≡ numbers_told (map life_of lives)
 
--- So it is, whatever disk was handed in, and with whatever picks it was cut.
+-- So it is, whatever disk was handed in, and whatever was done with it.
 abbrev pub SessionLeaves : {D : Type 0} → (D → DiskState) → Session D → D → List Life → List Stop → Type 0
 SessionLeaves {D} state session disk lives stops =
-    (system : System) → (source : List ℕ) → (handed : D) → (cut : List ℕ) → IsSessionSound state system source handed cut session
-    → Remains state system source handed disk (session_of cut session) lives stops
+    (system : System) → (source : List ℕ) → (handed : D) → (events : List DiskEvent) → IsSessionSound state system source handed events session
+    → Remains state system source handed disk (session_of events session) lives stops

@@ -1,6 +1,6 @@
 pub mod ControlCounts
-pub mod DiskCuts
 pub mod ToldNumbers
+pub mod DiskEvents
 pub mod AskedControl
 pub mod RegionTurns
 pub mod RunningSession

@@ -7,7 +7,7 @@ use Rattle.model_machine.specs.Machine.{LastingState, empty_state}
 use Rattle.model_image.specs.RecoveredState.{Recovers}
 use Rattle.model_image.specs.AlikeImages.{RecoversAlike}
 use Rattle.model_session.specs.Lives.{LifeState, LastLife, last_number, AreLegal}
-use Rattle.model_session.specs.SessionState.{Setting, Outage, Standing, SessionState, LastAnswered, MayHold, IsKnown, HasNoLife, AreStops, no_life}
+use Rattle.model_session.specs.SessionState.{Setting, Outage, Standing, DiskEvent, SessionState, LastAnswered, MayHold, IsKnown, HasNoLife, AreStops, no_life}
 use Rattle.model_session.specs.SessionState.Standing.{Up as StandsUp, Down as StandsDown}
 use Rattle.model_session.specs.Session.{OpensFirst}
 use Rattle.model_session.specs.declared.asked.ImageRefused.{ImageRefused}
@@ -29,8 +29,8 @@ use Rattle.session_lives.specs.declared.place.Place.TheVariants.{Up, Down, Moved
 use Rattle.session_lives.specs.declared.place.Kept.{Kept}
 use Rattle.session_lives.specs.declared.place.Session.{Session}
 use Rattle.session_lives.specs.ControlCounts.{CountsUp}
-use Rattle.session_lives.specs.DiskCuts.{AreCuts}
-use Rattle.session_lives.specs.ToldNumbers.{numbers_so_far, AreShown}
+use Rattle.session_lives.specs.DiskEvents.{AreEvents}
+use Rattle.session_lives.specs.ToldNumbers.{numbers_so_far, told_numbers}
 
 -- ---- as a state
 
@@ -53,12 +53,12 @@ standing_of (Up control) = StandsUp (last_up control)
 standing_of (Down idle) = StandsDown (outage_of idle)
 standing_of Moved = StandsDown no_life
 
--- of a disk that was cut with these picks so far
-abbrev pub session_at : {D : Type 0} → List ℕ → Place D → Kept → SessionState
-session_at cut place kept = record { lives = map life_of kept.lives.items; stops = kept.stops.items; picks = record { kept = kept.pick; cut = cut }; standing = standing_of place }
+-- with whose disk all this was done so far
+abbrev pub session_at : {D : Type 0} → List DiskEvent → Place D → Kept → SessionState
+session_at events place kept = record { lives = map life_of kept.lives.items; stops = kept.stops.items; disk = record { kept = kept.pick; events = events }; standing = standing_of place }
 
-abbrev pub session_of : {D : Type 0} → List ℕ → Session D → SessionState
-session_of cut session = session_at cut session.place session.kept
+abbrev pub session_of : {D : Type 0} → List DiskEvent → Session D → SessionState
+session_of events session = session_at events session.place session.kept
 
 abbrev pub session_up : {D : Type 0} → ControlOnDisk D → Kept → Session D
 session_up control kept = record { place = Up control; kept = kept }
@@ -217,9 +217,9 @@ abbrev pub IsSessionReady : {D : Type 0} → (D → DiskState) → Session D →
 IsSessionReady state session = IsReadyAt state session.place session.kept
 
 -- The system is up. The stops lie behind one another, and before its life, in which the disk hasn't failed. It counts no further than up to where the disk counts
--- that was handed in, and 4,096 more for each opening, entry and stop. The disk was cut with these picks since it was handed in,
--- and has shown the numbers that were told.
-pub record IsUpSound {D : Type 0} (state : D → DiskState) (system : System) (source : List ℕ) (handed : D) (cut : List ℕ) (control : ControlOnDisk D) (kept : Kept) : Type 0 where
+-- that was handed in, and 4,096 more for each opening, entry and stop. Just these events happened at the disk since it was handed in, and
+-- they tell of the checkpoints that the lives tell of.
+pub record IsUpSound {D : Type 0} (state : D → DiskState) (system : System) (source : List ℕ) (handed : D) (events : List DiskEvent) (control : ControlOnDisk D) (kept : Kept) : Type 0 where
   pub handed_alone : Only (state handed).shown (state handed)
   pub system_is : control.control.system ≡ system
   pub text_is : control.text ≡ source
@@ -229,9 +229,9 @@ pub record IsUpSound {D : Type 0} (state : D → DiskState) (system : System) (s
   pub began : control.began ≡ (state control.disk).faults
   pub legal : AreLegal system (map life_of kept.lives.items)
   pub valid : IsSystem system
-  pub counts : (high : ℕ) → CountsFirst system high (state handed) → CountsUp state (high + call_raises * measure (session_at cut (Up control) kept)) control
-  pub cuts : AreCuts state cut handed control.disk
-  pub told : AreShown state system (numbers_so_far (session_at cut (Up control) kept)) handed control.disk
+  pub counts : (high : ℕ) → CountsFirst system high (state handed) → CountsUp state (high + call_raises * measure (session_at events (Up control) kept)) control
+  pub happened : AreEvents state system events handed control.disk
+  pub told : told_numbers events ≡ numbers_so_far (session_at events (Up control) kept)
 
 -- No life has begun, and the image is one that was handed in.
 pub record IsHanded {D : Type 0} (state : D → DiskState) (handed : D) (standing : Standing) (image : Image) : Type 0 where
@@ -264,9 +264,9 @@ abbrev pub IsOfText : {D : Type 0} → (D → DiskState) → System → List ℕ
 IsOfText state system source handed standing image = IsRight state system source handed standing image ⊎ IsHanded state handed standing image
 
 -- The system is down, and the disk holds what the outage allows, with a checkpoint of no lower number than is known. Once a life has begun it has sectors enough. It counts no further
--- than up to where it counted when it was handed in, and 4,096 more for each opening, entry and stop. It was cut with these picks since, and has shown the
--- numbers that were told.
-pub record IsDownSound {D : Type 0} (state : D → DiskState) (system : System) (source : List ℕ) (handed : D) (cut : List ℕ) (idle : Idle D) (kept : Kept) : Type 0 where
+-- than up to where it counted when it was handed in, and 4,096 more for each opening, entry and stop. Just these events happened at it since, and they
+-- tell of the checkpoints that the lives tell of.
+pub record IsDownSound {D : Type 0} (state : D → DiskState) (system : System) (source : List ℕ) (handed : D) (events : List DiskEvent) (idle : Idle D) (kept : Kept) : Type 0 where
   pub handed_alone : Only (state handed).shown (state handed)
   pub system_is : idle.system ≡ system
   pub text_is : idle.text ≡ source
@@ -279,29 +279,29 @@ pub record IsDownSound {D : Type 0} (state : D → DiskState) (system : System) 
   pub images : (image : Image) → (state idle.disk).may_leave image → HoldsSession state system source handed (StandsDown (outage_of idle)) image
   pub numbered : (image : Image) → (state idle.disk).may_leave image → IsNumberedAt (session_setting state system source handed) (StandsDown (outage_of idle)) image
   pub valid : IsSystem system
-  pub counts : (high : ℕ) → CountsFirst system high (state handed) → CountsDown system (high + call_raises * measure (session_at cut (Down idle) kept)) (state idle.disk)
-  pub cuts : AreCuts state cut handed idle.disk
-  pub told : AreShown state system (numbers_so_far (session_at cut (Down idle) kept)) handed idle.disk
+  pub counts : (high : ℕ) → CountsFirst system high (state handed) → CountsDown system (high + call_raises * measure (session_at events (Down idle) kept)) (state idle.disk)
+  pub happened : AreEvents state system events handed idle.disk
+  pub told : told_numbers events ≡ numbers_so_far (session_at events (Down idle) kept)
 
-abbrev pub IsSoundAt : {D : Type 0} → (D → DiskState) → System → List ℕ → D → List ℕ → Place D → Kept → Type 0
-IsSoundAt state system source handed cut (Up control) kept = IsUpSound state system source handed cut control kept
-IsSoundAt state system source handed cut (Down idle) kept = IsDownSound state system source handed cut idle kept
-IsSoundAt state system source handed cut Moved kept = ⊥
+abbrev pub IsSoundAt : {D : Type 0} → (D → DiskState) → System → List ℕ → D → List DiskEvent → Place D → Kept → Type 0
+IsSoundAt state system source handed events (Up control) kept = IsUpSound state system source handed events control kept
+IsSoundAt state system source handed events (Down idle) kept = IsDownSound state system source handed events idle kept
+IsSoundAt state system source handed events Moved kept = ⊥
 
-abbrev pub IsSessionSound : {D : Type 0} → (D → DiskState) → System → List ℕ → D → List ℕ → Session D → Type 0
-IsSessionSound state system source handed cut session = IsSoundAt state system source handed cut session.place session.kept
+abbrev pub IsSessionSound : {D : Type 0} → (D → DiskState) → System → List ℕ → D → List DiskEvent → Session D → Type 0
+IsSessionSound state system source handed events session = IsSoundAt state system source handed events session.place session.kept
 
 -- a relation of two states of a session, over its setting
 abbrev pub Course : Type 1
 Course = Setting → SessionState → SessionState → Type 0
 
--- Whatever disk was handed in, and with whatever picks it was cut before: it leads on by this relation, and what is so between two
+-- Whatever disk was handed in, and whatever was done with it before: it leads on by this relation, and what is so between two
 -- blocks is so again.
-pub record LeadsBy {D : Type 0} (state : D → DiskState) (by : Course) (system : System) (source : List ℕ) (handed : D) (cut : List ℕ) (old new : Session D) : Type 0 where
-  pub cut_now : List ℕ
-  pub goes : by (session_setting state system source handed) (session_of cut old) (session_of cut_now new)
-  pub sound : IsSessionSound state system source handed cut_now new
+pub record LeadsBy {D : Type 0} (state : D → DiskState) (by : Course) (system : System) (source : List ℕ) (handed : D) (events : List DiskEvent) (old new : Session D) : Type 0 where
+  pub events_now : List DiskEvent
+  pub goes : by (session_setting state system source handed) (session_of events old) (session_of events_now new)
+  pub sound : IsSessionSound state system source handed events_now new
 
 abbrev pub Leads : {D : Type 0} → (D → DiskState) → Course → Session D → Session D → Type 0
 Leads {D} state by old new =
-    (system : System) → (source : List ℕ) → (handed : D) → (cut : List ℕ) → IsSessionSound state system source handed cut old → LeadsBy state by system source handed cut old new
+    (system : System) → (source : List ℕ) → (handed : D) → (events : List DiskEvent) → IsSessionSound state system source handed events old → LeadsBy state by system source handed events old new

@@ -1,6 +1,6 @@
--- The numbers of the checkpoints that a session tells of, and the disk that showed them.
-use Rattle.std.specs.Prelude.{◌≡◌, ℕ, ◌≤◌, List, [], ◌∷◌, ◌++◌, Option, Some, None, Ok, IsTrue}
-use Rattle.tm_disk.specs.Disk.{Image, DiskState, IsSameDisk}
+-- The numbers of the checkpoints that a session tells of, and the disk that shows them.
+use Rattle.std.specs.Prelude.{◌≡◌, ℕ, List, [], ◌∷◌, ◌++◌, Option, Some, None, Ok, IsTrue}
+use Rattle.tm_disk.specs.Disk.{Image, DiskState}
 use Rattle.model_system.specs.System.{System}
 use Rattle.model_machine.specs.declared.entry.Entry.{Entry}
 use Rattle.model_machine.specs.declared.entry.Entry.TheVariants.{Checked}
@@ -8,7 +8,8 @@ use Rattle.model_image.specs.Areas.{is_single, snapshot_area}
 use Rattle.restart_data.specs.declared.restart.RestartSector.{RestartSector}
 use Rattle.restart_data.specs.Restart.{restart_in}
 use Rattle.model_session.specs.Lives.{LifeState, LastLife}
-use Rattle.model_session.specs.SessionState.{SessionState, last_life}
+use Rattle.model_session.specs.SessionState.{DiskEvent, SessionState, last_life}
+use Rattle.model_session.specs.SessionState.DiskEvent.{Tells}
 
 -- the numbers that entries tell of, in their order
 abbrev pub numbers_in : List Entry → List ℕ
@@ -29,6 +30,12 @@ numbers_of (Some life) = numbers_in life.history
 abbrev pub numbers_so_far : SessionState → List ℕ
 numbers_so_far state = numbers_told state.lives ++ numbers_of (last_life state.standing)
 
+-- those of events at its disk
+abbrev pub told_numbers : List DiskEvent → List ℕ
+told_numbers [] = []
+told_numbers (Tells number ∷ events) = number ∷ told_numbers events
+told_numbers (event ∷ events) = told_numbers events
+
 -- The image has a restart sector with this number.
 pub record HasCheckpoint (system : System) (number : ℕ) (image : Image) : Type 0 where
   pub restart : RestartSector
@@ -43,20 +50,3 @@ ShowsNumber system number disk = IsTrue disk.tells → HasCheckpoint system numb
 abbrev pub ShowsTold : System → Entry → DiskState → Type 0
 ShowsTold system (Checked freeze (Ok number)) disk = ShowsNumber system number disk
 ShowsTold system _ disk = Unit {0}
-
--- It is the same disk, later or just then.
-pub record IsSince (old new : DiskState) : Type 0 where
-  pub same : IsSameDisk old new
-  pub later : old.clock ≤ new.clock
-
--- At a moment since, the disk showed this number, and from then on it went as is said.
-pub record IsShownNext {D : Type 0} (state : D → DiskState) (system : System) (GoesOn : D → Type 0) (number : ℕ) (old : D) : Type 0 where
-  pub moment : D
-  pub since : IsSince (state old) (state moment)
-  pub shows : ShowsNumber system number (state moment)
-  pub goes_on : GoesOn moment
-
--- From the one moment to the other the disk showed these numbers, one after another.
-abbrev pub AreShown : {D : Type 0} → (D → DiskState) → System → List ℕ → D → D → Type 0
-AreShown state system [] old new = IsSince (state old) (state new)
-AreShown state system (number ∷ numbers) old new = IsShownNext state system (λ moment. AreShown state system numbers moment new) number old

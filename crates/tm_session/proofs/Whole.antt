@@ -11,7 +11,8 @@ use Rattle.checkpointing.proofs.Counted.{up_to_more}
 use Rattle.session_law.specs.Measures.{call_raises, measure}
 use Rattle.model_session.specs.Blocks.{Block}
 use Rattle.model_session.specs.Lives.{AreLegal}
-use Rattle.model_session.specs.SessionState.{SessionState, Standing, Stop, AreStops, LastAnswered, IsKnown, no_life, unbegun, is_session_stopped, last_life}
+use Rattle.model_session.specs.SessionState.{DiskEvent, SessionState, Standing, Stop, AreStops, LastAnswered, IsKnown, no_life, unbegun, is_session_stopped, last_life}
+use Rattle.model_session.specs.SessionState.DiskEvent.{CutWith}
 use Rattle.model_session.specs.SessionState.Standing.{Down as StandsDown}
 use Rattle.model_session.specs.Session.{BeginsSession, AreServed, IsSessionBegun, OpensSession as OpensLife, FailsToOpen}
 use Rattle.openings.specs.OpenedImage.{WroteNothing}
@@ -29,12 +30,14 @@ use Rattle.session_lives.specs.declared.place.Place.TheVariants.{Up, Down, Moved
 use Rattle.session_lives.specs.declared.place.Kept.{Kept}
 use Rattle.session_lives.specs.declared.place.Session.{Session}
 use Rattle.session_lives.specs.RunningSession.{life_of, last_life_of, kept_steps, outage_of, standing_of, session_at, session_of, session_setting, error_of, IsDownSound, IsSessionSound, IsSoundAt, Leads, LeadsBy}
-use Rattle.session_lives.specs.ToldNumbers.{numbers_so_far, AreShown}
+use Rattle.session_lives.specs.DiskEvents.{GoesOn}
+use Rattle.session_lives.specs.ToldNumbers.{numbers_so_far}
 use Rattle.session_lives.specs.Openings.{HasGone, HasOpened, StaysIdle}
 use Rattle.session_lives.specs.ClosedSession.{HasSectors, listed, IsClosedDown, IsClosedAt, IsSessionClosed, Remains, SessionLeaves}
-use Rattle.session_lives.proofs.Ends.{same_state, outage_with, picks_with}
+use Rattle.session_lives.proofs.Ends.{same_state, outage_with, past_with}
+use Rattle.session_lives.proofs.Happening.{goes_itself}
 use Rattle.session_lives.proofs.Valid.{opened_valid}
-use Rattle.session_lives.proofs.Restarted.{cut_opening, opens_gone, fails_gone, gone_sound}
+use Rattle.session_lives.proofs.Restarted.{events_opening, opens_gone, fails_gone, gone_sound}
 use Rattle.tm_session.specs.declared.outcome.Ended.{Ended}
 use Rattle.tm_session.specs.declared.outcome.Ended.TheVariants.{Done, Words, BadLine, BadCross, Down as DownAtEnd, Read, Write, Image as BadImage, Memory, Limit, Spent}
 use Rattle.tm_session.specs.DefinedSystem.{text_of_definition}
@@ -65,8 +68,8 @@ module _ {D : Type 0} (state : D → DiskState) (is_disk : (disk : D) → IsDisk
 
   first_state : session_at [] (Down b.idle) b.kept ≡ unbegun
   first_state =
-      same_state [] (map life_of b.kept.lives.items) [] b.kept.stops.items (picks_with [] 0) (picks_with [] b.kept.pick) (StandsDown no_life) (StandsDown (outage_of b.idle))
-      (ap (map life_of) b.lives) b.stops (ap (picks_with []) b.pick) (ap StandsDown first_outage)
+      same_state [] (map life_of b.kept.lives.items) [] b.kept.stops.items (past_with [] 0) (past_with [] b.kept.pick) (StandsDown no_life) (StandsDown (outage_of b.idle))
+      (ap (map life_of) b.lives) b.stops (ap (past_with []) b.pick) (ap StandsDown first_outage)
 
   -- no life has begun
   first_sound : IsDownSound state system text handed [] b.idle b.kept
@@ -92,29 +95,28 @@ module _ {D : Type 0} (state : D → DiskState) (is_disk : (disk : D) → IsDisk
     valid = b.valid;
     counts = λ high first image left.
         up_to_more system high (high + call_raises * measure (session_at [] (Down b.idle) b.kept)) image (omega arith) (first.images image (subst (λ d. (state d).may_leave image) b.disk_is left));
-    cuts = record { same = first_same; cuts = ap (λ d. (state d).cuts) b.disk_is };
-    told = subst (λ (numbers : List ℕ). AreShown state system numbers handed b.idle.disk) (sym (ap numbers_so_far first_state))
-        (record { same = first_same; later = omega (arith, ap (λ d. (state d).clock) b.disk_is) });
+    happened = subst (λ (d : D). GoesOn (state handed) (state d)) (sym b.disk_is) (goes_itself (state handed));
+    told = sym (ap numbers_so_far first_state);
   }
 
   begins_by : (opening : Opening) → HasGone state b.idle b.kept false session opening → refusal opening ≡ None
-      → BeginsSession (session_setting state system text handed) (session_of (cut_opening [] b.kept opening) session)
+      → BeginsSession (session_setting state system text handed) (session_of (events_opening [] b.kept opening) session)
   begins_by Opened gone none =
       inl (subst (λ o. OpensLife false (session_setting state system text handed) unbegun o (session_of [] session)) first_outage
       (subst (λ s. OpensLife false (session_setting state system text handed) s (outage_of b.idle) (session_of [] session)) first_state
       (opens_gone state is_disk system text handed [] b.idle b.kept session first_sound false gone)))
   begins_by Broke gone none =
-      inr (subst (λ o. FailsToOpen false unbegun o (session_of (b.kept.pick ∷ []) session)) first_outage
-      (subst (λ s. FailsToOpen false s (outage_of b.idle) (session_of (b.kept.pick ∷ []) session)) first_state
+      inr (subst (λ o. FailsToOpen false unbegun o (session_of (CutWith b.kept.pick ∷ []) session)) first_outage
+      (subst (λ s. FailsToOpen false s (outage_of b.idle) (session_of (CutWith b.kept.pick ∷ []) session)) first_state
       (fails_gone state is_disk system text handed [] b.idle b.kept session first_sound false gone)))
   begins_by (Refused refused) gone none = cc
   begins_by NoMemory gone none = cc
   begins_by SpentCounter gone none = cc
 
-  pub begins : ended ≡ None → BeginsSession (session_setting state system text handed) (session_of (cut_opening [] b.kept b.opening) session)
+  pub begins : ended ≡ None → BeginsSession (session_setting state system text handed) (session_of (events_opening [] b.kept b.opening) session)
   begins none = begins_by b.opening b.gone (sym b.ends ∙ none)
 
-  pub begun_sound : IsSessionSound state system text handed (cut_opening [] b.kept b.opening) session
+  pub begun_sound : IsSessionSound state system text handed (events_opening [] b.kept b.opening) session
   begun_sound = gone_sound state is_disk system text handed [] b.idle b.kept session first_sound false b.opening b.gone
 
   -- it was opened as it was handed in
@@ -246,10 +248,10 @@ by_is false (Limit n) standing not is = tt
 by_is false Spent standing not is = tt
 
 module _ {D : Type 0} (state : D → DiskState) (system : System) (source : List ℕ) (handed : D) where
-  valid_at : (cut : List ℕ) (place : Place D) (kept : Kept) → IsSoundAt state system source handed cut place kept → IsSystem system
-  valid_at cut (Up control) kept sound = sound.valid
-  valid_at cut (Down idle) kept sound = sound.valid
-  valid_at cut Moved kept sound = absurd sound
+  valid_at : (events : List DiskEvent) (place : Place D) (kept : Kept) → IsSoundAt state system source handed events place kept → IsSystem system
+  valid_at events (Up control) kept sound = sound.valid
+  valid_at events (Down idle) kept sound = sound.valid
+  valid_at events Moved kept sound = absurd sound
 
   left_either : (undone : Bool) (others : List Block) (mid last : SessionState) → left_if undone system others mid last → (last ≡ mid) ⊎ IsSessionBegun system others mid last
   left_either true others mid last left = inr left
@@ -297,8 +299,8 @@ module _ {D : Type 0} (state : D → DiskState) (system : System) (source : List
     legal = rest.legal;
     stops_are = rest.stops_are;
     same = rest.same;
-    cuts = rest.cuts;
-    numbers_shown = rest.told;
+    happened = rest.happened;
+    told_as = rest.told;
     counted = rest.counted;
     images = rest.images;
     numbered = rest.numbered;
@@ -306,23 +308,23 @@ module _ {D : Type 0} (state : D → DiskState) (system : System) (source : List
   }
 
   -- a session that was driven from where it began
-  pub is_session : (told mid : Option (List ℕ)) (held : List ℕ) (left w w' : Option (List ℕ)) (count : ℕ) (disk : D) (cut : List ℕ) (a b : Session D) (ended status : Ended)
+  pub is_session : (told mid : Option (List ℕ)) (held : List ℕ) (left w w' : Option (List ℕ)) (count : ℕ) (disk : D) (events : List DiskEvent) (a b : Session D) (ended status : Ended)
       (lives : List Life) (stops : List Stop) → IsDefinitionRead told mid count system source → IfSome told (λ bytes. source ≡ text_of_definition (definition_lines (lines_of bytes)))
-      → BeginsSession (session_setting state system source handed) (session_of cut a) → IsOpenedBy (standing_of a.place) system source (state handed) → IsSessionSound state system source handed cut a
+      → BeginsSession (session_setting state system source handed) (session_of events a) → IsOpenedBy (standing_of a.place) system source (state handed) → IsSessionSound state system source handed events a
       → Leads state (λ setting x y. HasDriven setting count mid (unread held left) w w' x y ended) a b → status ≡ by_standing (is_session_stopped (standing_of b.place)) ended
       → SessionLeaves state b disk lives stops
       → IsSession state told left w w' handed disk status lives stops
-  is_session told mid held left w w' count disk cut a b ended status lives stops definition text_is begins opened sound leads at over =
-      let led : LeadsBy state (λ setting x y. HasDriven setting count mid (unread held left) w w' x y ended) system source handed cut a b = leads system source handed cut sound in
+  is_session told mid held left w w' count disk events a b ended status lives stops definition text_is begins opened sound leads at over =
+      let led : LeadsBy state (λ setting x y. HasDriven setting count mid (unread held left) w w' x y ended) system source handed events a b = leads system source handed events sound in
       inl (record {
         system = system;
         defines = definition.defines;
         text = source;
         text_is = text_is;
         lived = subst (λ s. HasLived state system source told left w w' handed disk s (map life_of lives) stops) (sym at)
-            (lived_by told mid held left w w' definition.texts disk (session_of cut a) (session_of led.cut_now b) (is_session_stopped (standing_of b.place)) ended lives stops (valid_at cut a.place a.kept sound) definition.read begins opened
-            (subst (λ n. HasDriven (session_setting state system source handed) n mid (unread held left) w w' (session_of cut a) (session_of led.cut_now b) ended) (sym definition.counted) led.goes) refl
-            (over system source handed led.cut_now led.sound));
+            (lived_by told mid held left w w' definition.texts disk (session_of events a) (session_of led.events_now b) (is_session_stopped (standing_of b.place)) ended lives stops (valid_at events a.place a.kept sound) definition.read begins opened
+            (subst (λ n. HasDriven (session_setting state system source handed) n mid (unread held left) w w' (session_of events a) (session_of led.events_now b) ended) (sym definition.counted) led.goes) refl
+            (over system source handed led.events_now led.sound));
       })
 
 -- a session that has not begun

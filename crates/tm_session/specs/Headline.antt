@@ -30,8 +30,8 @@ use Rattle.tm_session.specs.ReadSources.{HasReadTold}
 use Rattle.tm_session.specs.Outcome.Ending.{NotBegun}
 use Rattle.session_lives.specs.RunningSession.{life_of, session_setting, HoldsSession, IsNumberedAt, error_of, IsFoundAs, IsOfDefinition, IsValidDisk as IsValid, IsOpenedDisk as IsOpened}
 use Rattle.session_lives.specs.ClosedSession.{HasSectors}
-use Rattle.session_lives.specs.DiskCuts.{AreCuts}
-use Rattle.session_lives.specs.ToldNumbers.{numbers_told, AreShown}
+use Rattle.session_lives.specs.DiskEvents.{AreEvents}
+use Rattle.session_lives.specs.ToldNumbers.{numbers_told, told_numbers}
 pub use Rattle.session_lives.specs.RunningSession.{CountsDisk}
 
 -- the disk has sectors enough, and could be opened where it tells its contents
@@ -62,9 +62,10 @@ AskNoColdStart system blocks = AllByRecursion (λ (block : Block). asked_of syst
 -- A session of the system over the disk that was handed in. It begins with an opening of the disk, which could be opened where
 -- a life began so. Once a life has begun the disk has sectors enough, and where no cold start was asked for, the first life began with
 -- what the disk held, whatever openings had failed before. The disk that is handed back is the one that was handed in: its size, whether
--- it tells its contents and whether it can be armed are the same, and its counts haven't fallen. It was cut with just the picks that the
--- session asks for, and no more often; and where it tells its contents, it has shown the number of each checkpoint that is told, in
--- their order. Blocks of lines were
+-- it tells its contents and whether it can be armed are the same, and its counts haven't fallen. It was told just what the session asks for,
+-- in its order: to stop at a write to come, or to be cut with a pick; and between, a stop to come got nearer by just the writes that were
+-- made. In the same order stands each checkpoint that is told: where the disk tells its contents, it showed its number before the next
+-- stop was asked for and before the next cut. These numbers are those that the lives tell of. Blocks of lines were
 -- served, each the source's next one, and what is printed for them, and nothing else, was written. They led through the lives
 -- and the stops that are told, and each image that a crash of the disk may leave as it is handed back recovers to what the
 -- session's standing allows: the state after a front of the last life's lasting steps that has all that were answered, and
@@ -93,8 +94,8 @@ pub record HasLived {D : Type 0} (state : D → DiskState) (system : System) (so
   pub legal : AreLegal system lives
   pub stops_are : stops ≡ last.stops
   pub same : IsSameDisk (state handed) (state disk)
-  pub cuts : AreCuts state last.picks.cut handed disk
-  pub numbers_shown : AreShown state system (numbers_told lives) handed disk
+  pub happened : AreEvents state system last.disk.events handed disk
+  pub told_as : told_numbers last.disk.events ≡ numbers_told lives
   pub counted : AreStops (state handed).faults stops (state disk).faults
   pub images : (image : Image) → (state disk).may_leave image → HoldsSession state system source handed last.standing image
   pub numbered : (image : Image) → (state disk).may_leave image → IsNumberedAt (session_setting state system source handed) last.standing image
