@@ -1,3 +1,4 @@
 pub mod Ways
+pub mod Reaching
 pub mod Fewer
 pub mod Breaking

@@ -44,7 +44,7 @@ same_front : (ws xs ys : List ℕ) → slice_cmp nat_cmp (ws ++ xs) (ws ++ ys) �
 same_front [] xs ys = refl
 same_front (w ∷ ws) xs ys = ap (λ o. ordering_then o (slice_cmp nat_cmp (ws ++ xs) (ws ++ ys))) (tied_itself nat_cmp_total w) ∙ same_front ws xs ys
 
-append_nil : (xs : List ℕ) → xs ≡ xs ++ []
+pub append_nil : (xs : List ℕ) → xs ≡ xs ++ []
 append_nil [] = refl
 append_nil (x ∷ xs) = ap (λ ys. x ∷ ys) (append_nil xs)
 
@@ -96,7 +96,7 @@ ring_of T region others h = h.1
 cycle_of : (T : EnqueueTable) (region : ℕ) (cycle others : List ℕ) → cycle ≡ region ∷ others → IsRing T region others → IsCycle T region cycle
 cycle_of T region cycle others e h = subst (IsCycle T region) (sym e) (refl, h)
 
-distinct_none : IsDistinct nat_eq []
+pub distinct_none : IsDistinct nat_eq []
 unfolding IsDistinct
 distinct_none = tt
 

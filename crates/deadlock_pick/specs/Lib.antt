@@ -1,5 +1,6 @@
 pub mod Weights
 pub mod Way
+pub mod Reached
 pub mod NoCycles
 pub use Rattle.model_data.specs.Cycle
 pub use Rattle.model_data.specs.PaddedLists

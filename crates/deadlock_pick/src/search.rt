@@ -5,12 +5,13 @@ ghost use Rattle.model_data.specs.Table.{waits_for};
 ghost use Rattle.model_data.specs.Cycle.{IsTableRegion, IsLeastCycle, HasNoCycle};
 ghost use Rattle.deadlock_pick.specs.Way.{IsWayOf, IsLeastOf, HasNoneOf};
 
+use crate::reached::{add, goes_on, is_reached};
 use model_data::Cycle;
 use pi_enqueue::Table;
 use tm_types::Memory;
 
 /// The least of the rings through a region, compared number by number; None exactly where no ring
-/// goes through it. This takes no memory.
+/// goes through it. This takes no memory, and it looks for rings only where the region reaches itself.
 ///
 /// The table has at most 8 regions.
 pub fn least_cycle(table: &Table, region: u32) -> Option<Cycle>
@@ -19,6 +20,9 @@ pub fn least_cycle(table: &Table, region: u32) -> Option<Cycle>
     ensures some { IfSome result (IsLeastCycle table.now region) }
     ensures none { IfNone result (HasNoCycle table.now region) }
 {
+    if !is_reached(table, region) {
+        return None;
+    }
     let mut way = Cycle::new();
     add(&mut way, region);
     search(table, region, way, region)
@@ -55,21 +59,6 @@ fn search(table: &Table, region: u32, way: Cycle, last: u32) -> Option<Cycle>
     None
 }
 
-// Whether the last region waits for this one, which isn't on the way yet.
-fn goes_on(table: &Table, way: &Cycle, last: u32, next: u32) -> bool
-    ensures { result ≡ (not (list_any (nat_eq next) way.now) && waits_for last next table.now) }
-{
-    !is_on(way, next) && table.waits_for(last, next)
-}
-
-fn is_on(way: &Cycle, region: u32) -> bool
-    ensures { result ≡ list_any (nat_eq region) way.now }
-{
-    way.as_slice()
-        .iter()
-        .any(|other| region == u32::from(*other))
-}
-
 // The way with one region more.
 fn longer(way: Cycle, next: u32) -> Cycle
     requires room { length way < 8 }
@@ -79,13 +68,4 @@ fn longer(way: Cycle, next: u32) -> Cycle
     let mut longer = way;
     add(&mut longer, next);
     longer
-}
-
-// Adds a region at the end of a way.
-fn add(way: &mut Cycle, region: u32)
-    requires room { length way.old < 8 }
-    requires small { region < 256 }
-    ensures { way.new ≡ way.old ++ region ∷ [] }
-{
-    way.push(region as u8);
 }

@@ -31,11 +31,11 @@ fn touched_slots(rt: HostRuntime) -> Result<(), Fail> {
     let mut unit = Unit::new(alloc);
     assert_eq!(rt; unit.changes(), 0);
     assert!(rt; unit.slot(0).is_none());
-    unit.touch(2, first, 4, &two)?;
-    unit.touch(2, first, 4, &one)?;
-    unit.touch(1, other, 7, &one)?;
-    unit.touch(2, other, 4, &none)?;
-    unit.touch(2, first, 3, &none)?;
+    unit.touch(2, first, 4, two)?;
+    unit.touch(2, first, 4, one.clone()?)?;
+    unit.touch(1, other, 7, one)?;
+    unit.touch(2, other, 4, none.clone()?)?;
+    unit.touch(2, first, 3, none)?;
     assert_eq!(rt; unit.changes(), 3);
     assert_eq!(rt; summary(&unit, 0), Some((1, 7, other, 1)));
     assert_eq!(rt; summary(&unit, 1), Some((2, 3, first, 0)));

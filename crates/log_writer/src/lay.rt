@@ -3,8 +3,9 @@ ghost use Rattle.std.specs.Prelude.{◌≡◌, ◌+◌, ◌*◌, ◌<◌, ◌≤
 ghost use Rattle.tm_disk.specs.Disk.{Stays, Within, Follows, WritesAtMost, FailedSince};
 ghost use Rattle.log_writer.specs.ForcedLog.{log_sectors_of, log_pieces, log_piece, Lays, HasLaid};
 
-use log_sectors::{PAYLOAD_BYTES, reseal};
-use tm_disk::{Disk, DiskFault, Sector};
+use crate::seal::Seal;
+use log_sectors::PAYLOAD_BYTES;
+use tm_disk::{Disk, DiskFault};
 
 /// How many sectors so many bytes take.
 pub fn sectors_of(length: usize) -> usize
@@ -25,7 +26,8 @@ fn piece(bytes: &[u8], place: usize) -> &[u8]
     &rest[..rest.len().min(PAYLOAD_BYTES)]
 }
 
-/// Writes bytes into log sectors from a place on, the first of them with this sequence.
+/// Writes bytes into log sectors from a place on, the first of them with this sequence. They are sealed one after another in one
+/// sector.
 #[tactic(auto, using(tm_disk::proofs::Words::stays_on))]
 pub fn lay<D: Disk>(
     disk: &mut D,
@@ -33,6 +35,7 @@ pub fn lay<D: Disk>(
     sequence: u64,
     epoch: u64,
     bytes: &[u8],
+    seal: &mut Seal,
 ) -> Result<(), DiskFault>
     requires within { at + log_sectors_of (length bytes.now) ≤ (D.state disk.old).size }
     requires sequences { sequence + log_sectors_of (length bytes.now) < 2 ^ 64 }
@@ -45,13 +48,10 @@ pub fn lay<D: Disk>(
     ensures cause { OnErr result (FailedSince (D.state disk.old) (D.state disk.new)) }
 {
     let count = sectors_of(bytes.len());
-    let mut sector = Sector::blank();
-    let mut held = 0;
     for place in 0..count {
         let payload = piece(bytes, place);
-        reseal(&mut sector, held, epoch, sequence + place as u64, payload);
-        held = payload.len();
-        if disk.write(at + place as u32, &sector).is_err() {
+        seal.seal(epoch, sequence + place as u64, payload);
+        if disk.write(at + place as u32, seal.sector()).is_err() {
             return Err(DiskFault::Disk);
         }
     }

@@ -6,5 +6,6 @@
 
 mod lay;
 mod log_writer;
+mod seal;
 
 pub use log_writer::LogWriter;

@@ -4,6 +4,7 @@ ghost use Rattle.tm_disk.specs.Disk.{Stays, Within, Follows, Only, WritesAtMost,
 ghost use Rattle.log_writer.specs.ForcedLog.{log_sectors_of, room_of, IsWriterReady, AddsFront, AddsAll};
 
 use crate::lay::{lay, sectors_of};
+use crate::seal::Seal;
 use log_sectors::PAYLOAD_BYTES;
 use std::alloc::Global;
 use std::marker::Model;
@@ -22,6 +23,7 @@ pub struct LogWriter {
     place: u32,
     // What is to be written.
     appended: Vec<u8>,
+    seal: Seal,
 }
 
 impl Model for LogWriter {
@@ -47,6 +49,7 @@ impl LogWriter {
             epoch,
             place: 0,
             appended: Vec::new(alloc),
+            seal: Seal::new(),
         }
     }
 
@@ -123,6 +126,7 @@ impl LogWriter {
             sequence,
             self.epoch,
             &self.appended,
+            &mut self.seal,
         )
         .is_err()
         {

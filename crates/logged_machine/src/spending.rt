@@ -24,6 +24,6 @@ impl<D: Disk> LoggedMachine<D> {
             last_unit: self.next_unit - 1,
             steps: self.parts.steps(),
         };
-        spent_counter(&counts, self.parts.outputs().terminals())
+        spent_counter(&counts, self.parts.outputs())
     }
 }

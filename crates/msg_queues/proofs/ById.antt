@@ -28,7 +28,7 @@ abbrev pub AreAbove : ℕ → List (ℕ × Queued) → Type 0
 AreAbove id es = AllByRecursion (λ k. nat_cmp id k ≡ Less) (keys_of es)
 
 -- the test of an entry's message is the test of its key
-own_test : (id : ℕ) (e : ℕ × Queued) → e.1.message.id ≡ e.0 → has_id id e.1 ≡ is_at (nat_cmp id) e.0
+pub own_test : (id : ℕ) (e : ℕ × Queued) → e.1.message.id ≡ e.0 → has_id id e.1 ≡ is_at (nat_cmp id) e.0
 own_test id e h = ap (λ n. eqb n id) h ∙ sym (at_key id e.0)
 
 -- an id below all keys isn't there
@@ -39,18 +39,18 @@ pub found_is : (id : ℕ) (es : List (ℕ × Queued)) → AreOwn es → queued_a
 found_is id [] h = refl
 found_is id (e ∷ es) h = λ i. cond (own_test id e h.0 i) (Some e.1) (found_is id es h.1 i)
 
-with_holder_above : (id : ℕ) (holder : Option ℕ) (es : List (ℕ × Queued)) → AreOwn es → AreAbove id es → with_holder id holder (values_of es) ≡ values_of es
+pub with_holder_above : (id : ℕ) (holder : Option ℕ) (es : List (ℕ × Queued)) → AreOwn es → AreAbove id es → with_holder id holder (values_of es) ≡ values_of es
 with_holder_above id holder [] h g = refl
 with_holder_above id holder (e ∷ es) h g =
     λ i. cond (other_test id e h.0 g.0 i) (record e.1 { holder = holder }) e.1 ∷ with_holder_above id holder es h.1 g.1 i
 
-without_above : (id : ℕ) (es : List (ℕ × Queued)) → AreOwn es → AreAbove id es → without_id_queued id (values_of es) ≡ values_of es
+pub without_above : (id : ℕ) (es : List (ℕ × Queued)) → AreOwn es → AreAbove id es → without_id_queued id (values_of es) ≡ values_of es
 without_above id [] h g = refl
 without_above id (e ∷ es) h g =
     λ i. cond (not (other_test id e h.0 g.0 i)) (e.1 ∷ without_above id es h.1 g.1 i) (without_above id es h.1 g.1 i)
 
 -- a key that is the first entry's is below the others
-above_first : (id : ℕ) (e : ℕ × Queued) (es : List (ℕ × Queued)) → IsStrictlySortedBy nat_cmp (keys_of (e ∷ es)) → is_at (nat_cmp id) e.0 ≡ true → AreAbove id es
+pub above_first : (id : ℕ) (e : ℕ × Queued) (es : List (ℕ × Queued)) → IsStrictlySortedBy nat_cmp (keys_of (e ∷ es)) → is_at (nat_cmp id) e.0 ≡ true → AreAbove id es
 above_first id e es s q = subst (λ k. AreAbove k es) (key_is id e.0 q) (first_below e es s)
 
 -- ---- a new holder

@@ -15,11 +15,13 @@ use Rattle.model_messages.specs.declared.queued.Queued.{Queued}
 use Rattle.model_messages.specs.ConversationInput.{is_conversing, busy_id}
 use Rattle.model_messages.specs.Room.{message_bytes, messages_bytes}
 use Rattle.model_messages.specs.Queue.{messages_of, IsNewId, has_id, queued_at, queued_message, with_message, with_holder, without_id_queued, is_free_of, first_free, free_count, any_held}
+use Rattle.msg_queues.specs.FreeMessages.{free_total}
 use Rattle.msg_queues.specs.KeptMessages.{AreKeyed, AreMessagesKept, HasCode}
 use Rattle.msg_queues.specs.Places.{flagged_ids, places, conversing_ids, IsIdBehind, with_id, with_flag, without_id, first_open, unheld_count, any_held_id}
 use Rattle.msg_queues.specs.Index.{of_name, when, ChangesName, KeepsNames, AreIndexed, AreConversing}
 use Rattle.msg_queues.proofs.Keys.{at_key, key_is, first_below, others_ascend}
 use Rattle.msg_queues.proofs.ById.{AreOwn, AreAbove, found_is, messages_held, bytes_added}
+use Rattle.msg_queues.proofs.Free.{total_added}
 use Rattle.msg_queues.proofs.Names.{same_name, same_either}
 
 abbrev Places : Type 0
@@ -287,10 +289,10 @@ when_undone old mid new name true id behind e f c = names_undone old mid new nam
 when_undone old mid new name false id behind e f c = f c ∙ (same_either (bytes_eq name c) (of_name c mid) ∙ (e c ∙ same_either (bytes_eq name c) (of_name c old)))
 
 -- ---- all that is kept, after a call
-module _ (es fs : List (ℕ × Queued)) (content : ℕ) (codes codes' terminals terminals' : Index) (h : AreMessagesKept es content codes terminals) where
+module _ (es fs : List (ℕ × Queued)) (content unheld : ℕ) (codes codes' terminals terminals' : Index) (h : AreMessagesKept es content unheld codes terminals) where
   pub kept_held : (id : ℕ) (holder : Option ℕ) (code : List ℕ) → values_of fs ≡ with_holder id holder (values_of es) → AreKeyed fs → HasCode id code (values_of es)
-      → ChangesName code (with_flag id (is_some holder)) codes codes' → AreMessagesKept fs content codes' terminals
-  kept_held id holder code e keyed own change =
+      → ChangesName code (with_flag id (is_some holder)) codes codes' → (left : ℕ) → left ≡ free_total (values_of fs) → AreMessagesKept fs content left codes' terminals
+  kept_held id holder code e keyed own change left free =
       record {
         keyed = keyed;
         indexed =
@@ -299,12 +301,13 @@ module _ (es fs : List (ℕ × Queued)) (content : ℕ) (codes codes' terminals 
         conversing = subst (AreConversing terminals) (sym e) (λ t. h.conversing t ∙ sym (conversing_held t id holder (values_of es)));
         counted = h.counted ∙ ap messages_bytes (sym (ap messages_of e ∙ messages_held id holder (values_of es)));
         small = h.small;
+        free = free;
       }
 
   pub kept_removed : (id bytes : ℕ) (message : Message) → Some message ≡ queued_message id (values_of es) → values_of fs ≡ without_id_queued id (values_of es) → AreKeyed fs
       → ChangesName message.code (without_id message.id) codes codes' → ChangesName message.origin (when message.conversation (without_id message.id)) terminals terminals'
-      → messages_bytes (messages_of (values_of fs)) + message_bytes message ≡ messages_bytes (messages_of (values_of es)) → bytes ≡ message_bytes message → AreMessagesKept fs (content - bytes) codes' terminals'
-  kept_removed id bytes message found e keyed change change' less b =
+      → messages_bytes (messages_of (values_of fs)) + message_bytes message ≡ messages_bytes (messages_of (values_of es)) → bytes ≡ message_bytes message → (left : ℕ) → left ≡ free_total (values_of fs) → AreMessagesKept fs (content - bytes) left codes' terminals'
+  kept_removed id bytes message found e keyed change change' less b left free =
       let has = has_message id es message h.keyed found in
       let same : message.id ≡ id = same_id id message (values_of es) found in
       record {
@@ -321,13 +324,14 @@ module _ (es fs : List (ℕ × Queued)) (content : ℕ) (codes codes' terminals 
             ∙ when_both (bytes_eq message.origin t) message.conversation (without_id id) (conversing_ids t (values_of es))));
         counted = omega (arith, h.counted, less, b);
         small = omega (arith, h.small);
+        free = free;
       }
 
   pub kept_added : (message : Message) (bytes : ℕ) → values_of fs ≡ with_message message (values_of es) → AreKeyed fs
       → ChangesName message.code (with_id message.id) codes codes' → ChangesName message.origin (when message.conversation (with_id message.id)) terminals terminals'
       → bytes ≡ message_bytes message → messages_bytes (messages_of (values_of es)) + message_bytes message < 2 ^ 62
-      → AreMessagesKept fs (content + bytes) codes' terminals'
-  kept_added message bytes e keyed change change' b fits =
+      → (left : ℕ) → left ≡ unheld + 1 → AreMessagesKept fs (content + bytes) left codes' terminals'
+  kept_added message bytes e keyed change change' b fits left more =
       record {
         keyed = keyed;
         indexed =
@@ -341,23 +345,25 @@ module _ (es fs : List (ℕ × Queued)) (content : ℕ) (codes codes' terminals 
             ∙ when_both (bytes_eq message.origin t) message.conversation (with_id message.id) (conversing_ids t (values_of es))));
         counted = omega (arith, h.counted, b, ap (λ qs. messages_bytes (messages_of qs)) e, bytes_added message (values_of es));
         small = omega (arith, h.counted, b, fits);
+        free = omega (arith, more, h.free, ap free_total e, total_added message (values_of es));
       }
 
   -- the messages stay
-  pub kept_same : fs ≡ es → KeepsNames codes codes' → KeepsNames terminals terminals' → AreMessagesKept fs content codes' terminals'
+  pub kept_same : fs ≡ es → KeepsNames codes codes' → KeepsNames terminals terminals' → AreMessagesKept fs content unheld codes' terminals'
   kept_same e same same' =
-      subst (λ gs. AreMessagesKept gs content codes' terminals') (sym e) (record {
+      subst (λ gs. AreMessagesKept gs content unheld codes' terminals') (sym e) (record {
         keyed = h.keyed;
         indexed = λ c. same c ∙ h.indexed c;
         conversing = λ t. same' t ∙ h.conversing t;
         counted = h.counted;
         small = h.small;
+        free = h.free;
       })
 
   -- a message that was put in and taken out again
   pub kept_undone : (mid mid' : Index) (message back : Message) → IsNewId message.id (values_of es) → fs ≡ es → back ≡ message
       → ChangesName message.code (with_id message.id) codes mid → ChangesName message.origin (when message.conversation (with_id message.id)) terminals mid'
-      → ChangesName back.code (without_id back.id) mid codes' → ChangesName back.origin (when back.conversation (without_id back.id)) mid' terminals' → AreMessagesKept fs content codes' terminals'
+      → ChangesName back.code (without_id back.id) mid codes' → ChangesName back.origin (when back.conversation (without_id back.id)) mid' terminals' → AreMessagesKept fs content unheld codes' terminals'
   kept_undone mid mid' message back fresh e is put put' taken taken' =
       kept_same e
       (names_undone codes mid codes' message.code message.id

@@ -1,3 +1,4 @@
+pub mod FreeMessages
 pub mod KeptMessages
 pub mod RefusedInput
 pub mod Places

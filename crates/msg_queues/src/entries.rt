@@ -3,7 +3,8 @@ ghost use Rattle.std.specs.Prelude.{◌≡◌, ◌+◌, OnOk, OnErr, IfErr, None
 ghost use Rattle.std.specs.Option.{option_map, unwrap_or};
 ghost use Rattle.std.specs.Map.{values_of};
 ghost use Rattle.model_messages.specs.Room.{message_bytes, messages_bytes};
-ghost use Rattle.model_messages.specs.Queue.{IsNewId, messages_of, queued_at, queued_message, with_message, with_holder, without_id_queued};
+ghost use Rattle.model_messages.specs.Queue.{IsNewId, messages_of, queued_at, with_message, with_holder, without_id_queued};
+ghost use Rattle.msg_queues.specs.FreeMessages.{free_weight};
 ghost use Rattle.msg_queues.specs.KeptMessages.{AreKeyed, HasCode};
 
 use model_messages::Queued;
@@ -60,16 +61,23 @@ pub fn set_holder(
     }
 }
 
-/// Removes the message of this id, and answers it.
-pub fn remove(messages: &mut BTreeMap<u64, Queued>, id: u64) -> Option<Message>
+/// Removes the message of this id, and answers it with the region that had it.
+pub fn remove(messages: &mut BTreeMap<u64, Queued>, id: u64) -> Option<Queued>
     requires { AreKeyed messages.old.entries }
     ensures value { values_of messages.new.entries ≡ without_id_queued id (values_of messages.old.entries) }
-    ensures message { result ≡ queued_message id (values_of messages.old.entries) }
-    ensures bytes { messages_bytes (messages_of (values_of messages.new.entries)) + unwrap_or (option_map message_bytes result) 0 ≡ messages_bytes (messages_of (values_of messages.old.entries)) }
+    ensures queued { result ≡ queued_at id (values_of messages.old.entries) }
+    ensures bytes { messages_bytes (messages_of (values_of messages.new.entries)) + unwrap_or (option_map (λ q. message_bytes q.message) result) 0 ≡ messages_bytes (messages_of (values_of messages.old.entries)) }
     ensures keyed { AreKeyed messages.new.entries }
 {
-    match messages.remove(&id) {
-        Some(queued) => Some(queued.message),
-        None => None,
+    messages.remove(&id)
+}
+
+/// How many a message with this holder counts among those that no region has.
+pub fn free_weight(holder: Option<u32>) -> u64
+    ensures { result ≡ free_weight holder }
+{
+    match holder {
+        Some(_) => 0,
+        None => 1,
     }
 }

@@ -5,6 +5,7 @@ ghost use Rattle.std.specs.Map.{values_of};
 ghost use Rattle.model_messages.specs.Room.{message_bytes, messages_bytes, input_needs};
 ghost use Rattle.model_messages.specs.Queue.{IsNewId, AreInOrder, messages_of, queued_at, queued_message, with_message, with_holder, without_id_queued, first_free, free_count, any_held};
 ghost use Rattle.model_messages.specs.ConversationInput.{busy_id};
+ghost use Rattle.msg_queues.specs.FreeMessages.{any_free};
 ghost use Rattle.msg_queues.specs.RefusedInput.{RefusesInput};
 
 use crate::id_queue::IdQueue;
@@ -36,6 +37,8 @@ pub enum QueueRefused {
 pub struct Queues {
     limit: u32,
     content: u64,
+    // How many messages no region has.
+    free: u64,
     messages: BTreeMap<u64, Queued>,
     by_code: BTreeMap<Name, IdQueue>,
     by_terminal: BTreeMap<Name, IdQueue>,
@@ -51,7 +54,7 @@ impl Model for Queues {
 
     ghost view = { λ q. record { limit = q.limit; queued = values_of q.messages.entries } };
 
-    ghost invariant = { λ q. AreMessagesKept q.messages.entries q.content q.by_code.entries q.by_terminal.entries };
+    ghost invariant = { λ q. AreMessagesKept q.messages.entries q.content q.free q.by_code.entries q.by_terminal.entries };
 }
 
 impl Queues {
@@ -63,6 +66,7 @@ impl Queues {
         Queues {
             limit,
             content: 0,
+            free: 0,
             messages: BTreeMap::new(alloc),
             by_code: BTreeMap::new(alloc),
             by_terminal: BTreeMap::new(alloc),
@@ -116,6 +120,7 @@ impl Queues {
         match entries::add(&mut self.messages, message) {
             Ok(()) => {
                 self.content += bytes;
+                self.free += 1;
                 Ok(())
             }
             Err(failed) => {
@@ -131,6 +136,13 @@ impl Queues {
         ensures ordered { AreInOrder self.now.queued }
     {
         index::first_free(&self.by_code, code)
+    }
+
+    /// Whether there is a message that no region has.
+    pub fn has_free(&self) -> bool
+        ensures { result ≡ any_free self.now.queued }
+    {
+        self.free > 0
     }
 
     /// How many messages of the code no region has.
@@ -177,6 +189,7 @@ impl Queues {
         let Some(code) = entries::set_holder(&mut self.messages, id, Some(region)) else {
             unreachable!()
         };
+        self.free -= 1;
         index::set_held(&mut self.by_code, &code, id, true);
     }
 
@@ -189,6 +202,7 @@ impl Queues {
         let Some(code) = entries::set_holder(&mut self.messages, id, None) else {
             unreachable!()
         };
+        self.free += 1;
         index::set_held(&mut self.by_code, &code, id, false);
     }
 
@@ -197,9 +211,11 @@ impl Queues {
         requires { IsSome (queued_at id self.old.queued) }
         ensures { self.new ≡ record self.old { queued = without_id_queued id self.old.queued } }
     {
-        let Some(message) = entries::remove(&mut self.messages, id) else {
+        let Some(queued) = entries::remove(&mut self.messages, id) else {
             unreachable!()
         };
+        let Queued { message, holder } = queued;
+        self.free -= entries::free_weight(holder);
         index::take(&mut self.by_code, &mut self.by_terminal, &message);
         self.content -= message.segments.counted_bytes();
     }

@@ -10,3 +10,4 @@ pub mod Reading
 pub mod Counted
 pub mod TextBack
 pub mod FirstParts
+pub mod Unspent

@@ -5,6 +5,7 @@ ghost use Rattle.openings.specs.OpenedImage.{counters, output_counters, first_sp
 
 use model_machine::Counter;
 use model_messages::TerminalReplies;
+use out_queues::Outputs;
 
 const LIMIT: u64 = 1_000_000_000_000_000_000;
 
@@ -22,8 +23,17 @@ fn is_next_spent(last: u64) -> bool
     last >= LIMIT - 1
 }
 
-// The first terminal whose next reply is spent.
-fn spent_output(outputs: &[TerminalReplies]) -> Option<Counter>
+// The first terminal whose next reply is spent. Terminals are gone over only where one of them may have come to the limit.
+fn spent_output(outputs: &Outputs) -> Option<Counter>
+    ensures { result ≡ first_spent (output_counters outputs.now) }
+{
+    if outputs.highest() < LIMIT - 1 {
+        return None;
+    }
+    spent_among(outputs.terminals())
+}
+
+fn spent_among(outputs: &[TerminalReplies]) -> Option<Counter>
     ensures { result ≡ first_spent (output_counters outputs.now) }
 {
     for terminal in outputs {
@@ -48,7 +58,7 @@ pub struct Counts {
 }
 
 /// The first counter that is spent.
-pub fn spent_counter(counts: &Counts, outputs: &[TerminalReplies]) -> Option<Counter>
+pub fn spent_counter(counts: &Counts, outputs: &Outputs) -> Option<Counter>
     ensures { (state : OneState) → state.next_id ≡ counts.now.next_id → state.steps ≡ counts.now.steps → state.outputs ≡ outputs.now → result ≡ first_spent (counters counts.now.epoch counts.now.sequence counts.now.checkpoint (counts.now.last_unit + 1) state) }
 {
     if is_spent(counts.epoch) {

@@ -1,16 +1,16 @@
 -- What a change of one terminal leaves of the count and of the numbers.
-use Rattle.std.proofs.Common.{◌≡◌, ℕ, ◌+◌, ◌-◌, ◌<◌, ◌≤◌, ◌^◌, ◌++◌, ◌∷◌, [], List, refl, sym, ◌∙◌, ap, subst, arith, Bool, true, false, cond, Option, Some, None, drop, take, length, length-append, zero, suc}
+use Rattle.std.proofs.Common.{◌≡◌, ℕ, ◌+◌, ◌-◌, ◌<◌, ◌≤◌, ◌^◌, ◌++◌, ◌∷◌, [], List, refl, sym, ◌∙◌, ap, subst, arith, Bool, true, false, cond, Option, Some, None, drop, take, length, length-append, zero, suc, get_or}
 use Rattle.std.specs.Prelude.{map}
 use Rattle.std.specs.List.{AllByRecursion}
-use Rattle.std.specs.Option.{IsSome, IsSomeAnd}
+use Rattle.std.specs.Option.{IsSome, IsSomeAnd, option_map_or}
 use Rattle.std.proofs.lemmas.List.{length-take-le}
 use Rattle.std.proofs.lemmas.List.Sums.{sum_by-cons, sum_by_push}
 use Rattle.tm_types.specs.Segment.{counted_bytes}
 use Rattle.tm_types.specs.declared.message.Reply.{Reply}
 use Rattle.model_messages.specs.Room.{reply_bytes, replies_bytes}
 use Rattle.model_messages.specs.declared.replies.TerminalReplies.{TerminalReplies}
-use Rattle.model_messages.specs.Outputs.{fresh_terminal, are_replies_of, replies_at, IsTerminal, with_terminal, with_reply, without_first, without_last, with_next, RunUpTo, AreNumbered, outputs_bytes}
-use Rattle.out_queues.specs.KeptReplies.{AreRepliesKept}
+use Rattle.model_messages.specs.Outputs.{fresh_terminal, are_replies_of, replies_at, IsTerminal, with_terminal, with_reply, without_first, without_last, with_next, next_of, RunUpTo, AreNumbered, outputs_bytes}
+use Rattle.out_queues.specs.KeptReplies.{AreRepliesKept, AreUpTo}
 
 abbrev terminal_bytes : TerminalReplies → ℕ
 terminal_bytes t = replies_bytes t.replies
@@ -93,17 +93,50 @@ run_next next (r ∷ replies) h g = omega (arith, h.0)
 run_none : (next : ℕ) (replies : List Reply) → replies ≡ [] → RunUpTo next replies
 run_none next replies e = subst (RunUpTo next) (sym e) tt
 
+-- ---- the highest number
+pub up_to_more : (low high : ℕ) (ts : List TerminalReplies) → low ≤ high → AreUpTo low ts → AreUpTo high ts
+up_to_more low high [] le h = tt
+up_to_more low high (t ∷ ts) le h = (omega (arith, le, h.0), up_to_more low high ts le h.1)
+
+-- where no next number is above it, no number that was given is
+pub given_up_to : (high : ℕ) (ts : List TerminalReplies) → AllByRecursion (λ t. t.next ≤ high) ts → AreUpTo high ts
+given_up_to high [] h = tt
+given_up_to high (t ∷ ts) h = (omega (arith, h.0), given_up_to high ts h.1)
+
+-- one terminal more
+pub next_more : (low high : ℕ) (ts : List TerminalReplies) (i : ℕ) (d : TerminalReplies) → i < length ts → low ≤ high → (get_or ts i d).next ≤ high
+    → AllByRecursion (λ t. t.next ≤ low) (take i ts) → AllByRecursion (λ t. t.next ≤ high) (take (i + 1) ts)
+next_more low high [] i d lt le new h = absurd (omega (arith, lt))
+next_more low high (t ∷ ts) zero d lt le new h = (new, tt)
+next_more low high (t ∷ ts) (suc i) d lt le new h = (omega (arith, h.0, le), next_more low high ts i d (omega (arith, lt)) le new h.1)
+
+up_to_changed : (low high : ℕ) (name : List ℕ) (f : TerminalReplies → TerminalReplies) (ts : List TerminalReplies) → low ≤ high → AreUpTo low ts
+    → ((t : TerminalReplies) → replies_at name ts ≡ Some t → t.next ≤ low + 1 → (f t).next ≤ high + 1) → AreUpTo high (with_terminal name f ts)
+up_to_changed low high name f [] le h g = tt
+up_to_changed low high name f (u ∷ ts) le h g = by (are_replies_of name u) g (up_to_changed low high name f ts le h.1)
+  where
+    by : (b : Bool) → ((t : TerminalReplies) → cond b (Some u) (replies_at name ts) ≡ Some t → t.next ≤ low + 1 → (f t).next ≤ high + 1)
+        → (((t : TerminalReplies) → replies_at name ts ≡ Some t → t.next ≤ low + 1 → (f t).next ≤ high + 1) → AreUpTo high (with_terminal name f ts))
+        → AreUpTo high (cond b (f u ∷ ts) (u ∷ with_terminal name f ts))
+    by true k rec = (k u refl h.0, up_to_more low high ts le h.1)
+    by false k rec = (omega (arith, le, h.0), rec k)
+
+up_to_fresh : (names : List (List ℕ)) → AreUpTo 0 (map fresh_terminal names)
+up_to_fresh [] = tt
+up_to_fresh (name ∷ names) = (omega arith, up_to_fresh names)
+
 -- ---- whole tables
 pub there_by : (o : Option TerminalReplies) (P : TerminalReplies → Type 0) → IsSomeAnd o P → IsSome o
 there_by None P g = absurd g
 there_by (Some t) P g = refl
 
-pub kept_fresh : (names : List (List ℕ)) (ts : List TerminalReplies) → ts ≡ map fresh_terminal names → AreRepliesKept ts 0
+pub kept_fresh : (names : List (List ℕ)) (ts : List TerminalReplies) → ts ≡ map fresh_terminal names → AreRepliesKept ts 0 0
 kept_fresh names ts e =
-    subst (λ us. AreRepliesKept us 0) (sym e) (record {
+    subst (λ us. AreRepliesKept us 0 0) (sym e) (record {
       counted = sym (bytes_fresh names);
       small = omega arith;
       numbered = numbered_fresh names;
+      bounded = up_to_fresh names;
     })
 
 the_terminal : (name : List ℕ) (ts : List TerminalReplies) → IsTerminal name ts → (t : TerminalReplies) × (replies_at name ts ≡ Some t)
@@ -113,50 +146,56 @@ the_terminal name ts h = by (replies_at name ts) refl h
     by None e g = let clash : false ≡ true = g in absurd (cc)
     by (Some t) e g = (t, e)
 
-pub kept_removed : (name : List ℕ) (ts new fs : List TerminalReplies) (content bytes : ℕ) → AreRepliesKept ts content → new ≡ with_terminal name without_first ts
-    → outputs_bytes new + bytes ≡ outputs_bytes ts → fs ≡ new → AreRepliesKept fs (content - bytes)
-kept_removed name ts new fs content bytes h e g same =
-    subst (λ us. AreRepliesKept us (content - bytes)) (sym same) (record {
+pub kept_removed : (name : List ℕ) (ts new fs : List TerminalReplies) (content bytes highest : ℕ) → AreRepliesKept ts content highest → new ≡ with_terminal name without_first ts
+    → outputs_bytes new + bytes ≡ outputs_bytes ts → fs ≡ new → AreRepliesKept fs (content - bytes) highest
+kept_removed name ts new fs content bytes highest h e g same =
+    subst (λ us. AreRepliesKept us (content - bytes) highest) (sym same) (record {
       counted = omega (arith, h.counted, g);
       small = omega (arith, h.small);
       numbered = subst (AllByRecursion AreNumbered) (sym e) (numbered_changed name without_first ts h.numbered (λ t f n. run_fewer t.next t.replies n));
+      bounded = subst (AreUpTo highest) (sym e) (up_to_changed highest highest name without_first ts (omega arith) h.bounded (λ t f n. n));
     })
 
-pub kept_added : (name : List ℕ) (segments : List (List ℕ)) (ts new fs : List TerminalReplies) (content bytes : ℕ) → AreRepliesKept ts content → IsTerminal name ts
-    → new ≡ with_terminal name (with_reply segments) ts → bytes ≡ counted_bytes segments → content + bytes < 2 ^ 62 → fs ≡ new → AreRepliesKept fs (content + bytes)
-kept_added name segments ts new fs content bytes h there e b fits same =
+pub kept_added : (name : List ℕ) (segments : List (List ℕ)) (ts new fs : List TerminalReplies) (content bytes low high number : ℕ) → AreRepliesKept ts content low → IsTerminal name ts
+    → new ≡ with_terminal name (with_reply segments) ts → bytes ≡ counted_bytes segments → content + bytes < 2 ^ 62 → fs ≡ new
+    → number ≡ next_of name ts → low ≤ high → number ≤ high → AreRepliesKept fs (content + bytes) high
+kept_added name segments ts new fs content bytes low high number h there e b fits same is le above =
     let the = the_terminal name ts there in
     let t = the.0 in
     let moved : outputs_bytes new + terminal_bytes t ≡ outputs_bytes ts + terminal_bytes (with_reply segments t) =
     ap (λ us. outputs_bytes us + terminal_bytes t) e ∙ bytes_changed name (with_reply segments) ts t the.1 in
     let more : terminal_bytes (with_reply segments t) ≡ terminal_bytes t + counted_bytes segments = sum_by_push reply_bytes t.replies (record { number = t.next; segments = segments }) in
-    subst (λ us. AreRepliesKept us (content + bytes)) (sym same) (record {
+    subst (λ us. AreRepliesKept us (content + bytes) high) (sym same) (record {
       counted = omega (arith, h.counted, moved, more, b);
       small = fits;
       numbered = subst (AllByRecursion AreNumbered) (sym e) (numbered_changed name (with_reply segments) ts h.numbered (λ u f n. run_more u.next u.replies segments n));
+      bounded = subst (AreUpTo high) (sym e) (up_to_changed low high name (with_reply segments) ts le h.bounded
+          (λ u f n. let given : number ≡ u.next = is ∙ ap (λ (o : Option TerminalReplies). option_map_or (λ t. t.next) o 1) f in omega (arith, given, above)));
     })
 
-pub kept_next : (name : List ℕ) (number : ℕ) (ts new fs : List TerminalReplies) (content : ℕ) → AreRepliesKept ts content → IsSomeAnd (replies_at name ts) (λ t. t.replies ≡ [])
-    → new ≡ with_terminal name (with_next number) ts → fs ≡ new → AreRepliesKept fs content
-kept_next name number ts new fs content h none e same =
+pub kept_next : (name : List ℕ) (number : ℕ) (ts new fs : List TerminalReplies) (content low high : ℕ) → AreRepliesKept ts content low → IsSomeAnd (replies_at name ts) (λ t. t.replies ≡ [])
+    → new ≡ with_terminal name (with_next number) ts → fs ≡ new → low ≤ high → number ≤ high → AreRepliesKept fs content high
+kept_next name number ts new fs content low high h none e same le above =
     let the = the_terminal name ts (there_by (replies_at name ts) (λ t. t.replies ≡ []) none) in
     let moved : outputs_bytes new + terminal_bytes the.0 ≡ outputs_bytes ts + terminal_bytes the.0 =
     ap (λ us. outputs_bytes us + terminal_bytes the.0) e ∙ bytes_changed name (with_next number) ts the.0 the.1 in
-    subst (λ us. AreRepliesKept us content) (sym same) (record {
+    subst (λ us. AreRepliesKept us content high) (sym same) (record {
       counted = omega (arith, h.counted, moved);
       small = h.small;
       numbered =
           subst (AllByRecursion AreNumbered) (sym e)
           (numbered_changed name (with_next number) ts h.numbered (λ t f n. run_none number t.replies (subst (λ o. IsSomeAnd o (λ u. u.replies ≡ [])) f none)));
+      bounded = subst (AreUpTo high) (sym e) (up_to_changed low high name (with_next number) ts le h.bounded (λ t f n. omega (arith, above)));
     })
 
-pub kept_taken : (name : List ℕ) (ts new fs : List TerminalReplies) (content bytes : ℕ) → AreRepliesKept ts content → new ≡ with_terminal name without_last ts
-    → outputs_bytes new + bytes ≡ outputs_bytes ts → fs ≡ new → AreRepliesKept fs (content - bytes)
-kept_taken name ts new fs content bytes h e g same =
-    subst (λ us. AreRepliesKept us (content - bytes)) (sym same) (record {
+pub kept_taken : (name : List ℕ) (ts new fs : List TerminalReplies) (content bytes highest : ℕ) → AreRepliesKept ts content highest → new ≡ with_terminal name without_last ts
+    → outputs_bytes new + bytes ≡ outputs_bytes ts → fs ≡ new → AreRepliesKept fs (content - bytes) highest
+kept_taken name ts new fs content bytes highest h e g same =
+    subst (λ us. AreRepliesKept us (content - bytes) highest) (sym same) (record {
       counted = omega (arith, h.counted, g);
       small = omega (arith, h.small);
       numbered = subst (AllByRecursion AreNumbered) (sym e) (numbered_changed name without_last ts h.numbered (λ t f n. run_fewer_last t.next t.replies n));
+      bounded = subst (AreUpTo highest) (sym e) (up_to_changed highest highest name without_last ts (omega arith) h.bounded (λ t f n. omega (arith, n)));
     })
 
 -- where a reply is kept a number was given

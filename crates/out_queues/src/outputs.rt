@@ -5,6 +5,7 @@ ghost use Rattle.std.specs.Option.{option_copied, is_some};
 ghost use Rattle.tm_types.specs.Segment.{counted_bytes};
 ghost use Rattle.model_messages.specs.Outputs.{fresh_terminal, replies_at, IsTerminal, with_terminal, with_reply, without_last, with_next, reply_at, next_of, AreNumbered, outputs_bytes};
 ghost use Rattle.out_queues.specs.Acknowledgement.{replies_ack_answer, left_by_acknowledgement};
+ghost use Rattle.out_queues.specs.KeptReplies.{AreUpTo};
 
 use crate::table;
 use model_messages::TerminalReplies;
@@ -34,6 +35,8 @@ pub struct AckAhead {
 #[derive(Debug, Drop)]
 pub struct Outputs {
     content: u64,
+    // No terminal has given a reply a number above this one. It only rises.
+    highest: u64,
     terminals: Vec<TerminalReplies>,
 }
 
@@ -46,7 +49,7 @@ impl Model for Outputs {
 
     ghost view = { λ o. o.terminals.items };
 
-    ghost invariant = { λ o. AreRepliesKept o.terminals.items o.content };
+    ghost invariant = { λ o. AreRepliesKept o.terminals.items o.content o.highest };
 }
 
 impl Outputs {
@@ -56,6 +59,7 @@ impl Outputs {
     {
         Ok(Outputs {
             content: 0,
+            highest: 0,
             terminals: table::fresh_terminals(alloc, terminals)?,
         })
     }
@@ -68,7 +72,12 @@ impl Outputs {
         requires numbered { AllByRecursion AreNumbered terminals.items }
         ensures { result ≡ terminals.items }
     {
-        Outputs { content, terminals }
+        let highest = table::highest_next(&terminals);
+        Outputs {
+            content,
+            highest,
+            terminals,
+        }
     }
 
     /// The bytes of all replies: 48 for each, and the LLs of its segments.
@@ -78,6 +87,13 @@ impl Outputs {
         ensures numbered { AllByRecursion AreNumbered self.now }
     {
         self.content
+    }
+
+    /// A number above which no terminal has given one: it may be higher than any that was given.
+    pub fn highest(&self) -> u64
+        ensures { AreUpTo result self.now }
+    {
+        self.highest
     }
 
     /// The terminals with their replies, in the order of the definition.
@@ -115,6 +131,7 @@ impl Outputs {
         match table::add(&mut self.terminals, terminal, segments) {
             Ok(number) => {
                 self.content += bytes;
+                self.highest = self.highest.max(number);
                 Ok(number)
             }
             Err(failed) => Err(failed),
@@ -165,6 +182,7 @@ impl Outputs {
         ensures { self.new ≡ with_terminal terminal.now (with_next number) self.old }
     {
         table::set_next(&mut self.terminals, terminal, number);
+        self.highest = self.highest.max(number);
     }
 
     /// The terminal has seen its reply of this number, which is then no longer kept. This takes no

@@ -1,6 +1,7 @@
 //! The terminals of a system by their names.
 ghost use Rattle.std.specs.Prelude.{◌≡◌, ◌+◌, ◌<◌, ◌≤◌, ◌^◌, Some, map, position, slice_get, IsSomeAnd, OnOk, OnErr, IfOk, IfErr};
 ghost use Rattle.tm_types.specs.Segment.{counted_bytes};
+ghost use Rattle.std.specs.List.{AllByRecursion};
 ghost use Rattle.std.specs.Option.{option_copied};
 ghost use Rattle.model_messages.specs.Room.{replies_bytes};
 ghost use Rattle.model_messages.specs.Outputs.{fresh_terminal, are_replies_of, replies_at, IsTerminal, with_terminal, with_reply, without_first, without_last, with_next, next_of, first_number, outputs_bytes};
@@ -114,6 +115,17 @@ fn push_reply(kept: &mut TerminalReplies, segments: Segments) -> Result<u64, All
             value: failed.value.segments,
         }),
     }
+}
+
+/// A number that no terminal's next reply passes.
+pub fn highest_next(terminals: &[TerminalReplies]) -> u64
+    ensures { AllByRecursion (λ t. t.next ≤ result) terminals.now }
+{
+    let mut highest = 0;
+    for kept in terminals {
+        highest = kept.next.max(highest);
+    }
+    highest
 }
 
 /// Sets the number that the next reply of the terminal of this name gets.

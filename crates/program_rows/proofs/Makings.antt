@@ -3,7 +3,9 @@ use Rattle.std.proofs.Common.{◌≡◌, ℕ, ◌-◌, List, refl, sym, ◌∙�
 use Rattle.std.specs.List.{slice_get}
 use Rattle.std.specs.Option.{option_map, is_some}
 use Rattle.std.specs.Prelude.{IfSome, OnOk, OnErr}
-use Rattle.seg_store.specs.Slots.{Stored}
+use Rattle.model_data.specs.declared.row.Row.{Row}
+use Rattle.model_data.specs.Rows.{record_of}
+use Rattle.seg_store.specs.Slots.{Stored, rows_of_slots}
 use Rattle.unit_work.specs.declared.change.Change.{Change}
 use Rattle.unit_work.specs.Changes.{Changes, AreSlotsInOrder, is_full, no_changes, with_change, with_slot, with_touch}
 use Rattle.unit_work.specs.ReadyTouch.{Touching}
@@ -70,6 +72,19 @@ module _ {R E : Type 0} where
         changed = changed;
         table = table;
       }
+
+-- ---- the image that a record had
+-- of the store that is there
+pub had_there : (o : Option Stored) (s : Stored) (P : Stored → Type 0) → o ≡ Some s → P s → IfSome o P
+had_there None s P e h = tt
+had_there (Some t) s P e h = let same : t ≡ s = cc in subst P (sym same) h
+
+-- it is the one that is to come
+pub came_back : (o : Option Stored) (s : Stored) (root : List ℕ) (image : Option (List Row)) (before : List Row) → o ≡ Some s → IfSome o (λ s. before ≡ record_of root (rows_of_slots s.slots))
+    → IfSome o (λ s. IfSome image (λ i. i ≡ record_of root (rows_of_slots s.slots))) → IfSome image (λ i. i ≡ before)
+came_back None s root image before e was h = let clash : None ≡ Some s = e in absurd (cc)
+came_back (Some t) s root None before e was h = tt
+came_back (Some t) s root (Some i) before e was h = h ∙ sym was
 
 -- a unit for which there was no memory goes back
 pub put_left : (region : ℕ) (old new : Opened) (u v : Changes) (units : List Changes) → slice_get old.units.items (region - 1) ≡ Some u

@@ -207,7 +207,7 @@ fn set(
     }
 }
 
-// Makes the touch of a record ready, with the image that it has in the store.
+// Makes the touch of a record ready, with the image that it has in the store. Where that is to come, `put_record` answers it.
 fn prepare(
     alloc: Global,
     number: u8,
@@ -219,6 +219,7 @@ fn prepare(
     requires room { is_full number root.now unit.records ≡ false }
     ensures unit { IfOk result (λ p. p.unit ≡ unit) }
     ensures touched { IfOk result (λ p. p.touched ≡ with_touch (record { db = number; slot = slot; root = root.now; before = record_of root.now (rows_of_slots store.now.slots) }) unit) }
+    ensures image { IfOk result (λ p. IfSome p.image (λ image. image ≡ record_of root.now (rows_of_slots store.now.slots))) }
     ensures kept { IfErr result (λ u. u ≡ unit) }
 {
     match store.record(root) {
@@ -238,6 +239,7 @@ fn keep(asked: &Asked, edit: Edit, prepared: Prepared, opened: &mut Opened) -> R
     requires last { asked.now.number ≤ length opened.old.stores.stores }
     requires accepted { IfSome (slice_get opened.old.stores.stores (asked.now.number - 1)) (λ s. set_refusal s.dbd edit.root edit.image (rows_of_slots s.slots) ≡ None) }
     requires image { IfSome (slice_get opened.old.stores.stores (asked.now.number - 1)) (λ s. IsImage s.dbd edit.root edit.image) }
+    requires before { IfSome (slice_get opened.old.stores.stores (asked.now.number - 1)) (λ s. IfSome prepared.image (λ image. image ≡ record_of edit.root (rows_of_slots s.slots))) }
     ensures put { OnOk result (IsPut asked.now.number edit opened.old.stores.stores opened.new.stores.stores) }
     ensures units { OnOk result (opened.new.units.items ≡ slice_set opened.old.units.items (asked.now.region - 1) prepared.touched) }
     ensures asked { OnOk result (HasAskedIn asked.now opened.old.table opened.new.table) }
@@ -250,9 +252,8 @@ fn keep(asked: &Asked, edit: Edit, prepared: Prepared, opened: &mut Opened) -> R
 {
     match ask(asked, &mut opened.table) {
         Ok(()) => {
-            let unit = prepared.keep();
-            put_unit(&mut opened.units, asked.region, unit);
-            put_record(asked.number, edit, &mut opened.stores);
+            let before = put_record(asked.number, edit, &mut opened.stores);
+            put_unit(&mut opened.units, asked.region, prepared.keep(before));
             Ok(())
         }
         Err(error) => {
@@ -262,17 +263,19 @@ fn keep(asked: &Asked, edit: Edit, prepared: Prepared, opened: &mut Opened) -> R
     }
 }
 
-fn put_record(number: u8, edit: Edit, stores: &mut Stores)
+// Sets the record, and answers the image that it had.
+fn put_record(number: u8, edit: Edit, stores: &mut Stores) -> RecordImage
     requires least { 1 ≤ number }
     requires most { number ≤ length stores.old.stores }
     requires accepted { IfSome (slice_get stores.old.stores (number - 1)) (λ s. set_refusal s.dbd edit.root edit.image (rows_of_slots s.slots) ≡ None) }
     requires image { IfSome (slice_get stores.old.stores (number - 1)) (λ s. IsImage s.dbd edit.root edit.image) }
     ensures put { IsPut number edit stores.old.stores stores.new.stores }
+    ensures before { IfSome (slice_get stores.old.stores (number - 1)) (λ s. result ≡ record_of edit.root (rows_of_slots s.slots)) }
     ensures marks { MarksEdit number edit stores.old stores.new }
 {
     let root = edit.root;
-    match stores.store_mut(number).set(&root, edit.image) {
-        Ok(()) => {}
+    match stores.store_mut(number).exchange(&root, edit.image) {
+        Ok(before) => before,
         Err(_) => unreachable!(),
     }
 }

@@ -39,7 +39,7 @@ fn spent_of(restart: &RestartSector, looked: &Looked) -> Option<Counter>
         last_unit: replayed.last_unit,
         steps: replayed.kept.steps,
     };
-    spent_counter(&counts, replayed.kept.outputs.terminals())
+    spent_counter(&counts, &replayed.kept.outputs)
 }
 
 // Looks at the rest of an image with this restart sector and this text, and then at the counters.

@@ -2,3 +2,4 @@ pub mod Better
 pub mod Found
 pub mod Law
 pub mod Serial
+pub mod Nothing

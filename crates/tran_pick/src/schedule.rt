@@ -47,6 +47,9 @@ fn candidate_for(system: &System, region: u32, state: &Codes, queues: &Queues) -
     ensures free { IfSome result (λ c. IsFirstFree queues.now.queued c.code c.id) }
 {
     let classes = &system.regions()[region as usize - 1];
+    if !queues.has_free() {
+        return None;
+    }
     pick_among(classes.as_slice(), system.codes(), state.states(), queues)
 }
 

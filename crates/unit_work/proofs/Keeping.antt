@@ -1,11 +1,13 @@
 -- Changes that are kept once, and slots in their order.
-use Rattle.std.proofs.Common.{◌≡◌, ℕ, ◌+◌, ◌≤◌, ◌<◌, ◌++◌, ◌∷◌, [], List, length, suc, refl, sym, ◌∙◌, ap, Bool, true, false, cond, Option, None, Some, arith, get_or, set, leb, ◌||◌, subst}
+use Rattle.std.proofs.Common.{◌≡◌, ℕ, ◌+◌, ◌≤◌, ◌<◌, ◌++◌, ◌∷◌, [], List, length, suc, refl, sym, ◌∙◌, ap, Bool, true, false, cond, Option, None, Some, arith, get_or, set, leb, ◌||◌, ◌&&◌, not, subst}
 use Rattle.std.specs.List.{AllByRecursion, prefix_len, slice_get, insert, list_any}
 use Rattle.std.proofs.lemmas.Bool.{false≢true, leb-false}
 use Rattle.std.proofs.lemmas.List.{length_push}
 use Rattle.model_data.proofs.Lists.{all_append, all_front, all_back}
 use Rattle.model_data.specs.declared.row.Row.{Row}
 use Rattle.unit_work.specs.declared.change.Change.{Change}
+use Rattle.unit_work.specs.ReadyTouch.{image_to_come, with_image}
+use Rattle.std.specs.Prelude.{IfSome, if◌then◌else◌}
 use Rattle.unit_work.specs.Changes.{is_change_of_record, is_record_changed, is_slot_before, is_slot, is_seen, with_change, with_slot, AreOther, Pairs, AreChangesKept, is_full}
 
 -- how many slots go before this one
@@ -117,6 +119,24 @@ slot_image db slot root image (s ∷ slots) true e = by (is_slot_before db slot 
         let own : is_slot db slot s ≡ true = sym (ap (λ b. cond b (is_seen db slot slots) (is_slot db slot s)) q) ∙ e in
         ap (λ b. goes [] b (is_slot db slot s)) q
         ∙ (ap (λ a. goes [] false a) own ∙ sym (ap (λ b. goes image b (is_slot db slot s)) q ∙ ap (λ a. goes image false a) own))
+
+-- the image that is to come is that of the record
+pub image_came : (moves : Bool) (own slot : Change) (image : List Row) → IfSome (image_to_come moves own) (λ i. i ≡ image) → with_image moves image slot ≡ with_image moves own.before slot
+image_came true own slot image h = ap (λ (i : List Row). record slot { before = i }) (sym h)
+image_came false own slot image h = refl
+
+pub image_ready : (known seen : Bool) (image first : List Row) → first ≡ cond known [] image → IfSome (if not known && not seen then Some first else None) (λ i. i ≡ image)
+image_ready true seen image first e = tt
+image_ready false true image first e = tt
+image_ready false false image first e = e
+
+-- the slot's image is to come where it has none and the record has none, and is its own where the record has one
+pub slot_ready : (db slot : ℕ) (root : List ℕ) (image first touched : List Row) (slots : List Change) (known seen : Bool) → seen ≡ is_seen db slot slots → first ≡ cond known [] image → touched ≡ cond (not known) [] image
+    → with_slot (with_image (not known && not seen) first (record { db = db; slot = slot; root = root; before = touched })) slots ≡ with_slot (record { db = db; slot = slot; root = root; before = image }) slots
+slot_ready db slot root image first touched slots true seen s e f = ap (λ (i : List Row). with_slot (record { db = db; slot = slot; root = root; before = i }) slots) f
+slot_ready db slot root image first touched slots false true s e f =
+    ap (λ (i : List Row). with_slot (record { db = db; slot = slot; root = root; before = i }) slots) f ∙ slot_image db slot root image slots true (sym s)
+slot_ready db slot root image first touched slots false false s e f = ap (λ (i : List Row). with_slot (record { db = db; slot = slot; root = root; before = i }) slots) e
 
 pub change_image : (db slot : ℕ) (root : List ℕ) (image : List Row) (records : List Change)
     → with_change (record { db = db; slot = slot; root = root; before = cond (is_record_changed db root records) [] image }) records

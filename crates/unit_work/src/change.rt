@@ -1,9 +1,10 @@
 //! A changed record and a touched slot, and how they are kept.
-ghost use Rattle.std.specs.Prelude.{◌≡◌, ◌<◌, true, [], IfOk, OnOk, OnErr, if◌then◌else◌, slice_get};
+ghost use Rattle.std.specs.Prelude.{◌≡◌, ◌<◌, true, [], IfOk, OnOk, OnErr, if◌then◌else◌, slice_get, IfSome};
 ghost use Rattle.std.specs.Option.{option_copied};
 ghost use Rattle.std.specs.List.{prefix_len};
 ghost use Rattle.std.specs.Vec.{vec_len, vec_capacity};
 ghost use Rattle.unit_work.specs.Changes.{is_change_of_record, is_record_changed, is_slot_before, is_slot, is_seen, has_place, with_change, with_slot};
+ghost use Rattle.unit_work.specs.ReadyTouch.{image_to_come, with_image};
 
 use seg_rows::RecordImage;
 use std::alloc::Global;
@@ -37,6 +38,8 @@ pub struct UnitSlot<'a> {
 pub struct Touch {
     pub record: Change,
     pub slot: Change,
+    /// Whether the slot's image is still to come, which is that of the record.
+    pub moves: bool,
 }
 
 /// Keeps a change among those of records and of slots; at an Err both stay.
@@ -47,21 +50,21 @@ pub fn keep(
     db: u8,
     slot: u16,
     root: Key,
-    before: &RecordImage,
+    before: RecordImage,
 ) -> Result<(), Memory>
     ensures place { OnOk result (has_place db slot slots.old.items ≡ true) }
-    ensures records { OnOk result (records.new.items ≡ with_change (record { db = db; slot = slot; root = root; before = before.now }) records.old.items) }
-    ensures slots { OnOk result (slots.new.items ≡ with_slot (record { db = db; slot = slot; root = root; before = before.now }) slots.old.items) }
+    ensures records { OnOk result (records.new.items ≡ with_change (record { db = db; slot = slot; root = root; before = before }) records.old.items) }
+    ensures slots { OnOk result (slots.new.items ≡ with_slot (record { db = db; slot = slot; root = root; before = before }) slots.old.items) }
     ensures records_stay { OnErr result (records.new.items ≡ records.old.items) }
     ensures slots_stay { OnErr result (slots.new.items ≡ slots.old.items) }
 {
-    let touch = ready(alloc, records, slots, db, slot, root, before)?;
-    add_change(records, touch.record);
-    add_slot(slots, touch.slot);
+    let touch = ready(alloc, records, slots, db, slot, root, &before)?;
+    add_touch(records, slots, touch, before);
     Ok(())
 }
 
-/// Makes room for one change more of each kind, and what is kept of it. All changes stay. There is none for a 65th slot.
+/// Makes room for one change more of each kind, and what is kept of it. All changes stay. There is none for a 65th slot. The image is copied
+/// once: where the record and the slot both take it, that of the slot is to come.
 pub fn ready(
     alloc: Global,
     records: &mut Vec<Change>,
@@ -77,13 +80,16 @@ pub fn ready(
     ensures slot_room { OnOk result (vec_len slots.new < vec_capacity slots.new) }
     ensures place { OnOk result (has_place db slot slots.old.items ≡ true) }
     ensures record { IfOk result (λ t. with_change t.record records.old.items ≡ with_change (record { db = db; slot = slot; root = root; before = before.now }) records.old.items) }
-    ensures slot { IfOk result (λ t. with_slot t.slot slots.old.items ≡ with_slot (record { db = db; slot = slot; root = root; before = before.now }) slots.old.items) }
+    ensures slot { IfOk result (λ t. with_slot (with_image t.moves t.record.before t.slot) slots.old.items ≡ with_slot (record { db = db; slot = slot; root = root; before = before.now }) slots.old.items) }
+    ensures image { IfOk result (λ t. IfSome (image_to_come t.moves t.record) (λ image. image ≡ before.now)) }
 {
     if !has_place(slots, db, slot) {
         return Err(Memory);
     }
-    let first = image_unless(alloc, is_changed(records, db, &root), before)?;
-    let touched = image_unless(alloc, is_seen(slots, db, slot), before)?;
+    let is_known = is_changed(records, db, &root);
+    let moves = !is_known && !is_seen(slots, db, slot);
+    let first = image_unless(alloc, is_known, before)?;
+    let touched = image_unless(alloc, !is_known, before)?;
     records.reserve(1)?;
     slots.reserve(1)?;
     let record = Change {
@@ -98,7 +104,49 @@ pub fn ready(
         root,
         before: touched,
     };
-    Ok(Touch { record, slot })
+    Ok(Touch {
+        record,
+        slot,
+        moves,
+    })
+}
+
+/// Keeps what was made ready, with the image that is to come.
+pub fn add_touch(
+    records: &mut Vec<Change>,
+    slots: &mut Vec<Change>,
+    touch: Touch,
+    before: RecordImage,
+)
+    requires record_room { vec_len records.old < vec_capacity records.old }
+    requires slot_room { vec_len slots.old < vec_capacity slots.old }
+    requires image { IfSome (image_to_come touch.moves touch.record) (λ image. image ≡ before) }
+    ensures records { records.new.items ≡ with_change touch.record records.old.items }
+    ensures slots { slots.new.items ≡ with_slot (with_image touch.moves touch.record.before touch.slot) slots.old.items }
+{
+    let Touch {
+        record,
+        slot,
+        moves,
+    } = touch;
+    add_change(records, record);
+    add_slot(slots, with_image(moves, before, slot));
+}
+
+// What is kept of the slot, with this image where it was to come.
+fn with_image(moves: bool, image: RecordImage, slot: Change) -> Change
+    ensures { result ≡ with_image moves image slot }
+{
+    if moves {
+        Change {
+            db: slot.db,
+            slot: slot.slot,
+            root: slot.root,
+            before: image,
+        }
+    } else {
+        slot
+    }
 }
 
 /// Whether a touched slot more has a place, or is there already.

@@ -1,5 +1,5 @@
 //! The changes of a unit of work.
-ghost use Rattle.std.specs.Prelude.{◌≡◌, false, [], length, slice_get, IfOk, IfErr, OnOk, OnErr};
+ghost use Rattle.std.specs.Prelude.{◌≡◌, false, [], length, slice_get, IfOk, IfErr, IfSome, OnOk, OnErr};
 ghost use Rattle.std.specs.Option.{option_map};
 ghost use Rattle.std.specs.List.{AllByRecursion, list_any};
 ghost use Rattle.unit_work.specs.Images.{image_at};
@@ -8,7 +8,7 @@ ghost use Rattle.unit_work.specs.Changes.{is_full, AreSlotsInOrder, AreRecordsOn
 ghost use Rattle.unit_work.specs.BackOut.{IsStored, CanGoBack, AreInOtherSlots, CanBackOut, is_touched, was_in, backs, cleared, backed_from, backed_out, with_record_back};
 ghost use Rattle.unit_work.specs.TouchRefused.{RefusesTouch};
 
-use crate::change::{Change, Touch, UnitSlot, add_change, add_slot, is_changed, keep, ready};
+use crate::change::{Change, Touch, UnitSlot, add_touch, is_changed, keep, ready};
 use seg_rows::RecordImage;
 use seg_store::Stores;
 use std::alloc::Global;
@@ -58,18 +58,19 @@ pub struct Prepared {
 impl Model for Prepared {
     ghost use Rattle.std.specs.Vec.{vec_len, vec_capacity};
     ghost use Rattle.unit_work.specs.Changes.{with_change, with_slot};
-    ghost use Rattle.unit_work.specs.ReadyTouch.{Touching, HasRoomForTouch};
+    ghost use Rattle.unit_work.specs.ReadyTouch.{Touching, HasRoomForTouch, image_to_come, with_image};
 
     ghost Value = { Touching };
 
-    ghost view = { λ p. record { unit = record { records = p.records.items; slots = p.slots.items }; touched = record { records = with_change p.touch.record p.records.items; slots = with_slot p.touch.slot p.slots.items } } };
+    ghost view = { λ p. record { unit = record { records = p.records.items; slots = p.slots.items }; touched = record { records = with_change p.touch.record p.records.items; slots = with_slot (with_image p.touch.moves p.touch.record.before p.touch.slot) p.slots.items }; image = image_to_come p.touch.moves p.touch.record } };
 
-    ghost invariant = { λ p. HasRoomForTouch (record { unit = record { records = p.records.items; slots = p.slots.items }; touched = record { records = with_change p.touch.record p.records.items; slots = with_slot p.touch.slot p.slots.items } }) (vec_len p.records) (vec_capacity p.records) (vec_len p.slots) (vec_capacity p.slots) };
+    ghost invariant = { λ p. HasRoomForTouch (record { unit = record { records = p.records.items; slots = p.slots.items }; touched = record { records = with_change p.touch.record p.records.items; slots = with_slot (with_image p.touch.moves p.touch.record.before p.touch.slot) p.slots.items }; image = image_to_come p.touch.moves p.touch.record }) (vec_len p.records) (vec_capacity p.records) (vec_len p.slots) (vec_capacity p.slots) };
 }
 
 impl Prepared {
-    /// Keeps the touch. This takes no memory.
-    pub fn keep(self) -> Unit
+    /// Keeps the touch, with the image that is to come, where one is. This takes no memory.
+    pub fn keep(self, before: RecordImage) -> Unit
+        requires { IfSome self.image (λ image. image ≡ before) }
         ensures value { result ≡ self.touched }
         ensures order { AreSlotsInOrder self.touched.slots }
     {
@@ -79,8 +80,7 @@ impl Prepared {
             mut slots,
             touch,
         } = self;
-        add_change(&mut records, touch.record);
-        add_slot(&mut slots, touch.slot);
+        add_touch(&mut records, &mut slots, touch, before);
         Unit {
             alloc,
             records,
@@ -125,9 +125,9 @@ impl Unit {
         db: u8,
         root: Key,
         slot: u16,
-        before: &RecordImage,
+        before: RecordImage,
     ) -> Result<(), TouchRefused>
-        ensures touched { OnOk result (self.new ≡ with_touch (record { db = db; slot = slot; root = root; before = before.now }) self.old) }
+        ensures touched { OnOk result (self.new ≡ with_touch (record { db = db; slot = slot; root = root; before = before }) self.old) }
         ensures kept { OnErr result (self.new ≡ self.old) }
         ensures accepted { OnOk result (is_full db root self.old.records ≡ false) }
         ensures refused { IfErr result (RefusesTouch db root self.old.records) }
@@ -149,8 +149,8 @@ impl Unit {
         }
     }
 
-    /// Takes the memory that a touch of this record takes (`touch`), so that it can be kept without any.
-    /// Where there isn't enough, the unit comes back as it was.
+    /// Takes the memory that a touch of this record takes (`touch`), so that it can be kept without any. The image may be
+    /// still to come, since what sets the record hands it back. Where there isn't enough memory, the unit comes back as it was.
     pub fn prepare(
         self,
         db: u8,
@@ -161,6 +161,7 @@ impl Unit {
         requires { is_full db root self.records ≡ false }
         ensures unit { IfOk result (λ p. p.unit ≡ self) }
         ensures touched { IfOk result (λ p. p.touched ≡ with_touch (record { db = db; slot = slot; root = root; before = before.now }) self) }
+        ensures image { IfOk result (λ p. IfSome p.image (λ image. image ≡ before.now)) }
         ensures kept { IfErr result (λ unit. unit ≡ self) }
     {
         let Unit {

@@ -1,8 +1,7 @@
 use Rattle.std.proofs.Common.{◌≡◌, ℕ, ◌+◌, List, length, refl, inl, sym, ◌∙◌, ap, subst, arith, IsTrue}
 use Rattle.tm_disk.specs.Disk.{HasWritten}
 use Rattle.tm_disk.proofs.Words.{stays_on, stays_same, within_same, follows_same}
-use Rattle.log_sectors.specs.SealedSector.{sealed, HasZerosBehind}
-use Rattle.log_sectors.proofs.Sealing.{sealed-behind, blank-behind}
+use Rattle.log_sectors.specs.SealedSector.{sealed}
 use Rattle.log_writer.specs.ForcedLog.{log_sectors_of, log_pieces, log_piece, Lays}
 use Rattle.log_writer.proofs.Laying.{has_laid_step}
 use Rattle.log_writer.proofs.Calls.{lays_follows, lays_within}
@@ -16,9 +15,9 @@ returns-then-is_err-clause-any_moment g c =
     let new = g.D.Disk.state c.write.new.self in
     let count = log_sectors_of (length c.args.bytes.now) in
     let payloads = log_pieces count c.args.bytes.now in
-    let is : c.reseal.new.sector ≡ sealed c.args.epoch (c.args.sequence + c.loop-place.place) (log_piece payloads c.loop-place.place) =
-    c.reseal.ensures ∙ ap (λ (p : List ℕ). sealed c.args.epoch (c.args.sequence + c.loop-place.place) p) c.piece-payload.ensures.value in
-    lays_within c.args.at c.args.sequence c.args.epoch payloads c.loop-place.place count c.reseal.new.sector old mid new is (omega arith) c.loop-place.invariant.within c.loop-place.invariant.follows c.write.ensures.tried.elapses c.write.ensures.tried.follows
+    let is : c.sector.result.now ≡ sealed c.args.epoch (c.args.sequence + c.loop-place.place) (log_piece payloads c.loop-place.place) =
+    c.sector.ensures ∙ c.seal.ensures ∙ ap (λ (p : List ℕ). sealed c.args.epoch (c.args.sequence + c.loop-place.place) p) c.piece-payload.ensures.value in
+    lays_within c.args.at c.args.sequence c.args.epoch payloads c.loop-place.place count c.sector.result.now old mid new is (omega arith) c.loop-place.invariant.within c.loop-place.invariant.follows c.write.ensures.tried.elapses c.write.ensures.tried.follows
 
 pub returns-then-is_err-clause-follows : goal.returns-then-is_err-clause-follows
 returns-then-is_err-clause-follows g c =
@@ -27,9 +26,9 @@ returns-then-is_err-clause-follows g c =
     let new = g.D.Disk.state c.write.new.self in
     let count = log_sectors_of (length c.args.bytes.now) in
     let payloads = log_pieces count c.args.bytes.now in
-    let is : c.reseal.new.sector ≡ sealed c.args.epoch (c.args.sequence + c.loop-place.place) (log_piece payloads c.loop-place.place) =
-    c.reseal.ensures ∙ ap (λ (p : List ℕ). sealed c.args.epoch (c.args.sequence + c.loop-place.place) p) c.piece-payload.ensures.value in
-    lays_follows c.args.at c.args.sequence c.args.epoch payloads c.loop-place.place count c.reseal.new.sector old mid new is (omega arith) c.loop-place.invariant.follows c.write.ensures.tried.follows
+    let is : c.sector.result.now ≡ sealed c.args.epoch (c.args.sequence + c.loop-place.place) (log_piece payloads c.loop-place.place) =
+    c.sector.ensures ∙ c.seal.ensures ∙ ap (λ (p : List ℕ). sealed c.args.epoch (c.args.sequence + c.loop-place.place) p) c.piece-payload.ensures.value in
+    lays_follows c.args.at c.args.sequence c.args.epoch payloads c.loop-place.place count c.sector.result.now old mid new is (omega arith) c.loop-place.invariant.follows c.write.ensures.tried.follows
 
 pub loop-place-init : goal.loop-place-init
 loop-place-init g c =
@@ -43,8 +42,6 @@ loop-place-init g c =
       shown = λ tells. record { size = refl; below = λ k lt. refl; above = λ k le. refl; each = λ x lt. absurd (omega (arith, lt)) };
       faults = refl;
       writes = omega arith;
-      few = omega arith;
-      behind = subst (λ (l : List ℕ). HasZerosBehind 0 l) (sym c.blank-sector.ensures) blank-behind;
     }
 
 pub loop-place-preserved : goal.loop-place-preserved
@@ -55,21 +52,19 @@ loop-place-preserved g c =
     let n = c.loop-place.place in
     let count = log_sectors_of (length c.args.bytes.now) in
     let payloads = log_pieces count c.args.bytes.now in
-    let is : c.reseal.new.sector ≡ sealed c.args.epoch (c.args.sequence + n) (log_piece payloads n) =
-    c.reseal.ensures ∙ ap (λ (p : List ℕ). sealed c.args.epoch (c.args.sequence + n) p) c.piece-payload.ensures.value in
+    let is : c.sector.result.now ≡ sealed c.args.epoch (c.args.sequence + n) (log_piece payloads n) =
+    c.sector.ensures ∙ c.seal.ensures ∙ ap (λ (p : List ℕ). sealed c.args.epoch (c.args.sequence + n) p) c.piece-payload.ensures.value in
     let stays = c.loop-place.invariant.stays in
     let disk = g.met.D.Disk.is_disk c.loop-place.disk in
-    let done = at_ok c.write.result (HasWritten (c.args.at + n) c.reseal.new.sector mid new) (sym c.if-is_err.ensures.value) c.write.ensures.done in
+    let done = at_ok c.write.result (HasWritten (c.args.at + n) c.sector.result.now mid new) (sym c.if-is_err.ensures.value) c.write.ensures.done in
     record {
       stays = stays_on old mid new stays c.write.ensures.tried.stays;
-      within = lays_within c.args.at c.args.sequence c.args.epoch payloads n (n + 1) c.reseal.new.sector old mid new is (omega arith) c.loop-place.invariant.within c.loop-place.invariant.follows c.write.ensures.tried.elapses c.write.ensures.tried.follows;
-      follows = lays_follows c.args.at c.args.sequence c.args.epoch payloads n (n + 1) c.reseal.new.sector old mid new is (omega arith) c.loop-place.invariant.follows c.write.ensures.tried.follows;
+      within = lays_within c.args.at c.args.sequence c.args.epoch payloads n (n + 1) c.sector.result.now old mid new is (omega arith) c.loop-place.invariant.within c.loop-place.invariant.follows c.write.ensures.tried.elapses c.write.ensures.tried.follows;
+      follows = lays_follows c.args.at c.args.sequence c.args.epoch payloads n (n + 1) c.sector.result.now old mid new is (omega arith) c.loop-place.invariant.follows c.write.ensures.tried.follows;
       shown = λ tells.
-          has_laid_step c.args.at c.args.sequence c.args.epoch payloads n (c.args.at + n) old.shown mid.shown new.shown c.reseal.new.sector refl
+          has_laid_step c.args.at c.args.sequence c.args.epoch payloads n (c.args.at + n) old.shown mid.shown new.shown c.sector.result.now refl
           (omega (arith, disk.shown_size, stays.size, c.requires.within, c.loop-place-test.true, c.sectors_of-count.ensures))
           is (c.loop-place.invariant.shown tells) (done.shown (subst (λ b. IsTrue b) (sym stays.tells) tells));
       faults = at_ok c.write.result (new.faults ≡ mid.faults) (sym c.if-is_err.ensures.value) c.write.ensures.no_fault ∙ c.loop-place.invariant.faults;
       writes = omega (arith, c.loop-place.invariant.writes, c.write.ensures.tried.writes);
-      few = c.piece-payload.ensures.fits;
-      behind = subst (λ (l : List ℕ). HasZerosBehind (length c.piece-payload.result.now) l) (sym c.reseal.ensures) (sealed-behind c.args.epoch (c.args.sequence + n) c.piece-payload.result.now);
     }

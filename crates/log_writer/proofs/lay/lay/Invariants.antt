@@ -1,6 +1,5 @@
 use Rattle.std.proofs.Common.{◌≡◌, ◌+◌, ◌≤◌, length, IsTrue}
 use Rattle.tm_disk.specs.Disk.{Stays, Within, Follows}
-use Rattle.log_sectors.specs.SealedSector.{HasZerosBehind}
 use Rattle.log_writer.specs.ForcedLog.{log_sectors_of, log_pieces, Lays, HasLaid}
 use Rattle.log_writer.proofs.lay.lay.Given as goal
 
@@ -16,6 +15,4 @@ invariant-loop-place g l =
       shown : IsTrue old.tells → HasLaid l.at l.sequence l.epoch payloads l.place old.shown now.shown;
       faults : now.faults ≡ old.faults;
       writes : now.writes ≤ old.writes + l.place;
-      few : l.held ≤ 4064;
-      behind : HasZerosBehind l.held l.sector;
     }

@@ -1,7 +1,16 @@
-use Rattle.std.proofs.Common.{refl}
+use Rattle.std.proofs.Common.{◌≡◌, ◌-◌, refl}
+use Rattle.std.specs.List.{slice_get}
+use Rattle.std.specs.Prelude.{IfSome}
+use Rattle.model_data.specs.Rows.{record_of}
+use Rattle.seg_store.specs.Slots.{rows_of_slots}
 use Rattle.seg_store.specs.ChangedSlots.{stored}
-use Rattle.program_rows.proofs.Makings.{set_done, set_left, put_left}
+use Rattle.program_rows.proofs.Makings.{set_done, set_left, put_left, had_there}
 use Rattle.program_rows.proofs.making.set.Goals as goal
+
+pub keep-requires-clause-before : goal.keep-requires-clause-before
+keep-requires-clause-before c =
+    had_there (slice_get c.args.opened.now.stores.stores (c.args.asked.now.number - 1)) (stored c.store-store.result.now)
+    (λ s. IfSome c.in-Ok.prepared.image (λ image. image ≡ record_of c.args.edit.root (rows_of_slots s.slots))) c.store-store.ensures.stored_is c.in-Ok.ensures.image
 
 pub returns-in-Ok-clause-set : goal.returns-in-Ok-clause-set
 returns-in-Ok-clause-set c =

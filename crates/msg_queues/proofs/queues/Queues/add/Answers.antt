@@ -16,11 +16,11 @@ put-requires-clause-terminal c =
 
 pub invariant_of-self : goal.invariant_of-self
 invariant_of-self c =
-    kept_same c.self.inside.messages.entries c.self.inside.messages.entries c.self.inside.content c.self.inside.by_code.entries c.put.new.by_code.entries c.self.inside.by_terminal.entries c.put.new.by_terminal.entries
+    kept_same c.self.inside.messages.entries c.self.inside.messages.entries c.self.inside.content c.self.inside.free c.self.inside.by_code.entries c.put.new.by_code.entries c.self.inside.by_terminal.entries c.put.new.by_terminal.entries
     c.self.invariant refl c.in_default.ensures.code_err c.in_default.ensures.terminal_err
 
 pub invariant_of-self-in-Err : goal.invariant_of-self-in-Err
 invariant_of-self-in-Err c =
-    kept_undone c.self.inside.messages.entries c.add.new.messages.entries c.self.inside.content c.self.inside.by_code.entries c.take.new.by_code.entries c.self.inside.by_terminal.entries c.take.new.by_terminal.entries
+    kept_undone c.self.inside.messages.entries c.add.new.messages.entries c.self.inside.content c.self.inside.free c.self.inside.by_code.entries c.take.new.by_code.entries c.self.inside.by_terminal.entries c.take.new.by_terminal.entries
     c.self.invariant c.put.new.by_code.entries c.put.new.by_terminal.entries c.args.message c.in-Err.failed.value (rw (← c.self.view_is) at c.requires.above) c.in-Err.ensures.err c.in-Err.ensures.back
     c.in-Ok.ensures.code c.in-Ok.ensures.terminal c.take.ensures.code c.take.ensures.terminal

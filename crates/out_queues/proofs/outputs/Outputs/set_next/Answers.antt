@@ -6,5 +6,5 @@ use Rattle.out_queues.proofs.outputs.Outputs.set_next.Goals as goal
 
 pub invariant_of-self : goal.invariant_of-self
 invariant_of-self c =
-    kept_next c.args.terminal.now c.args.number c.self.inside.terminals.items c.set_next.new.terminals _ c.self.inside.content c.self.invariant (rw c.self.view_is c.requires.none_kept)
-    (c.set_next.ensures ∙ ap (with_terminal c.args.terminal.now (with_next c.args.number)) c.deref_mut.ensures.value) (grind (arith, common_steps))
+    kept_next c.args.terminal.now c.args.number c.self.inside.terminals.items c.set_next.new.terminals _ c.self.inside.content c.self.inside.highest _ c.self.invariant (rw c.self.view_is c.requires.none_kept)
+    (c.set_next.ensures ∙ ap (with_terminal c.args.terminal.now (with_next c.args.number)) c.deref_mut.ensures.value) (grind (arith, common_steps)) (omega arith) (omega arith)

@@ -12,6 +12,6 @@ remove_last-taken-requires-clause-next c =
 
 pub invariant_of-self : goal.invariant_of-self
 invariant_of-self c =
-    kept_taken c.args.terminal.now c.self.inside.terminals.items c.remove_last-taken.new.terminals _ c.self.inside.content c.remove_last-taken.result c.self.invariant
+    kept_taken c.args.terminal.now c.self.inside.terminals.items c.remove_last-taken.new.terminals _ c.self.inside.content c.remove_last-taken.result c.self.inside.highest c.self.invariant
     (c.remove_last-taken.ensures.value ∙ ap (with_terminal c.args.terminal.now without_last) c.deref_mut.ensures.value)
     (grind (arith, common_steps)) (grind (arith, common_steps))
