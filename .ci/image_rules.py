@@ -99,7 +99,7 @@ Restart = namedtuple("Restart", "epoch snapshot log sectors sequence checkpoint 
 def restart_sector(now):
     areas = bytes([now.snapshot, now.log, 0, 0]) + now.sectors.to_bytes(4, "big")
     counters = U64.spell(now.sequence) + U64.spell(now.checkpoint)
-    return sector(b"IMSR\0\0\0\1", U64.spell(now.epoch), areas, counters, now.text.to_bytes(4, "big"))
+    return sector(b"IMSR\0\0\0\2", U64.spell(now.epoch), areas, counters, now.text.to_bytes(4, "big"))
 
 
 def pieces(payload):
@@ -292,7 +292,7 @@ def read_restart(system, image):
     now = Restart(*(number_at(text, at, size) for at, size in ((8, 8), (16, 1), (17, 1), (20, 4), (24, 8), (32, 8), (40, 4))))
     broken = [
         text[:4] != b"IMSR",
-        number_at(text, 4, 4) != 1,
+        number_at(text, 4, 4) not in (1, 2),
         now.snapshot > 1 or now.log > 1,
         not 1 <= now.sectors <= system.snapshot_sectors,
         not all(0 < counter < LIMIT for counter in (now.epoch, now.sequence, now.checkpoint)),

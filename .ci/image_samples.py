@@ -386,7 +386,7 @@ LOGS = [
 ]
 # A sector, a place, what is put there, and the rule.
 BYTES = [
-    *((0, place, byte, rule) for place, byte, rule in ((3, b"L", 1), (0, b"\0", 1), (4, b"\1", 2), (7, b"\2", 2), (16, b"\2", 3), (17, b"\xff", 3))),
+    *((0, place, byte, rule) for place, byte, rule in ((3, b"L", 1), (0, b"\0", 1), (4, b"\1", 2), (7, b"\0", 2), (7, b"\3", 2), (7, b"\1", 0), (16, b"\2", 3), (17, b"\xff", 3))),
     *((0, place, byte, rule) for place, byte, rule in ((20, bytes(4), 4), (20, (SYSTEM.snapshot_sectors + 1).to_bytes(4, "big"), 4))),
     *((0, place, count.to_bytes(8, "big"), 5) for place in (8, 24, 32) for count in (0, LIMIT, 2**64 - 1)),
     *((0, place, byte, 6) for place, byte in ((18, b"\1"), (44, b"\1"), (4095, b"\1"), (40, (262145).to_bytes(4, "big")))),
@@ -401,7 +401,7 @@ LATER = [(23, b"\3", 0), (0, b"J", 7), (15, b"\4", 7), (23, b"\4", 7), (25, b"\x
 # Each rule, where it is broken here, and how: parts of the snapshot, records of the log, slots, or bytes.
 RULES = {
     1: (0, (0, 3, b"L")),
-    2: (0, (0, 7, b"\2")),
+    2: (0, (0, 7, b"\3")),
     3: (0, (0, 16, b"\2")),
     4: (0, (0, 22, b"\1")),
     5: (0, (0, 15, b"\0")),

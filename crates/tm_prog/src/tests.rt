@@ -7,8 +7,8 @@ use crate::test_faults::{
 use crate::test_runs::{DRILL, compare, disk_of, expect, joined, told, told_new};
 use crate::test_system::{BEHIND_QUEUES, SERIAL_SYSTEM, SYSTEM};
 use crate::worked_rows::{
-    ACCOUNT_ROWS, BROKEN_COLD, COLD_STARTS, HALF, HALF_PRINTED, ONE_ECHO, OPENED, OPENED_PRINTED,
-    ROWS, SERIAL, SERIAL_PRINTED, TAKEN_BACK, TAKEN_BACK_PRINTED, WORDS,
+    ACCOUNT_OPENED, ACCOUNT_ROWS, BROKEN_COLD, COLD_STARTS, HALF, HALF_PRINTED, ONE_ECHO, OPENED,
+    OPENED_PRINTED, ROWS, SERIAL, SERIAL_PRINTED, TAKEN_BACK, TAKEN_BACK_PRINTED, WORDS,
 };
 use std::alloc::{AllocError, Global};
 use std::test::Fail;
@@ -28,16 +28,50 @@ fn worked_rows(rt: HostRuntime) -> Result<(), Fail> {
             (0, &[OPENED_PRINTED, printed]),
         )?;
     }
-    let system = joined(alloc, SERIAL_SYSTEM)?;
-    let source = joined(alloc, &[&system, SERIAL])?;
-    let disk = disk_of(alloc, 1517, &[])?;
-    let report = told(alloc, DRILL, &source, (&[], &[]), disk)?;
-    compare("a serial code", &report, (0, SERIAL_PRINTED))?;
     for (words, printed) in WORDS {
         let disk = disk_of(alloc, 0, &[])?;
         let report = told(alloc, words, b"", (&[1], &[]), disk)?;
         compare("words", &report, (1, printed))?;
     }
+    Ok(())
+}
+
+#[test]
+fn serial_codes(rt: HostRuntime) -> Result<(), Fail> {
+    let alloc = rt.alloc();
+    let system = joined(alloc, SERIAL_SYSTEM)?;
+    let source = joined(alloc, &[&system, SERIAL])?;
+    let disk = disk_of(alloc, 1517, &[])?;
+    let report = told(alloc, DRILL, &source, (&[], &[]), disk)?;
+    compare("a serial code", &report, (0, SERIAL_PRINTED))
+}
+
+/// Sets the version that a disk's restart sector tells.
+fn set_version(disk: &mut MemDisk, version: u8) -> Result<(), Fail> {
+    let mut sector = Sector::blank();
+    if disk.sectors() == 0 || disk.read(0, &mut sector).is_err() {
+        return Err("no restart sector".into());
+    }
+    sector.set(7, &[version]);
+    if disk.write(0, &sector).is_err() {
+        return Err("the disk failed".into());
+    }
+    Ok(())
+}
+
+/// An image of version 1 is opened, and left as one of version 2.
+#[test]
+fn old_images(rt: HostRuntime) -> Result<(), Fail> {
+    let alloc = rt.alloc();
+    let mut disk = told_new(alloc, &[ACCOUNT_OPENED])?.disk;
+    set_version(&mut disk, 1)?;
+    let system = joined(alloc, SYSTEM)?;
+    let source = joined(alloc, &[&system, b"/DISPLAY LTERM T9\n"])?;
+    let report = told(alloc, DRILL, &source, (&[], &[]), disk)?;
+    let shown = b"LTERM T9 IN 1 OUT 1 KEPT 0 STARTED\n";
+    compare("an image of version 1", &report, (0, shown))?;
+    let mut disk = report.disk;
+    assert_eq!(rt; byte_of(&mut disk, 0, 7), 2);
     Ok(())
 }
 
@@ -247,11 +281,11 @@ fn failing_restarts(rt: HostRuntime) -> Result<(), Fail> {
     Err("no restart ends".into())
 }
 
-/// The first byte of a sector; 0 where there is none.
-fn first_byte(disk: &mut MemDisk, at: u32) -> u8 {
+/// A byte of a sector; 0 where there is none.
+fn byte_of(disk: &mut MemDisk, at: u32, place: usize) -> u8 {
     let mut sector = Sector::blank();
     if at < disk.sectors() && disk.read(at, &mut sector).is_ok() {
-        sector.bytes().first().copied().unwrap_or(0)
+        sector.bytes().get(place).copied().unwrap_or(0)
     } else {
         0
     }
@@ -272,9 +306,9 @@ fn failing_openings(rt: HostRuntime) -> Result<(), Fail> {
         let report = told(alloc, DRILL, SMALL, (&[], &[]), disk)?;
         compare("an opening fails", &report, (3, b"STATUS 3 DOWN\n"))?;
         let mut disk = report.disk;
-        assert_eq!(rt; first_byte(&mut disk, 0), 0);
-        assert_eq!(rt; first_byte(&mut disk, 1), text);
-        assert_eq!(rt; first_byte(&mut disk, 65), snapshot);
+        assert_eq!(rt; byte_of(&mut disk, 0, 0), 0);
+        assert_eq!(rt; byte_of(&mut disk, 1, 0), text);
+        assert_eq!(rt; byte_of(&mut disk, 65, 0), snapshot);
     }
     Ok(())
 }

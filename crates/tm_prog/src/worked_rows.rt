@@ -99,6 +99,10 @@ pub const OPENED: &[u8] = b"IN T9 1 OPEN 0001 1000\nIN T9 2 OPEN 0002 1000\nQUIE
 /// What is printed for it.
 pub const OPENED_PRINTED: &[u8] = b"ACK T9 1\nACK T9 2\nQUIET 14\n";
 
+/// One account is opened, its reply shown and acknowledged, and a checkpoint taken.
+pub const ACCOUNT_OPENED: &[u8] =
+    b"IN T9 1 OPEN 0001 1000\nQUIET 100\nRECV T9\nACK T9 1\n/CHECKPOINT\n";
+
 /// Sessions behind the opening of both accounts.
 pub const ACCOUNT_ROWS: &[(&str, &[u8], &[u8])] = &[
     (
