@@ -28,10 +28,8 @@ impl Model for Seal {
 impl Seal {
     /// Nothing is sealed yet.
     pub fn new() -> Seal {
-        Seal {
-            sector: Sector::blank(),
-            held: 0,
-        }
+        let sector = Sector::blank();
+        Seal { sector, held: 0 }
     }
 
     /// Seals a payload of this epoch and sequence.

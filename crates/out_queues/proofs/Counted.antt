@@ -104,11 +104,14 @@ given_up_to high [] h = tt
 given_up_to high (t ∷ ts) h = (omega (arith, h.0), given_up_to high ts h.1)
 
 -- one terminal more
-pub next_more : (low high : ℕ) (ts : List TerminalReplies) (i : ℕ) (d : TerminalReplies) → i < length ts → low ≤ high → (get_or ts i d).next ≤ high
+pub next_more : (low high : ℕ) (ts : List TerminalReplies) (i : ℕ) (kept : TerminalReplies) → i < length ts → kept ≡ get_or ts i kept → low ≤ high → kept.next ≤ high
     → AllByRecursion (λ t. t.next ≤ low) (take i ts) → AllByRecursion (λ t. t.next ≤ high) (take (i + 1) ts)
-next_more low high [] i d lt le new h = absurd (omega (arith, lt))
-next_more low high (t ∷ ts) zero d lt le new h = (new, tt)
-next_more low high (t ∷ ts) (suc i) d lt le new h = (omega (arith, h.0, le), next_more low high ts i d (omega (arith, lt)) le new h.1)
+next_more low high ts i kept lt here le new h = by ts i lt (subst (λ (t : TerminalReplies). t.next ≤ high) here new) h
+  where
+    by : (ts : List TerminalReplies) (i : ℕ) → i < length ts → (get_or ts i kept).next ≤ high → AllByRecursion (λ t. t.next ≤ low) (take i ts) → AllByRecursion (λ t. t.next ≤ high) (take (i + 1) ts)
+    by [] i lt new h = absurd (omega (arith, lt))
+    by (t ∷ ts) zero lt new h = (new, tt)
+    by (t ∷ ts) (suc i) lt new h = (omega (arith, h.0, le), by ts i (omega (arith, lt)) new h.1)
 
 up_to_changed : (low high : ℕ) (name : List ℕ) (f : TerminalReplies → TerminalReplies) (ts : List TerminalReplies) → low ≤ high → AreUpTo low ts
     → ((t : TerminalReplies) → replies_at name ts ≡ Some t → t.next ≤ low + 1 → (f t).next ≤ high + 1) → AreUpTo high (with_terminal name f ts)

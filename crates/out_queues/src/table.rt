@@ -118,6 +118,7 @@ fn push_reply(kept: &mut TerminalReplies, segments: Segments) -> Result<u64, All
 }
 
 /// A number that no terminal's next reply passes.
+#[tactic(auto, using(crate::proofs::Counted::next_more))]
 pub fn highest_next(terminals: &[TerminalReplies]) -> u64
     ensures { AllByRecursion (λ t. t.next ≤ result) terminals.now }
 {

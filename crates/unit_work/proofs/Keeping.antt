@@ -125,18 +125,28 @@ pub image_came : (moves : Bool) (own slot : Change) (image : List Row) → IfSom
 image_came true own slot image h = ap (λ (i : List Row). record slot { before = i }) (sym h)
 image_came false own slot image h = refl
 
-pub image_ready : (known seen : Bool) (image first : List Row) → first ≡ cond known [] image → IfSome (if not known && not seen then Some first else None) (λ i. i ≡ image)
-image_ready true seen image first e = tt
-image_ready false true image first e = tt
-image_ready false false image first e = e
+pub image_ready : (known seen moves : Bool) (image first : List Row) → moves ≡ (not known && not seen) → first ≡ cond known [] image → IfSome (if moves then Some first else None) (λ i. i ≡ image)
+image_ready known seen moves image first m e = subst (λ b. IfSome (if b then Some first else None) (λ i. i ≡ image)) (sym m) (by known seen e)
+  where
+    by : (k s : Bool) → first ≡ cond k [] image → IfSome (if not k && not s then Some first else None) (λ i. i ≡ image)
+    by true s e = tt
+    by false true e = tt
+    by false false e = e
 
 -- the slot's image is to come where it has none and the record has none, and is its own where the record has one
-pub slot_ready : (db slot : ℕ) (root : List ℕ) (image first touched : List Row) (slots : List Change) (known seen : Bool) → seen ≡ is_seen db slot slots → first ≡ cond known [] image → touched ≡ cond (not known) [] image
-    → with_slot (with_image (not known && not seen) first (record { db = db; slot = slot; root = root; before = touched })) slots ≡ with_slot (record { db = db; slot = slot; root = root; before = image }) slots
-slot_ready db slot root image first touched slots true seen s e f = ap (λ (i : List Row). with_slot (record { db = db; slot = slot; root = root; before = i }) slots) f
-slot_ready db slot root image first touched slots false true s e f =
-    ap (λ (i : List Row). with_slot (record { db = db; slot = slot; root = root; before = i }) slots) f ∙ slot_image db slot root image slots true (sym s)
-slot_ready db slot root image first touched slots false false s e f = ap (λ (i : List Row). with_slot (record { db = db; slot = slot; root = root; before = i }) slots) e
+pub slot_ready : (db slot : ℕ) (root : List ℕ) (image first touched : List Row) (slots : List Change) (known seen moves : Bool) → moves ≡ (not known && not seen) → seen ≡ is_seen db slot slots
+    → first ≡ cond known [] image → touched ≡ cond (not known) [] image
+    → with_slot (with_image moves first (record { db = db; slot = slot; root = root; before = touched })) slots ≡ with_slot (record { db = db; slot = slot; root = root; before = image }) slots
+slot_ready db slot root image first touched slots known seen moves m s e f =
+    ap (λ b. with_slot (with_image b first (change touched)) slots) m ∙ by known seen s e f
+  where
+    change : List Row → Change
+    change before = record { db = db; slot = slot; root = root; before = before }
+
+    by : (k t : Bool) → t ≡ is_seen db slot slots → first ≡ cond k [] image → touched ≡ cond (not k) [] image → with_slot (with_image (not k && not t) first (change touched)) slots ≡ with_slot (change image) slots
+    by true t s e f = ap (λ (i : List Row). with_slot (change i) slots) f
+    by false true s e f = ap (λ (i : List Row). with_slot (change i) slots) f ∙ slot_image db slot root image slots true (sym s)
+    by false false s e f = ap (λ (i : List Row). with_slot (change i) slots) e
 
 pub change_image : (db slot : ℕ) (root : List ℕ) (image : List Row) (records : List Change)
     → with_change (record { db = db; slot = slot; root = root; before = cond (is_record_changed db root records) [] image }) records

@@ -1,5 +1,5 @@
 //! A changed record and a touched slot, and how they are kept.
-ghost use Rattle.std.specs.Prelude.{◌≡◌, ◌<◌, true, [], IfOk, OnOk, OnErr, if◌then◌else◌, slice_get, IfSome};
+ghost use Rattle.std.specs.Prelude.{◌≡◌, ◌<◌, true, [], IfOk, OnOk, OnErr, if◌then◌else◌, slice_get, IfSome, not, ◌&&◌};
 ghost use Rattle.std.specs.Option.{option_copied};
 ghost use Rattle.std.specs.List.{prefix_len};
 ghost use Rattle.std.specs.Vec.{vec_len, vec_capacity};
@@ -86,10 +86,10 @@ pub fn ready(
     if !has_place(slots, db, slot) {
         return Err(Memory);
     }
-    let is_known = is_changed(records, db, &root);
-    let moves = !is_known && !is_seen(slots, db, slot);
-    let first = image_unless(alloc, is_known, before)?;
-    let touched = image_unless(alloc, !is_known, before)?;
+    let known = is_changed(records, db, &root);
+    let seen = is_seen(slots, db, slot);
+    let first = image_unless(alloc, known, before)?;
+    let touched = image_unless(alloc, !known, before)?;
     records.reserve(1)?;
     slots.reserve(1)?;
     let record = Change {
@@ -107,8 +107,15 @@ pub fn ready(
     Ok(Touch {
         record,
         slot,
-        moves,
+        moves: are_both_new(known, seen),
     })
+}
+
+// Whether both the record and the slot take the image.
+fn are_both_new(known: bool, seen: bool) -> bool
+    ensures { result ≡ (not known && not seen) }
+{
+    !known && !seen
 }
 
 /// Keeps what was made ready, with the image that is to come.
