@@ -1,11 +1,11 @@
 //! The parts of a checkpoint, each with the sync that makes it last.
-ghost use Rattle.std.specs.Prelude.{◌≡◌, ◌+◌, ◌*◌, ◌<◌, ◌≤◌, ◌^◌, length, IfOk, OnOk, OnErr};
+ghost use Rattle.std.specs.Prelude.{◌≡◌, ◌+◌, ◌*◌, ◌<◌, ◌≤◌, ◌^◌, length, IsTrue, IfOk, OnOk, OnErr};
 ghost use Rattle.std.specs.List.{AllByRecursion};
 ghost use Rattle.tm_disk.specs.Disk.{Stays, Within, Follows, Only, WritesAtMost, FailedSince, ChangesOnly};
 ghost use Rattle.restart_data.specs.Snapshot as snapshot;
 ghost use Rattle.restart_data.specs.WrittenSectors.{Saves};
 ghost use Rattle.log_writer.specs.ForcedLog.{log_sectors_of, IsWriterReady};
-ghost use Rattle.seg_store.specs.DataSectors.{MayPut, HasPut};
+ghost use Rattle.seg_store.specs.DataSectors.{MayPut, HasPut, PutsFront};
 ghost use Rattle.seg_store.specs.WrittenSlots.{slot_count, changed_count, changed_bytes};
 ghost use Rattle.model_image.specs.Areas.{data_first};
 ghost use Rattle.checkpointing.specs.CheckpointParts.{checkpoint_parts_of, forced_writer};
@@ -26,6 +26,8 @@ fn write_slots<D: Disk>(disk: &mut D, stores: &Stores, first: u32) -> Result<(),
     ensures stays { Stays (D.state disk.old) (D.state disk.new) }
     ensures any_moment { Within (MayPut first (changed_bytes stores.now)) (D.state disk.old) (D.state disk.new) }
     ensures done { OnOk result (Follows (HasPut first (changed_bytes stores.now)) (D.state disk.old) (D.state disk.new)) }
+    // Where the disk fails, the slots in front are written, and none behind: so they are written in ascending order.
+    ensures ascending { OnErr result (IsTrue (D.state disk.old).tells → PutsFront first (changed_bytes stores.now) (D.state disk.old).shown (D.state disk.new).shown) }
     ensures writes { WritesAtMost (changed_count stores.now.changed) (D.state disk.old) (D.state disk.new) }
     ensures no_fault { OnOk result ((D.state disk.new).faults ≡ (D.state disk.old).faults) }
     ensures cause { OnErr result (FailedSince (D.state disk.old) (D.state disk.new)) }

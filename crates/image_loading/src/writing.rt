@@ -2,7 +2,7 @@
 ghost use Rattle.std.specs.Prelude.{◌≡◌, ◌+◌, ◌<◌, ◌≤◌, IsTrue, IfOk, OnOk, OnErr, length};
 ghost use Rattle.std.specs.List.{AllByRecursion};
 ghost use Rattle.tm_disk.specs.Disk.{Stays, Within, Follows, WritesAtMost, FailedSince};
-ghost use Rattle.seg_store.specs.DataSectors.{MayPut, HasPut};
+ghost use Rattle.seg_store.specs.DataSectors.{MayPut, HasPut, PutsFront};
 
 use crate::Slots;
 use seg_store::seal_bytes;
@@ -27,6 +27,8 @@ pub fn write_slots<D: Disk>(
     ensures follows { Follows (MayPut first given.now) (D.state disk.old) (D.state disk.new) }
     // Then each of them is read, and a sync makes it last.
     ensures shown { OnOk result (IsTrue (D.state disk.old).tells → HasPut first given.now (D.state disk.old).shown (D.state disk.new).shown) }
+    // Where the disk fails, the slots in front are written, and none behind: so they are written in ascending order.
+    ensures ascending { OnErr result (IsTrue (D.state disk.old).tells → PutsFront first given.now (D.state disk.old).shown (D.state disk.new).shown) }
     ensures count { IfOk result (λ n. n ≡ length given.now) }
     ensures writes { WritesAtMost (length given.now) (D.state disk.old) (D.state disk.new) }
     ensures no_fault { OnOk result ((D.state disk.new).faults ≡ (D.state disk.old).faults) }
