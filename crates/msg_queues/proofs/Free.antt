@@ -5,6 +5,7 @@ use Rattle.std.specs.List.Sorted.{IsStrictlySortedBy}
 use Rattle.std.specs.Option.{is_none}
 use Rattle.std.specs.Ordering.{nat_cmp}
 use Rattle.std.specs.Map.{keys_of, values_of}
+use Rattle.std.proofs.lemmas.Bool.{lt-ltb}
 use Rattle.std.proofs.lemmas.List.Sums.{sum_by-cons}
 use Rattle.tm_types.specs.declared.message.Message.{Message}
 use Rattle.model_messages.specs.declared.queued.Queued.{Queued}
@@ -21,11 +22,11 @@ the_one q r e = cc
 -- ---- there is one
 pub any_is : (queued : List Queued) → nat_lt 0 (free_total queued) ≡ any_free queued
 any_is [] = refl
-any_is (q ∷ queued) = by q.holder
+any_is (q ∷ queued) = by q.holder (any_is queued)
   where
-    by : (o : Option ℕ) → nat_lt 0 (free_weight o + free_total queued) ≡ (is_none o || any_free queued)
-    by None = refl
-    by (Some region) = any_is queued
+    by : (o : Option ℕ) → nat_lt 0 (free_total queued) ≡ any_free queued → nat_lt 0 (free_weight o + free_total queued) ≡ (is_none o || any_free queued)
+    by None rec = lt-ltb 0 (1 + free_total queued) (omega arith)
+    by (Some region) rec = let same : 0 + free_total queued ≡ free_total queued = omega arith in ap (nat_lt 0) same ∙ rec
 
 -- ---- a new message
 pub total_added : (message : Message) (queued : List Queued) → free_total (with_message message queued) ≡ free_total queued + 1
@@ -88,7 +89,7 @@ module _ (id : ℕ) (es : List (ℕ × Queued)) (h : AreKeyed es) where
   one_more held = by (queued_at id (values_of es)) refl held
     where
       none : (o : Option ℕ) → IsSome o → free_weight o ≡ 0
-      none None f = absurd f
+      none None f = let clash : false ≡ true = f in absurd (cc)
       none (Some region) f = refl
 
       by : (o : Option Queued) → queued_at id (values_of es) ≡ o → IsSomeAnd o (λ q. IsSome q.holder) → free_total (with_holder id None (values_of es)) ≡ free_total (values_of es) + 1

@@ -106,9 +106,11 @@ given_up_to high (t ∷ ts) h = (omega (arith, h.0), given_up_to high ts h.1)
 -- one terminal more
 pub next_more : (low high : ℕ) (ts : List TerminalReplies) (i : ℕ) (kept : TerminalReplies) → i < length ts → kept ≡ get_or ts i kept → low ≤ high → kept.next ≤ high
     → AllByRecursion (λ t. t.next ≤ low) (take i ts) → AllByRecursion (λ t. t.next ≤ high) (take (i + 1) ts)
-next_more low high ts i kept lt here le new h = by ts i lt (subst (λ (t : TerminalReplies). t.next ≤ high) here new) h
+next_more low high ts i kept lt here le new h =
+    let next : suc i ≡ i + 1 = omega arith in
+    subst (λ n. AllByRecursion (λ t. t.next ≤ high) (take n ts)) next (by ts i lt (subst (λ (t : TerminalReplies). t.next ≤ high) here new) h)
   where
-    by : (ts : List TerminalReplies) (i : ℕ) → i < length ts → (get_or ts i kept).next ≤ high → AllByRecursion (λ t. t.next ≤ low) (take i ts) → AllByRecursion (λ t. t.next ≤ high) (take (i + 1) ts)
+    by : (ts : List TerminalReplies) (i : ℕ) → i < length ts → (get_or ts i kept).next ≤ high → AllByRecursion (λ t. t.next ≤ low) (take i ts) → AllByRecursion (λ t. t.next ≤ high) (take (suc i) ts)
     by [] i lt new h = absurd (omega (arith, lt))
     by (t ∷ ts) zero lt new h = (new, tt)
     by (t ∷ ts) (suc i) lt new h = (omega (arith, h.0, le), by ts i (omega (arith, lt)) new h.1)

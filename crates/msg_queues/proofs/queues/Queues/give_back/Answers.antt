@@ -3,9 +3,13 @@ use Rattle.std.specs.Map.{values_of}
 use Rattle.model_messages.specs.Queue.{with_holder}
 use Rattle.msg_queues.specs.FreeMessages.{free_total}
 use Rattle.msg_queues.proofs.ById.{in_order}
-use Rattle.msg_queues.proofs.Free.{one_more}
+use Rattle.msg_queues.proofs.Free.{one_more, total_few}
 use Rattle.msg_queues.proofs.Indexed.{kept_held}
 use Rattle.msg_queues.proofs.queues.Queues.give_back.Goals as goal
+
+pub overflow_add-self : goal.overflow_add-self
+overflow_add-self c =
+    omega (arith, total_few (values_of c.self.inside.messages.entries), c.self.invariant.free, c.self.invariant.counted, c.self.invariant.small)
 
 pub invariant_of-self : goal.invariant_of-self
 invariant_of-self c =

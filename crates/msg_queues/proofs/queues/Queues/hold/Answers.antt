@@ -6,6 +6,10 @@ use Rattle.msg_queues.proofs.Free.{one_less}
 use Rattle.msg_queues.proofs.Indexed.{kept_held}
 use Rattle.msg_queues.proofs.queues.Queues.hold.Goals as goal
 
+pub overflow_sub-self : goal.overflow_sub-self
+overflow_sub-self c =
+    omega (arith, one_less c.args.id c.self.inside.messages.entries c.self.invariant.keyed c.args.region (rw (← c.self.view_is) at c.requires), c.self.invariant.free)
+
 pub invariant_of-self : goal.invariant_of-self
 invariant_of-self c =
     let es = c.self.inside.messages.entries in

@@ -7,6 +7,13 @@ use Rattle.msg_queues.proofs.Free.{total_removed}
 use Rattle.msg_queues.proofs.Indexed.{kept_removed}
 use Rattle.msg_queues.proofs.queues.Queues.remove.Goals as goal
 
+pub overflow_sub-self : goal.overflow_sub-self
+overflow_sub-self c =
+    let es = c.self.inside.messages.entries in
+    let less : free_total (without_id_queued c.args.id (values_of es)) + free_weight c.in-Some.queued.holder ≡ free_total (values_of es) =
+    total_removed c.args.id c.in-Some.queued es c.self.invariant.keyed.each c.self.invariant.keyed.ascending (sym c.in-Some.ensures.queued) in
+    omega (arith, less, c.free_weight.ensures, c.self.invariant.free)
+
 pub invariant_of-self : goal.invariant_of-self
 invariant_of-self c =
     let es = c.self.inside.messages.entries in
