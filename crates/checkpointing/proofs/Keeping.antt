@@ -49,7 +49,7 @@ same_log parts log image over = rw (over.first, over.count, over.sequence, over.
 
 module _ (parts : CheckpointParts) (log : Writer) (stores : AllStores) (a : Image) (s : Stands parts log stores a) where
   kept : IsKept (snapshot_area parts.system) parts.now
-  kept = restart_kept (snapshot_area parts.system) (sector_at a 0) parts.now s.now
+  kept = restart_kept (snapshot_area parts.system) (is_single parts.system) (sector_at a 0) parts.now s.now
 
   -- a changed slot stands behind the logs
   pub dirty_above : (k : ℕ) → DirtyAt parts.system stores k → log_first parts.system 2 ≤ k

@@ -30,16 +30,16 @@ slot_at dbd [] k are = inl refl
 slot_at dbd (image ∷ slots) zero are = are.0
 slot_at dbd (image ∷ slots) (suc k) are = slot_at dbd slots k are.1
 
-short_slot : (dbd : Dbd) (rows : List Row) → dbd.sectors ≤ 1 → IsSlot dbd rows → length (rows_spelling rows) ≤ 4000
+short_slot : (dbd : Dbd) (rows : List Row) → dbd.sectors ≤ 1 → IsSlot dbd rows → length (rows_spelling rows) ≤ 32000
 short_slot dbd rows one is =
     ⊎_elim
-    (λ (none : rows ≡ []). subst (λ (l : List Row). length (rows_spelling l) ≤ 4000) (sym none) (omega arith))
+    (λ (none : rows ≡ []). subst (λ (l : List Row). length (rows_spelling l) ≤ 32000) (sym none) (omega arith))
     (λ valid. omega (arith, valid.within, one))
     is
 
 -- it has at most 4,000 bytes
-pub image_short : (stores : List Stored) (db slot : ℕ) (one : Stored) → AllByRecursion HasOneSector stores → slice_get stores (db - 1) ≡ Some one → AreSlots one.dbd one.slots → length (rows_spelling (image_in stores db slot)) ≤ 4000
+pub image_short : (stores : List Stored) (db slot : ℕ) (one : Stored) → AllByRecursion HasOneSector stores → slice_get stores (db - 1) ≡ Some one → AreSlots one.dbd one.slots → length (rows_spelling (image_in stores db slot)) ≤ 32000
 image_short stores db slot one each there are =
-    subst (λ (rows : List Row). length (rows_spelling rows) ≤ 4000)
+    subst (λ (rows : List Row). length (rows_spelling rows) ≤ 32000)
     (sym (ap (λ (o : Option Stored). option_map_or (λ s. slice_index_or s.slots slot []) o []) there))
     (short_slot one.dbd (slice_index_or one.slots slot []) (one_sector stores (db - 1) one each there) (slot_at one.dbd one.slots slot are.each))

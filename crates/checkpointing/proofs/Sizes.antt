@@ -124,33 +124,3 @@ replies_size (o ∷ os) valid =
 
 pub change_size : (unit database slot : ℕ) (before after : List ℕ) → record_length (Change unit database slot before after) ≡ 18 + length before + length after
 change_size unit database slot before after = simp (eight, two_bytes, length-append {A = ℕ}) (omega arith)
-
--- ---- changes
-
-short_change : (r : Record) → IsChange r → IsLogRecord r → record_length r ≤ 8018
-short_change (Change unit database slot before after) is valid =
-    let before_short = valid.fields.1.1.1.0 in
-    let after_short = valid.fields.1.1.1.1 in
-    omega (arith, change_size unit database slot before after, before_short, after_short)
-short_change (Input unit id origin code number conversation segments) is valid = absurd is
-short_change (Command words) is valid = absurd is
-short_change (ReplyRecord unit terminal number segments) is valid = absurd is
-short_change (Discarded unit id abend number) is valid = absurd is
-short_change (Completed unit id) is valid = absurd is
-short_change (Acknowledged terminal number) is valid = absurd is
-short_change (SyncPoint unit pad) is valid = absurd is
-short_change (Checkpoint checkpoint next unit steps) is valid = absurd is
-short_change (Terminal name last next stopped conversation) is valid = absurd is
-short_change (Code name stopped class priority) is valid = absurd is
-
-changes_size : (changes : List Record) → AllByRecursion IsChange changes → AllByRecursion IsLogRecord changes → size changes ≤ 8018 * length changes
-changes_size [] are valid = omega arith
-changes_size (r ∷ changes) are valid =
-    omega (arith, size_more r changes, short_change r are.0 valid.0, changes_size changes are.1 valid.1)
-
--- at most 32 changes a region have room
-pub few_changes : (changes : List Record) (regions : ℕ) → AllByRecursion IsChange changes → AllByRecursion IsLogRecord changes → length changes ≤ 32 * regions → size changes ≤ 262144 * regions
-few_changes changes regions are valid few = omega (arith, changes_size changes are valid, few)
-
-pub no_changes_fit : (regions : ℕ) → size [] ≤ 262144 * regions
-no_changes_fit regions = omega arith

@@ -35,7 +35,7 @@ HasOneSector s = s.dbd.sectors ≤ 1
 pub record IsSpelled (stores : List Stored) (c : Change) : Type 0 where
   pub least : 1 ≤ c.db
   pub most : c.db ≤ length stores
-  pub short : length (rows_spelling c.before) ≤ 4000
+  pub short : length (rows_spelling c.before) ≤ 32000
 
 -- a unit touches at most 64 slots: where its at most 32 records were, and where they are
 pub record AreSpelled (stores : List Stored) (slots : List Change) : Type 0 where

@@ -26,7 +26,7 @@ fn present_rows(stores: &Stores, db: u8, slot: u16) -> &[Row]
     requires most { db ≤ length stores.now.stores }
     requires one_sector { AllByRecursion HasOneSector stores.now.stores }
     ensures value { result.now ≡ image_in stores.now.stores db slot }
-    ensures short { length (rows_spelling (image_in stores.now.stores db slot)) ≤ 4000 }
+    ensures short { length (rows_spelling (image_in stores.now.stores db slot)) ≤ 32000 }
 {
     match stores.store(db).image(slot) {
         Some(image) => image.as_slice(),

@@ -17,7 +17,7 @@ use Rattle.seg_store.specs.Slots.{Stored, AreSlots}
 use Rattle.seg_store.specs.ChangedSlots.{AllStores}
 use Rattle.seg_store.specs.DataSectors.{data_sector}
 use Rattle.model_image.specs.SectorsAhead.{NoneAhead}
-use Rattle.model_image.specs.Areas.{snapshot_area, snapshot_first, log_first, data_first}
+use Rattle.model_image.specs.Areas.{is_single, snapshot_area, snapshot_first, log_first, data_first}
 use Rattle.model_image.specs.CutRecords.{Cut, cut_of, where_none_left, records_cut}
 use Rattle.model_image.specs.Faults.{Fault, in_sector, unless_any, or_fault}
 use Rattle.model_image.specs.HeldStores.{HoldsBytes}
@@ -112,7 +112,7 @@ module _ (bytes : List ℕ) (stores : AllStores) (touches : Touches) (told : Lis
       now_after = next_restart parts life.log
 
       kept : readings.IsKept (snapshot_area life.system) life.now
-      kept = readings.restart_kept (snapshot_area life.system) (sector_at a 0) life.now k.restart
+      kept = readings.restart_kept (snapshot_area life.system) (is_single life.system) (sector_at a 0) life.now k.restart
 
       log_end : (life.log.first + life.log.place) + log_sectors_of (length life.log.appended) ≤ log_first life.system 2
       log_end = omega (arith, l.appended.fits, l.writer.first, l.writer.count, log_below life.system life.now.log kept.log)

@@ -71,7 +71,7 @@ log_is system now w image over = rw (over.first, over.count, over.sequence, over
 module _ (system : System) (now : RestartSector) (w : Writer) (over : IsWriterOf system now w) (range : IsRestart now) (room : w.place + log_sectors_of (length w.appended) ≤ w.count) (a b : Image)
     (changes : ChangesOnly (w.first + w.place) (log_sectors_of (length w.appended)) a b) (each : (x : ℕ) → StaysOrLogs w a b x) (has_restart : restart_in (snapshot_area system) (is_single system) a ≡ Ok (Some now)) where
   kept : readings.IsKept (snapshot_area system) now
-  kept = readings.restart_kept (snapshot_area system) (sector_at a 0) now has_restart
+  kept = readings.restart_kept (snapshot_area system) (is_single system) (sector_at a 0) now has_restart
 
   -- below the log areas nothing changes, and behind them nothing does
   pub below_stays : (k : ℕ) → k < log_first system 0 → sector_at b k ≡ sector_at a k

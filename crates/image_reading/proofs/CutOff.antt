@@ -19,7 +19,7 @@ use Rattle.image_reading.specs.RecordLayouts as layouts
 use Rattle.image_reading.specs.RecordLayouts.{messages, answers, tables, is_front_in, is_front_of_any}
 use Rattle.image_reading.proofs.Fronts.{AreParts, is_text, Missing, front_of, is_front_of, bytes_both, bytes_cons}
 use Rattle.image_reading.proofs.Shapes.{AnyFlag, IsTwo, Front, Lays, both, behind_byte, eight_lays, two_lays, one_lays, flag_lays, name_lays, abend_lays, text_lays, segs_lay, TwoBytes, two_bytes, two_is}
-use Rattle.log_records.proofs.LayoutLaws.{small80, small4000, command_values}
+use Rattle.log_records.proofs.LayoutLaws.{small80, small32000, command_values}
 
 -- a record of this content
 pub record Content (bytes : List ℕ) : Type 0 where
@@ -300,10 +300,10 @@ abbrev change_spelled : change_values → List ℕ
 change_spelled v = 80 ∷ (number8 v.0 ++ (number1 v.1.0 ++ (number2 v.1.1.0 ++ (text v.1.1.1.0 ++ (text v.1.1.1.1)))))
 
 abbrev change_fit : change_values → Type 0
-change_fit v = (IsNumber v.0) × ((IsByte v.1.0) × ((IsTwo v.1.1.0) × (((AtMost 4000) v.1.1.1.0) × ((AtMost 4000) v.1.1.1.1))))
+change_fit v = (IsNumber v.0) × ((IsByte v.1.0) × ((IsTwo v.1.1.0) × (((AtMost 32000) v.1.1.1.0) × ((AtMost 32000) v.1.1.1.1))))
 
 change_lays : Lays layouts.change change_values change_spelled change_fit
-change_lays = behind_byte {A = (ℕ) × ((ℕ) × ((ℕ) × ((List ℕ) × (List ℕ))))} 80 (Any 7 ∷ Any 0 ∷ Any 1 ∷ Text 4000 ∷ Text 4000 ∷ []) (λ v. number8 v.0 ++ (number1 v.1.0 ++ (number2 v.1.1.0 ++ (text v.1.1.1.0 ++ (text v.1.1.1.1))))) (λ v. (IsNumber v.0) × ((IsByte v.1.0) × ((IsTwo v.1.1.0) × (((AtMost 4000) v.1.1.1.0) × ((AtMost 4000) v.1.1.1.1))))) (both {A = ℕ} {B = (ℕ) × ((ℕ) × ((List ℕ) × (List ℕ)))} (Any 7 ∷ []) (Any 0 ∷ Any 1 ∷ Text 4000 ∷ Text 4000 ∷ []) number8 (λ v. number1 v.0 ++ (number2 v.1.0 ++ (text v.1.1.0 ++ (text v.1.1.1)))) IsNumber (λ v. (IsByte v.0) × ((IsTwo v.1.0) × (((AtMost 4000) v.1.1.0) × ((AtMost 4000) v.1.1.1)))) (eight_lays) (both {A = ℕ} {B = (ℕ) × ((List ℕ) × (List ℕ))} (Any 0 ∷ []) (Any 1 ∷ Text 4000 ∷ Text 4000 ∷ []) number1 (λ v. number2 v.0 ++ (text v.1.0 ++ (text v.1.1))) IsByte (λ v. (IsTwo v.0) × (((AtMost 4000) v.1.0) × ((AtMost 4000) v.1.1))) (one_lays) (both {A = ℕ} {B = (List ℕ) × (List ℕ)} (Any 1 ∷ []) (Text 4000 ∷ Text 4000 ∷ []) number2 (λ v. text v.0 ++ (text v.1)) IsTwo (λ v. ((AtMost 4000) v.0) × ((AtMost 4000) v.1)) (two_lays) (both {A = List ℕ} {B = List ℕ} (Text 4000 ∷ []) (Text 4000 ∷ []) text (λ v. text v) (AtMost 4000) (λ v. (AtMost 4000) v) (text_lays 4000 small4000) (text_lays 4000 small4000)))))
+change_lays = behind_byte {A = (ℕ) × ((ℕ) × ((ℕ) × ((List ℕ) × (List ℕ))))} 80 (Any 7 ∷ Any 0 ∷ Any 1 ∷ Text 32000 ∷ Text 32000 ∷ []) (λ v. number8 v.0 ++ (number1 v.1.0 ++ (number2 v.1.1.0 ++ (text v.1.1.1.0 ++ (text v.1.1.1.1))))) (λ v. (IsNumber v.0) × ((IsByte v.1.0) × ((IsTwo v.1.1.0) × (((AtMost 32000) v.1.1.1.0) × ((AtMost 32000) v.1.1.1.1))))) (both {A = ℕ} {B = (ℕ) × ((ℕ) × ((List ℕ) × (List ℕ)))} (Any 7 ∷ []) (Any 0 ∷ Any 1 ∷ Text 32000 ∷ Text 32000 ∷ []) number8 (λ v. number1 v.0 ++ (number2 v.1.0 ++ (text v.1.1.0 ++ (text v.1.1.1)))) IsNumber (λ v. (IsByte v.0) × ((IsTwo v.1.0) × (((AtMost 32000) v.1.1.0) × ((AtMost 32000) v.1.1.1)))) (eight_lays) (both {A = ℕ} {B = (ℕ) × ((List ℕ) × (List ℕ))} (Any 0 ∷ []) (Any 1 ∷ Text 32000 ∷ Text 32000 ∷ []) number1 (λ v. number2 v.0 ++ (text v.1.0 ++ (text v.1.1))) IsByte (λ v. (IsTwo v.0) × (((AtMost 32000) v.1.0) × ((AtMost 32000) v.1.1))) (one_lays) (both {A = ℕ} {B = (List ℕ) × (List ℕ)} (Any 1 ∷ []) (Text 32000 ∷ Text 32000 ∷ []) number2 (λ v. text v.0 ++ (text v.1)) IsTwo (λ v. ((AtMost 32000) v.0) × ((AtMost 32000) v.1)) (two_lays) (both {A = List ℕ} {B = List ℕ} (Text 32000 ∷ []) (Text 32000 ∷ []) text (λ v. text v) (AtMost 32000) (λ v. (AtMost 32000) v) (text_lays 32000 small32000) (text_lays 32000 small32000)))))
 
 change_has : HasRecords layouts.change
 change_has = record {

@@ -57,7 +57,7 @@ abbrev pub code : List Part
 code = Exactly 64 ∷ Exactly 2 ∷ Name ∷ Flag ∷ one_byte_part ∷ one_byte_part ∷ []
 
 abbrev pub change : List Part
-change = Exactly 80 ∷ eight_byte_part ∷ one_byte_part ∷ two_byte_part ∷ Text 4000 ∷ Text 4000 ∷ []
+change = Exactly 80 ∷ eight_byte_part ∷ one_byte_part ∷ two_byte_part ∷ Text 32000 ∷ Text 32000 ∷ []
 
 -- in four groups: messages, what becomes of them, a snapshot, and slots
 abbrev pub messages : List (List Part)

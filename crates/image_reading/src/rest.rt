@@ -36,8 +36,8 @@ fn is_front_of_any(missing: usize, bytes: &[u8]) -> bool
         Part::Any(7),
         Part::Any(0),
         Part::Any(1),
-        Part::Text(4000),
-        Part::Text(4000),
+        Part::Text(32000),
+        Part::Text(32000),
     ];
     is_message(missing, bytes)
         || is_answer(missing, bytes)

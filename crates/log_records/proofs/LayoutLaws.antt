@@ -12,14 +12,14 @@ use Rattle.log_records.proofs.FieldLaws.{byte_field, number2_field, number8_fiel
 pub small80 : 80 < 2 ^ 16
 small80 = omega arith
 
-pub small4000 : 4000 < 2 ^ 16
-small4000 = omega arith
+pub small32000 : 32000 < 2 ^ 16
+small32000 = omega arith
 
 abbrev pub text_of_80 : Field (List ℕ)
 text_of_80 = text_field 80 small80
 
-abbrev pub text_of_4000 : Field (List ℕ)
-text_of_4000 = text_field 4000 small4000
+abbrev pub text_of_32000 : Field (List ℕ)
+text_of_32000 = text_field 32000 small32000
 
 -- What is read behind this front is the content of a record whose fields are in range.
 abbrev pub TakesContent : List ℕ → Reader Record → Type 0
@@ -202,7 +202,7 @@ abbrev pub change_of : change_values → Record
 change_of v = Change v.0 v.1.0 v.1.1.0 v.1.1.1.0 v.1.1.1.1
 
 abbrev pub change_fields : Field change_values
-change_fields = number8_field and byte_field and number2_field and text_of_4000 and text_of_4000
+change_fields = number8_field and byte_field and number2_field and text_of_32000 and text_of_32000
 
 pub change_takes : TakesContent (0x50 ∷ []) read_change
 unfolding read_change

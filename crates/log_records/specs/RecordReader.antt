@@ -154,7 +154,7 @@ unfoldable pub read_code : Reader Record
 read_code = read_made (λ v. Code v.0 v.1.0 v.1.1.0 v.1.1.1) (name_at & flag_at & read_byte & read_byte)
 
 unfoldable pub read_change : Reader Record
-read_change = read_made (λ v. Change v.0 v.1.0 v.1.1.0 v.1.1.1.0 v.1.1.1.1) (read_number w64 & read_byte & read_number w16 & text_at 4000 & text_at 4000)
+read_change = read_made (λ v. Change v.0 v.1.0 v.1.1.0 v.1.1.1.0 v.1.1.1.1) (read_number w64 & read_byte & read_number w16 & text_at 32000 & text_at 32000)
 
 -- ---- Records
 

@@ -125,7 +125,7 @@ AreInRange (Terminal terminal last_input next_output stopped conversation) =
     IsName terminal × (IsNumber last_input × (IsNumber next_output × (Unit {0} × IsConversationSpelled conversation)))
 AreInRange (Code code stopped class priority) = IsName code × (Unit {0} × (IsByte class × IsByte priority))
 AreInRange (Change unit database slot before after) =
-    IsNumber unit × (IsByte database × ((slot < 2 ^ 16) × ((length before ≤ 4000) × (length after ≤ 4000))))
+    IsNumber unit × (IsByte database × ((slot < 2 ^ 16) × ((length before ≤ 32000) × (length after ≤ 32000))))
 
 -- each field is in its range, and the length is a number of two bytes
 pub record IsLogRecord (r : Record) : Type 0 where
@@ -163,7 +163,7 @@ KeepsLimits (SyncPoint unit pad) = IsPadChange pad
 KeepsLimits (Checkpoint checkpoint next_id next_unit lasting_steps) = Unit {0}
 KeepsLimits (Terminal terminal last_input next_output stopped conversation) = IsShortPad conversation
 KeepsLimits (Code code stopped class priority) = Unit {0}
-KeepsLimits (Change unit database slot before after) = (length before ≤ 4000) × (length after ≤ 4000)
+KeepsLimits (Change unit database slot before after) = (length before ≤ 32000) × (length after ≤ 32000)
 
 -- Only a pad can make a record so long that its length isn't a number of two bytes.
 abbrev pub IsShort : Record → Type 0

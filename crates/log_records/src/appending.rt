@@ -210,7 +210,7 @@ pub fn append_code(
     end_record(out, start, written)
 }
 
-/// Appends the spelling of a slot's change, with the rows of the record in it before and after. Each image has at most 4,000
+/// Appends the spelling of a slot's change, with the rows of the record in it before and after. Each image has at most 32,000
 /// bytes; one without rows is no record. After `Memory` nothing of it is.
 pub fn append_change(
     out: &mut Vec<u8>,
@@ -220,8 +220,8 @@ pub fn append_change(
     before: &[Row],
     after: &[Row],
 ) -> Result<(), Memory>
-    requires before { length (rows_spelling before.now) ≤ 4000 }
-    requires after { length (rows_spelling after.now) ≤ 4000 }
+    requires before { length (rows_spelling before.now) ≤ 32000 }
+    requires after { length (rows_spelling after.now) ≤ 32000 }
     ensures ok { OnOk result (out.new.items ≡ out.old.items ++ record_spelling (Change unit database slot (rows_spelling before.now) (rows_spelling after.now))) }
     ensures valid { OnOk result (IsLogRecord (Change unit database slot (rows_spelling before.now) (rows_spelling after.now))) }
     ensures unwritten { OnErr result (out.new.items ≡ out.old.items) }

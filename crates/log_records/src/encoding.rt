@@ -317,8 +317,8 @@ fn put_change(
     before: &[u8],
     after: &[u8],
 ) -> Result<(), Memory>
-    requires before { length before.now ≤ 4000 }
-    requires after { length after.now ≤ 4000 }
+    requires before { length before.now ≤ 32000 }
+    requires after { length after.now ≤ 32000 }
     ensures ok { OnOk result (out.new.items ≡ out.old.items ++ record_content (Change unit database slot before.now after.now)) }
     ensures valid { OnOk result (AreInRange (Change unit database slot before.now after.now)) }
     ensures kept { OnErr result (take (length out.old.items) out.new.items ≡ out.old.items) }
@@ -415,7 +415,7 @@ fn put_content(out: &mut Vec<u8>, value: &Record) -> Result<(), Memory>
 /// Appends the one spelling of the record. After `Memory` the vector is as it was before.
 ///
 /// A message and a reply must have 1 to 32 segments, a command at most 80 bytes, an image at most
-/// 4,000, and an abend a number from 1 to 4095. A record with a pad must have at most 65,535
+/// 32,000, and an abend a number from 1 to 4095. A record with a pad must have at most 65,535
 /// bytes; no other is longer.
 pub fn encode(alloc: Global, value: &Record, out: &mut Vec<u8>) -> Result<(), Memory>
     requires { IsEncodable value.now }

@@ -17,8 +17,8 @@ pub(crate) fn put_row_change(
     before: &[Row],
     after: &[Row],
 ) -> Result<(), Memory>
-    requires before { length (rows_spelling before.now) ≤ 4000 }
-    requires after { length (rows_spelling after.now) ≤ 4000 }
+    requires before { length (rows_spelling before.now) ≤ 32000 }
+    requires after { length (rows_spelling after.now) ≤ 32000 }
     ensures ok { OnOk result (out.new.items ≡ out.old.items ++ record_content (Change unit database slot (rows_spelling before.now) (rows_spelling after.now))) }
     ensures valid { OnOk result (AreInRange (Change unit database slot (rows_spelling before.now) (rows_spelling after.now))) }
     ensures kept { OnErr result (take (length out.old.items) out.new.items ≡ out.old.items) }
@@ -30,7 +30,7 @@ pub(crate) fn put_row_change(
 
 // An image is a text: its length, and its rows one after the other.
 fn put_image(out: &mut Vec<u8>, rows: &[Row]) -> Result<(), Memory>
-    requires { length (rows_spelling rows.now) ≤ 4000 }
+    requires { length (rows_spelling rows.now) ≤ 32000 }
     ensures ok { OnOk result (out.new.items ≡ out.old.items ++ text (rows_spelling rows.now)) }
     ensures kept { OnErr result (take (length out.old.items) out.new.items ≡ out.old.items) }
 {
@@ -39,7 +39,7 @@ fn put_image(out: &mut Vec<u8>, rows: &[Row]) -> Result<(), Memory>
 }
 
 fn image_length(rows: &[Row]) -> usize
-    requires { length (rows_spelling rows.now) ≤ 4000 }
+    requires { length (rows_spelling rows.now) ≤ 32000 }
     ensures { result ≡ length (rows_spelling rows.now) }
 {
     let mut length = 0;

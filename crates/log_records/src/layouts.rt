@@ -181,8 +181,8 @@ fn change(alloc: Global, bytes: &[u8]) -> Result<(Record, &[u8]), ReadFault>
     let (unit, rest) = number8(bytes)?;
     let (database, rest) = byte(rest)?;
     let (slot, rest) = number2(rest)?;
-    let (before, rest) = text(alloc, 4000, rest)?;
-    let (after, rest) = text(alloc, 4000, rest)?;
+    let (before, rest) = text(alloc, 32000, rest)?;
+    let (after, rest) = text(alloc, 32000, rest)?;
     Ok((
         Record::Change {
             unit,

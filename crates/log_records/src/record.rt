@@ -73,7 +73,7 @@ pub enum Record {
         priority: u8,
     },
     /// Code 50. The unit changed a slot of a database: the record in it before and after, at most
-    /// 4,000 bytes each. An empty image is no record.
+    /// 32,000 bytes each. An empty image is no record.
     Change {
         unit: u64,
         database: u8,

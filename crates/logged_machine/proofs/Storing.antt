@@ -63,10 +63,10 @@ one_at [] k store each found = absurd cc
 one_at (s ∷ stores) zero store each found = let same : s ≡ store = cc in subst HasOneSector same each.0
 one_at (s ∷ stores) (suc k) store each found = one_at stores k store each.1 found
 
-short_record : (dbd : Dbd) (rows : List Row) → dbd.sectors ≤ 1 → IsSlot dbd rows → length (rows_spelling rows) ≤ 4000
+short_record : (dbd : Dbd) (rows : List Row) → dbd.sectors ≤ 1 → IsSlot dbd rows → length (rows_spelling rows) ≤ 32000
 short_record dbd rows one is =
     ⊎_elim
-    (λ (none : rows ≡ []). subst (λ (l : List Row). length (rows_spelling l) ≤ 4000) (sym none) (omega arith))
+    (λ (none : rows ≡ []). subst (λ (l : List Row). length (rows_spelling l) ≤ 32000) (sym none) (omega arith))
     (λ valid. omega (arith, valid.within, one))
     is
 

@@ -68,8 +68,8 @@ numbered_valid databases lent place dbd same valid some at = by (slice_get datab
 pub few_types : (dbd : Dbd) → IsDatabase dbd → length dbd.types ≤ 255
 few_types dbd valid = omega (arith, valid.few_types)
 
-pub one_sector : (dbd : Dbd) → IsDatabase dbd → dbd.sectors ≤ 1
-one_sector dbd valid = omega (arith, valid.sectors)
+pub few_sectors : (dbd : Dbd) → IsDatabase dbd → dbd.sectors ≤ 8
+few_sectors dbd valid = omega (arith, valid.sectors)
 
 short_type : (type : SegType) → type.bytes ≤ 1900 → type.bytes ≤ 1996
 short_type type few = omega arith

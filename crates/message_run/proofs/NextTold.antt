@@ -105,7 +105,7 @@ sync_tells unit region databases dbds pcbs work d call e =
 
 -- the databases have one sector for each record
 sectors_by : (dbds : List Dbd) (stores : List Stored) → ((i : ℕ) (d : Dbd) → slice_get dbds i ≡ Some d → IsDatabase d) → map (λ (s : Stored). s.dbd) stores ≡ dbds
-    → AllByRecursion (λ s. s.dbd.sectors ≤ 1) stores
+    → AllByRecursion (λ s. s.dbd.sectors ≤ 8) stores
 sectors_by dbds [] h e = tt
 sectors_by [] (s ∷ stores) h e = let clash : s.dbd ∷ map (λ (x : Stored). x.dbd) stores ≡ [] = e in absurd (cc)
 sectors_by (d ∷ dbds) (s ∷ stores) h e =
@@ -113,10 +113,10 @@ sectors_by (d ∷ dbds) (s ∷ stores) h e =
     let head : s.dbd ≡ d = cc in
     let tail : map (λ (x : Stored). x.dbd) stores ≡ dbds = cc in
     let one : d.sectors ≡ 1 = (h 0 d refl).sectors in
-    (subst (λ (x : Dbd). x.sectors ≤ 1) (sym head) (omega (arith, one)), sectors_by dbds stores (λ i x q. h (suc i) x q) tail)
+    (subst (λ (x : Dbd). x.sectors ≤ 8) (sym head) (omega (arith, one)), sectors_by dbds stores (λ i x q. h (suc i) x q) tail)
 
-pub one_sector : (system : System) (stores : List Stored) → IsSystem system → map (λ (s : Stored). s.dbd) stores ≡ system.databases → AllByRecursion (λ s. s.dbd.sectors ≤ 1) stores
-one_sector system stores valid e = sectors_by system.databases stores (λ i d q. all_at IsDatabase system.databases i d valid.databases q) e
+pub few_sectors : (system : System) (stores : List Stored) → IsSystem system → map (λ (s : Stored). s.dbd) stores ≡ system.databases → AllByRecursion (λ s. s.dbd.sectors ≤ 8) stores
+few_sectors system stores valid e = sectors_by system.databases stores (λ i d q. all_at IsDatabase system.databases i d valid.databases q) e
 
 module _ (unit room : ℕ) (job : Job) (region : ℕ) (databases : DatabasesState) (run : RunState) (need : Need)
     (needs : need ≡ need_at job.lines run.machine.limit run.machine.script) where

@@ -151,7 +151,7 @@ impl Progress {
     ) -> Result<CallEnd, Untold>
         requires waits { IsSome self.old.machine.waiting }
         requires region { IsRegionOf databases.old region }
-        requires sectors { AllByRecursion (λ s. s.dbd.sectors ≤ 1) databases.old.stores }
+        requires sectors { AllByRecursion (λ s. s.dbd.sectors ≤ 8) databases.old.stores }
         ensures ok { IfOk result (IsRolled region databases.old databases.new self.old self.new) }
         ensures tells { OnOk result (TellsNext telling.old.unit telling.old.room region databases.old databases.new telling.old.told.items telling.new.told.items (back_told telling.old.unit region databases.old)) }
         ensures dbds { dbds_of databases.new ≡ dbds_of databases.old }

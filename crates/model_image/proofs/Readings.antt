@@ -47,12 +47,12 @@ by_zeros most r false read is kept = kept is
 
 pub restart_kept : (most : ℕ) (single : Bool) (sector : List ℕ) (r : RestartSector) → restart_of most single sector ≡ Ok (Some r) → IsKept most r
 unfolding restart_of
-restart_kept most sector r is =
+restart_kept most single sector r is =
     let f = fields_of sector in
-    by_zeros most r (are_zeros sector) (unless_rule_broken (first_broken (restart_rules most sector)) (Some f)) is
-    (λ read. by_rules most r f (first_broken (restart_rules most sector)) read
+    by_zeros most r (are_zeros sector) (unless_rule_broken (first_broken (restart_rules most single sector)) (Some f)) is
+    (λ read. by_rules most r f (first_broken (restart_rules most single sector)) read
     (λ none.
-    let two = third_and_fourth (other_letters sector) (other_version sector) (has_other_area f) (wrong_size most f) (wrong_counters f) (stray_bytes sector || long_text f) none in
+    let two = third_and_fourth (other_letters sector) (other_version single sector) (has_other_area f) (wrong_size most f) (wrong_counters f) (stray_bytes sector || long_text f) none in
     kept_fields most f two.0 two.1))
 
 -- ---- a log sector

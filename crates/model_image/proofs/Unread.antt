@@ -115,7 +115,7 @@ module _ (system : System) (r : RestartSector) (old new : Image) (kept : IsKept 
 -- The free snapshot area, the other log area and the slots that changes are of may be others.
 pub unread_alike : (system : System) (r : RestartSector) (old new : Image) → restart_in (snapshot_area system) (is_single system) old ≡ Ok (Some r) → ((k : ℕ) → (sector_at new k ≡ sector_at old k) ⊎ IsUnread system r old new k) → ImagesAlike system old new
 unread_alike system r old new is each =
-    let kept = restart_kept (snapshot_area system) (sector_at old 0) r is in
+    let kept = restart_kept (snapshot_area system) (is_single system) (sector_at old 0) r is in
     record {
       restart = restart_stays system r old new kept each;
       areas = λ other found. let both : Ok (Some r) ≡ Ok (Some other) = sym is ∙ found in let same : r ≡ other = cc in subst (λ (s : RestartSector). AreasAlike system s old new) same (areas_alike system r old new kept each);

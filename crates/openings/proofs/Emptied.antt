@@ -90,5 +90,5 @@ empty_is system = record {
 
 pub blank_restart : (most : ℕ) (single : Bool) → restart_of most single blank ≡ Ok None
 unfolding restart_of
-blank_restart most =
-    ap (λ (b : Bool). if b then Ok None else unless_rule_broken (first_broken (restart_rules most blank)) (Some (fields_of blank))) (ap are_zeros blank_is ∙ are_zeros-zeros 4096)
+blank_restart most single =
+    ap (λ (b : Bool). if b then Ok None else unless_rule_broken (first_broken (restart_rules most single blank)) (Some (fields_of blank))) (ap are_zeros blank_is ∙ are_zeros-zeros 4096)

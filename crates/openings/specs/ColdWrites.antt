@@ -1,5 +1,5 @@
 -- What a cold start writes before its restart sector.
-use Rattle.std.specs.Prelude.{◌≡◌, ◌⊎◌, ◌≤◌, Some, ℕ, ◌+◌, ◌-◌, ◌*◌, ◌/◌, ◌<◌, List, ◌++◌, length, take, drop, Ok}
+use Rattle.std.specs.Prelude.{◌≡◌, ◌⊎◌, ◌≤◌, Bool, Some, ℕ, ◌+◌, ◌-◌, ◌*◌, ◌/◌, ◌<◌, List, ◌++◌, length, take, drop, Ok}
 use Rattle.tm_disk.specs.Disk.{Image, sector_at, with_sector, ChangesOnly}
 use Rattle.tm_disk.specs.Sector.{zeros, blank}
 use Rattle.restart_data.specs.declared.restart.RestartSector.{RestartSector}

@@ -393,14 +393,14 @@ pub there_same : (o : Opened) (stores : AllStores) → IsUnitWhole o → stores 
 there_same o stores w e = subst AreThere (sym e) w.marks
 
 pub back_toldable : (o : Opened) (d : DatabasesState) (region : ℕ) (us : List Changes) (x : Changes) (slots : List Change) (stores : List Stored) → IsOpenedWhole o → HasTouched o → databases_opened o ≡ d → HasUnit o region
-    → us ≡ o.units.items → slice_get us (region - 1) ≡ Some x → slots ≡ x.slots → stores ≡ o.stores.stores → AllByRecursion (λ s. s.dbd.sectors ≤ 1) d.stores
+    → us ≡ o.units.items → slice_get us (region - 1) ≡ Some x → slots ≡ x.slots → stores ≡ o.stores.stores → AllByRecursion (λ s. s.dbd.sectors ≤ 8) d.stores
     → AllByRecursion (IsToldable stores) slots
 back_toldable o d region xs x slots stores h touched view u same at is same_stores sectors =
     subst (λ (ss : List Stored). AllByRecursion (IsToldable ss) slots) (sym same_stores)
     (subst (λ cs. AllByRecursion (IsToldable o.stores.stores) cs) (unit_slots o.units.items (region - 1) x (ap (λ xs. slice_get xs (region - 1)) (sym same) ∙ at) ∙ sym is)
     (toldable o.stores.stores o.table (suc (region - 1)) (changed_in region o) (region_slots_in region o) h.valid
     (valid_back o.stores.stores (changed_in region o) h.valid (record { can = (h.each (region - 1) u.within).can; once = (h.each (region - 1) u.within).kept.once }))
-    (subst (λ (e : DatabasesState). AllByRecursion (λ s. s.dbd.sectors ≤ 1) e.stores) (sym view) sectors) (touched (region - 1) u.within)))
+    (subst (λ (e : DatabasesState). AllByRecursion (λ s. s.dbd.sectors ≤ 8) e.stores) (sym view) sectors) (touched (region - 1) u.within)))
 
 pub back_told_is : (unit : ℕ) (o : Opened) (d : DatabasesState) (region : ℕ) (us : List Changes) (x : Changes) (slots : List Change) (stores : List Stored) → databases_opened o ≡ d
     → us ≡ o.units.items → slice_get us (region - 1) ≡ Some x → slots ≡ x.slots → stores ≡ o.stores.stores → map (back_out_told unit stores) slots ≡ back_told unit region d

@@ -21,12 +21,12 @@ use Rattle.program_rows.proofs.Stepping.{has_slot}
 use Rattle.program_rows.proofs.ToldBack.{short_image, short_edit}
 
 module _ (stores : List Stored) (number slot : ℕ) (e : Edit) (dbd : Dbd) (database : slice_get (map (λ (s : Stored). s.dbd) stores) (number - 1) ≡ Some dbd)
-    (takes : IfSome (slice_get stores (number - 1)) (λ s. TakesSlot s e slot)) (sectors : dbd.sectors ≤ 1) (k : Stored) (at : slice_get stores (number - 1) ≡ Some k) where
+    (takes : IfSome (slice_get stores (number - 1)) (λ s. TakesSlot s e slot)) (sectors : dbd.sectors ≤ 8) (k : Stored) (at : slice_get stores (number - 1) ≡ Some k) where
   takes_it : TakesSlot k e slot
   takes_it = taken (λ s. TakesSlot s e slot) (slice_get stores (number - 1)) k at takes
 
-  one_sector : k.dbd.sectors ≤ 1
-  one_sector = subst (λ (d : Dbd). d.sectors ≤ 1) (sym (dbd_there stores (number - 1) k dbd at database)) sectors
+  few_sectors : k.dbd.sectors ≤ 8
+  few_sectors = subst (λ (d : Dbd). d.sectors ≤ 8) (sym (dbd_there stores (number - 1) k dbd at database)) sectors
 
   stands : slice_get k.slots slot ≡ Some (record_of e.root (rows_of_slots k.slots))
   stands = (has_slot number e.root slot k takes_it.valid takes_it.place).at
@@ -34,11 +34,11 @@ module _ (stores : List Stored) (number slot : ℕ) (e : Edit) (dbd : Dbd) (data
   pub slot_within : slot < length k.slots
   slot_within = slice_get_within k.slots slot (record_of e.root (rows_of_slots k.slots)) stands
 
-  pub short_before : (image : List Row) → slice_get k.slots slot ≡ Some image → length (rows.rows_spelling image) ≤ 4000
-  short_before image there = short_image k.dbd k.slots slot image takes_it.valid one_sector there
+  pub short_before : (image : List Row) → slice_get k.slots slot ≡ Some image → length (rows.rows_spelling image) ≤ 32000
+  short_before image there = short_image k.dbd k.slots slot image takes_it.valid few_sectors there
 
-  pub short_after : length (rows.rows_spelling e.image) ≤ 4000
-  short_after = short_edit k.dbd e.root e.image (rows_of_slots k.slots) one_sector takes_it.accepted
+  pub short_after : length (rows.rows_spelling e.image) ≤ 32000
+  short_after = short_edit k.dbd e.root e.image (rows_of_slots k.slots) few_sectors takes_it.accepted
 
   pub told_is : (unit : ℕ) (image : List Row) → slice_get k.slots slot ≡ Some image
       → told.Change unit number slot (rows.rows_spelling image) (rows.rows_spelling e.image) ∷ [] ≡ edit_told unit number (Some e) stores

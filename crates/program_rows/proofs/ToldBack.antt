@@ -77,28 +77,28 @@ module _ (unit : ℕ) (stores : List Stored) (table : EnqueueTable) (region : �
   each_back (c ∷ slots) h = (h.0.first, each_back slots h.1)
 
 -- an image in a slot is short enough
-pub short_image : (dbd : Dbd) (slots : List (List Row)) (slot : ℕ) (image : List Row) → AreSlots dbd slots → dbd.sectors ≤ 1 → slice_get slots slot ≡ Some image → length (rows_spelling image) ≤ 4000
+pub short_image : (dbd : Dbd) (slots : List (List Row)) (slot : ℕ) (image : List Row) → AreSlots dbd slots → dbd.sectors ≤ 8 → slice_get slots slot ≡ Some image → length (rows_spelling image) ≤ 32000
 short_image dbd slots slot image valid sectors at = ⊎_elim (λ none. omega (arith, ap (λ rows. length (rows_spelling rows)) none)) (λ r. omega (arith, r.within, sectors)) in_slot
   where
     in_slot : IsSlot dbd image
     in_slot = all_there (IsSlot dbd) slots slot image valid.each at
 
 -- and so is one that the store takes
-pub short_edit : (dbd : Dbd) (root : List ℕ) (image rows : List Row) → dbd.sectors ≤ 1 → set_refusal dbd root image rows ≡ None → length (rows_spelling image) ≤ 4000
+pub short_edit : (dbd : Dbd) (root : List ℕ) (image rows : List Row) → dbd.sectors ≤ 8 → set_refusal dbd root image rows ≡ None → length (rows_spelling image) ≤ 32000
 short_edit dbd root image rows sectors e = by (passes_roots dbd root image rows) (passes_length dbd image) refl e
   where
     by : (a b : Bool) → passes_length dbd image ≡ b → cond a (Some Rattle.seg_rows.specs.declared.rows.StoreRefused.TheVariants.RootLimit) (cond b (Some Rattle.seg_rows.specs.declared.rows.StoreRefused.TheVariants.RecordTooLong) None) ≡ None
-        → length (rows_spelling image) ≤ 4000
+        → length (rows_spelling image) ≤ 32000
     by true b q h = absurd (cc)
     by false true q h = absurd (cc)
     by false false q h = omega (arith, ltb-false (record_limit dbd) (length (rows_spelling image)) q, sectors)
 
 -- the stores of databases of one sector
-module _ (stores : List Stored) (valid : AreValid stores) (sectors : AllByRecursion (λ s. s.dbd.sectors ≤ 1) stores) where
-  pub short_at : (db slot : ℕ) → IsSlotOf stores db slot → (db ≤ length stores) × (length (image_bytes_at db slot stores) ≤ 4000)
+module _ (stores : List Stored) (valid : AreValid stores) (sectors : AllByRecursion (λ s. s.dbd.sectors ≤ 8) stores) where
+  pub short_at : (db slot : ℕ) → IsSlotOf stores db slot → (db ≤ length stores) × (length (image_bytes_at db slot stores) ≤ 32000)
   short_at db slot there = by (slice_get stores (db - 1)) refl
     where
-      by : (o : Option Stored) → slice_get stores (db - 1) ≡ o → (db ≤ length stores) × (length (image_bytes_at db slot stores) ≤ 4000)
+      by : (o : Option Stored) → slice_get stores (db - 1) ≡ o → (db ≤ length stores) × (length (image_bytes_at db slot stores) ≤ 32000)
       by None e =
           let none : slots_of_database db stores ≡ [] = ap (λ x. option_map_or (λ (s : Stored). s.slots) x []) e in
           absurd (omega (arith, there.within, ap length none))
@@ -106,15 +106,15 @@ module _ (stores : List Stored) (valid : AreValid stores) (sectors : AllByRecurs
           let is : slots_of_database db stores ≡ s.slots = ap (λ x. option_map_or (λ (s : Stored). s.slots) x []) e in
           let inside : slot < length s.slots = subst (λ xs. slot < length xs) is there.within in
           let at : slice_get s.slots slot ≡ Some (get_or s.slots slot []) = slice_get-get_or s.slots slot [] inside in
-          let short : length (rows_spelling (get_or s.slots slot [])) ≤ 4000 =
+          let short : length (rows_spelling (get_or s.slots slot [])) ≤ 32000 =
           short_image s.dbd s.slots slot (get_or s.slots slot []) (all_there (λ (x : Stored). AreSlots x.dbd x.slots) stores (db - 1) s valid e)
-          (all_there (λ (x : Stored). x.dbd.sectors ≤ 1) stores (db - 1) s sectors e) at in (
+          (all_there (λ (x : Stored). x.dbd.sectors ≤ 8) stores (db - 1) s sectors e) at in (
             omega (arith, slice_get_within stores (db - 1) s e, there.least),
-            subst (λ xs. length (rows_spelling (get_or xs slot [])) ≤ 4000) (sym is) short,
+            subst (λ xs. length (rows_spelling (get_or xs slot [])) ≤ 32000) (sym is) short,
           )
 
 -- the same once a unit was backed out
-pub same_sectors : (old new : List Stored) → map (λ (s : Stored). s.dbd) new ≡ map (λ (s : Stored). s.dbd) old → AllByRecursion (λ s. s.dbd.sectors ≤ 1) old → AllByRecursion (λ s. s.dbd.sectors ≤ 1) new
+pub same_sectors : (old new : List Stored) → map (λ (s : Stored). s.dbd) new ≡ map (λ (s : Stored). s.dbd) old → AllByRecursion (λ s. s.dbd.sectors ≤ 8) old → AllByRecursion (λ s. s.dbd.sectors ≤ 8) new
 same_sectors [] [] e h = tt
 same_sectors [] (t ∷ new) e h = let clash : t.dbd ∷ map (λ (s : Stored). s.dbd) new ≡ [] = e in absurd (cc)
 same_sectors (s ∷ old) [] e h = tt
@@ -122,10 +122,10 @@ same_sectors (s ∷ old) (t ∷ new) e h =
     let both : t.dbd ∷ map (λ (x : Stored). x.dbd) new ≡ s.dbd ∷ map (λ (x : Stored). x.dbd) old = e in
     let head : t.dbd ≡ s.dbd = cc in
     let tail : map (λ (x : Stored). x.dbd) new ≡ map (λ (x : Stored). x.dbd) old = cc in
-    (subst (λ (d : Dbd). d.sectors ≤ 1) (sym head) h.0, same_sectors old new tail h.1)
+    (subst (λ (d : Dbd). d.sectors ≤ 8) (sym head) h.0, same_sectors old new tail h.1)
 
 pub toldable : (stores : List Stored) (table : EnqueueTable) (region : ℕ) (records slots : List Change) → AreValid stores → AreValid (backed_out records stores)
-    → AllByRecursion (λ s. s.dbd.sectors ≤ 1) stores → AreTouchedByUnit table stores region records slots → AllByRecursion (IsToldable stores) slots
+    → AllByRecursion (λ s. s.dbd.sectors ≤ 8) stores → AreTouchedByUnit table stores region records slots → AllByRecursion (IsToldable stores) slots
 toldable stores table region records slots valid then_valid sectors t =
     all_then (IsRecordTouched table stores region records) (IsToldable stores) slots
     (λ s x.
@@ -136,5 +136,5 @@ toldable stores table region records slots valid then_valid sectors t =
       there = x.there;
       known = now.0;
       present = now.1;
-      first = subst (λ rows. length (rows_spelling rows) ≤ 4000) x.first later.1;
+      first = subst (λ rows. length (rows_spelling rows) ≤ 32000) x.first later.1;
     }) t.each

@@ -56,8 +56,8 @@ back_told unit region old = map (back_out_told unit old.stores) (touched_by regi
 pub record IsToldable (stores : List Stored) (s : Change) : Type 0 where
   pub there : IsSlotOf stores s.db s.slot
   pub known : s.db ≤ length stores
-  pub present : length (image_bytes_at s.db s.slot stores) ≤ 4000
-  pub first : length (rows.rows_spelling s.before) ≤ 4000
+  pub present : length (image_bytes_at s.db s.slot stores) ≤ 32000
+  pub first : length (rows.rows_spelling s.before) ≤ 32000
 
 -- ---- what a call touches
 

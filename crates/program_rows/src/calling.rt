@@ -44,7 +44,7 @@ pub fn call(
     requires database { slice_get (map (λ s. s.dbd) opened.old.stores.stores) (number - 1) ≡ Some dbd.now }
     requires few { length dbd.now.types ≤ 255 }
     requires short { All (λ type. type.bytes ≤ 1996) dbd.now.types }
-    requires sectors { dbd.now.sectors ≤ 1 }
+    requires sectors { dbd.now.sectors ≤ 8 }
     requires position { IsPosition dbd.now.types at.now }
     requires call { IsDbCall dbd.now.types call.now }
     ensures done { IfOk result (IsCallDone region number dbd.now call.now at.now opened.old opened.new) }

@@ -167,7 +167,7 @@ impl Databases {
         requires database { slice_get (dbds_of self.old) (number - 1) ≡ Some dbd.now }
         requires few { length dbd.now.types ≤ 255 }
         requires short { All (λ type. type.bytes ≤ 1996) dbd.now.types }
-        requires sectors { dbd.now.sectors ≤ 1 }
+        requires sectors { dbd.now.sectors ≤ 8 }
         requires position { IsPosition dbd.now.types at.now }
         requires call { IsDbCall dbd.now.types call.now }
         ensures blocked { IfOk result (λ a. blocked_of a ≡ told_blocked (first_blocked (requests_of_call region number dbd.now call.now at.now self.old) self.old.table)) }
@@ -213,7 +213,7 @@ impl Databases {
     /// leaves what was told before.
     pub fn tell_back(&self, region: u32, telling: &mut Telling) -> Result<(), Untold>
         requires region { IsRegionOf self.now region }
-        requires sectors { AllByRecursion (λ s. s.dbd.sectors ≤ 1) self.now.stores }
+        requires sectors { AllByRecursion (λ s. s.dbd.sectors ≤ 8) self.now.stores }
         ensures tells { OnOk result (TellsInRoom (back_told telling.old.unit region self.now) telling.old.room telling.old.told.items telling.new.told.items) }
         ensures untold { OnErr result (telling.new.told.items ≡ telling.old.told.items) }
         ensures place { telling.new ≡ record telling.old { told = telling.new.told } }

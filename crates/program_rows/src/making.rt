@@ -45,7 +45,7 @@ pub fn make(
     requires database { slice_get (map (λ s. s.dbd) opened.old.stores.stores) (asked.now.number - 1) ≡ Some dbd.now }
     requires image { IfSome planned.edit (λ e. IsImage dbd.now e.root e.image) }
     requires there { IsThere (database_rows_in asked.now.number (rows_of_stores opened.old.stores.stores)) planned.edit }
-    requires sectors { dbd.now.sectors ≤ 1 }
+    requires sectors { dbd.now.sectors ≤ 8 }
     ensures made { IfOk result (Makes asked.now dbd.now planned opened.old opened.new) }
     ensures tells { IfOk result (λ a. TellsInRoom (made_told telling.old.unit asked.now.number planned.edit opened.old.stores.stores a) telling.old.room telling.old.told.items telling.new.told.items) }
     ensures kept { OnErr result (IsSame opened.old opened.new) }
@@ -90,7 +90,7 @@ fn change(
     requires database { slice_get (map (λ s. s.dbd) opened.old.stores.stores) (asked.now.number - 1) ≡ Some dbd.now }
     requires image { IsImage dbd.now edit.root edit.image }
     requires there { IsThere (database_rows_in asked.now.number (rows_of_stores opened.old.stores.stores)) (Some edit) }
-    requires sectors { dbd.now.sectors ≤ 1 }
+    requires sectors { dbd.now.sectors ≤ 8 }
     ensures abend { IfOk result (λ o. o ≡ edit_abend asked.now dbd.now edit opened.old) }
     ensures made { IfOk result (EditMade asked.now edit opened.old opened.new) }
     ensures tells { IfOk result (λ o. TellsInRoom (told_unless o (edit_told telling.old.unit asked.now.number (Some edit) opened.old.stores.stores)) telling.old.room telling.old.told.items telling.new.told.items) }
@@ -153,7 +153,7 @@ fn tell_and_set(
     requires database { slice_get (map (λ s. s.dbd) opened.old.stores.stores) (asked.now.number - 1) ≡ Some dbd.now }
     requires takes { IfSome (slice_get opened.old.stores.stores (asked.now.number - 1)) (λ s. TakesSlot s edit slot) }
     requires room { is_full asked.now.number edit.root (changed_in asked.now.region opened.old) ≡ false }
-    requires sectors { dbd.now.sectors ≤ 1 }
+    requires sectors { dbd.now.sectors ≤ 8 }
     ensures set { OnOk result (IsSet asked.now edit opened.old opened.new) }
     ensures tells { OnOk result (TellsInRoom (edit_told telling.old.unit asked.now.number (Some edit) opened.old.stores.stores) telling.old.room telling.old.told.items telling.new.told.items) }
     ensures kept { OnErr result (IsSame opened.old opened.new) }

@@ -31,8 +31,8 @@ pub fn tell(
     after: &RecordImage,
     telling: &mut Telling,
 ) -> Result<(), Untold>
-    requires before { length (rows_spelling before.now) ≤ 4000 }
-    requires after { length (rows_spelling after.now) ≤ 4000 }
+    requires before { length (rows_spelling before.now) ≤ 32000 }
+    requires after { length (rows_spelling after.now) ≤ 32000 }
     ensures tells { OnOk result (TellsInRoom (ChangeRecord telling.old.unit number slot (rows_spelling before.now) (rows_spelling after.now) ∷ []) telling.old.room telling.old.told.items telling.new.told.items) }
     ensures untold { OnErr result (telling.new.told.items ≡ telling.old.told.items) }
     ensures place { telling.new ≡ record telling.old { told = telling.new.told } }

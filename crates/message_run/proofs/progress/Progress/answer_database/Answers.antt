@@ -3,7 +3,7 @@ use Rattle.std.specs.Prelude.{slice_get}
 use Rattle.model_system.specs.declared.pcb.Pcb.TheVariants.{Database}
 use Rattle.model_data.specs.declared.call.Position.{Position}
 use Rattle.message_run.specs.RunState.{RunState}
-use Rattle.message_run.proofs.Database.{is_db_call, is_numbered, few_types, short_types, one_sector, has_position, leads, are_free, are_granted, are_blocked, answers, tells_so, told_stand}
+use Rattle.message_run.proofs.Database.{is_db_call, is_numbered, few_types, short_types, few_sectors, has_position, leads, are_free, are_granted, are_blocked, answers, tells_so, told_stand}
 use Rattle.message_run.proofs.NextTold.{quiet_abend, quiet_blocked}
 use Rattle.message_run.proofs.progress.Progress.answer_database.Goals as goal
 
@@ -70,7 +70,7 @@ tell_answer-requires-clause-pcbs c =
     has_position c.args.system.now.databases c.args._pcbs.now c.args.self.now.positions c.args.call.pcb (Database c.args.number c.args.options) c.requires.standing c.requires.some c.requires.pcb
 
 pub call-requires-clause-sectors : goal.call-requires-clause-sectors
-call-requires-clause-sectors c = one_sector c.database_numbered-dbd.result.now c.database_numbered-dbd.ensures.valid
+call-requires-clause-sectors c = few_sectors c.database_numbered-dbd.result.now c.database_numbered-dbd.ensures.valid
 
 pub returns-in-Ok-Abend-clause-tells : goal.returns-in-Ok-Abend-clause-tells
 returns-in-Ok-Abend-clause-tells c =

@@ -1,8 +1,8 @@
-use Rattle.message_run.proofs.NextTold.{one_sector, rolled_stands}
+use Rattle.message_run.proofs.NextTold.{few_sectors, rolled_stands}
 use Rattle.message_run.proofs.progress.Progress.answer_message.Goals as goal
 
 pub answer_rolb-requires-clause-sectors : goal.answer_rolb-requires-clause-sectors
-answer_rolb-requires-clause-sectors c = one_sector c.args.system.now c.args.databases.now.stores c.databases-databases.ensures.valid c.requires.databases
+answer_rolb-requires-clause-sectors c = few_sectors c.args.system.now c.args.databases.now.stores c.databases-databases.ensures.valid c.requires.databases
 
 pub returns-in-ROLB-clause-standing : goal.returns-in-ROLB-clause-standing
 returns-in-ROLB-clause-standing c =
