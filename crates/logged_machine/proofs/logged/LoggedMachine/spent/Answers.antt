@@ -17,4 +17,4 @@ returns-clause-value g c =
     let some = (c.self.invariant (ap (λ (v : LoggedState _). v.served) c.self.view_is ∙ c.requires.served)).carried.is.numbers.some in
     rw (sym c.self.view_is)
     (spent_is c.self.inside.journal c.self.inside.next_unit c.self.inside.parts.moment.lasting c.restart-restart.result.now c.next_sequence.result (c.self.inside.next_unit - 1) c.spent_counter.result c.restart-restart.ensures c.next_sequence.ensures
-    (omega (arith, some)) (c.spent_counter.ensures c.self.inside.parts.moment.lasting (sym c.next_id.ensures) (sym c.steps.ensures) (sym (c.terminals.ensures ∙ ap (λ o. o) c.outputs.ensures))))
+    (omega (arith, some)) (c.spent_counter.ensures c.self.inside.parts.moment.lasting (sym c.next_id.ensures) (sym c.steps.ensures) (sym c.outputs.ensures)))

@@ -1,4 +1,4 @@
-use Rattle.std.proofs.Common.{sym, subst}
+use Rattle.std.proofs.Common.{subst}
 use Rattle.out_queues.specs.KeptReplies.{AreUpTo}
 use Rattle.out_queues.proofs.Counted.{given_up_to}
 use Rattle.out_queues.proofs.outputs.Outputs.of.Goals as goal
