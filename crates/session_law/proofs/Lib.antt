@@ -11,10 +11,13 @@ pub mod Blocks
 pub mod SessionMeasures
 pub mod Standing
 pub mod Spent
+pub mod LifeEnds
 pub mod SentAgain
+pub mod FreshInputs
 pub mod Linked
 pub mod ShownAgain
 pub mod NumberedReplies
+pub mod AcksInDoubt
 pub mod SerialMessages
 pub mod SerialPicks
 pub mod SerialSlots

@@ -14,7 +14,7 @@ use Rattle.model_session.specs.SessionState.{DiskPast, told_by, cut_with, cut_at
 use Rattle.model_session.specs.SessionState.Standing.{Up, Down}
 use Rattle.model_session.specs.Session.{OpensSession, OpensAbove, ServedBy, IsServedUp, IsServedDown, IsRestarted, AreServed, BeginsSession, IsSessionBegun, IsBegunBy}
 use Rattle.session_law.specs.SentAgain.{alone, IsOpenedBehind, AreLinked}
-use Rattle.session_law.proofs.SentAgain.{OpenedWith}
+use Rattle.session_law.proofs.LifeEnds.{OpenedWith}
 
 -- ---- linked lives
 

@@ -32,11 +32,10 @@ use Rattle.model_machine.specs.History.{May, AreSteps, IsEnd, call_of, after_ent
 use Rattle.model_session.specs.Lives.{LifeState, LastLife, AreLegal, longer}
 use Rattle.session_law.specs.ResentInputs.{IsKeptBy, any_call}
 use Rattle.session_law.specs.SentAgain.{alone, AreLinked}
-use Rattle.session_law.specs.ShownAgain.{ShowsHigher, AllShowHigher, LivesShowHigher, BeginsNumbered, ShowsReplies}
+use Rattle.session_law.specs.ShownAgain.{ShowsHigher, AllShowHigher, LivesShowHigher}
 use Rattle.session_law.proofs.Steps.{FineBy, applied_by}
 use Rattle.session_law.proofs.Sessions.{Leaving, begun, leaves_with, more}
-use Rattle.session_law.proofs.SentAgain.{OpenedWith, opened_behind, linked_behind, legal_behind, head_is, tail_is, none_there, ended_more, all_any}
-use Rattle.session_law.proofs.ShownAgain.{shown_on}
+use Rattle.session_law.proofs.LifeEnds.{head_is, tail_is, none_there, ended_more, all_any, OpenedWith, opened_behind}
 
 apart : true ≡ false → ⊥
 apart e = cc
@@ -90,6 +89,10 @@ removed next number (r ∷ []) run there is = (tt, omega (arith, run.0, is))
 removed next number (r ∷ s ∷ replies) run there is = (run.1, omega (arith, run.0, run.1.0, is))
 
 -- ---- all terminals
+
+-- the replies that are kept for each terminal have numbers that follow one another, up to its next one
+abbrev pub IsNumbered : LastingState → Type 0
+IsNumbered lasting = (terminal : List ℕ) (t : TerminalReplies) → output_at lasting.outputs terminal ≡ Some t → AreNumbered t
 
 module _ (terminal : List ℕ) where
   -- what holds of the terminal, if it is there
@@ -188,6 +191,10 @@ module _ (terminal : List ℕ) where
     from_kept system moment entry is h =
         applied_by AreFrom (λ s. Unit {0}) moment.lasting (λ step any has. step_from step moment.lasting has) (lasting_step system moment (call_of entry)) (fine (lasting_step system moment (call_of entry))) h
 
+    pub from_after : (system : System) (entries : List Entry) (moment : Moment) → AreFrom moment.lasting → AreFrom (moment_after system moment entries).lasting
+    from_after system [] moment h = h
+    from_after system (entry ∷ entries) moment h = from_after system entries (after_entry system moment entry) (from_kept system moment entry refl h)
+
   -- ---- what the terminal is shown
 
   showed_is : (a b : ℕ) → Showed a ≡ Showed b → a ≡ b
@@ -252,23 +259,23 @@ module _ (terminal : List ℕ) where
   life_from system low life h =
       more (AreFrom low) system any_call (from_kept low system) (record { opening = life.opening; checkpoint = life.checkpoint; history = [] }) life.history (all_any life.history) (begun (AreFrom low) system any_call life.checkpoint life.opening h)
 
-  lives_higher : (system : System) (low : ℕ) (lives : List LifeState) → OpenedWith (AreFrom (low + 1)) lives → AreLinked system lives → AreLegal system lives → LivesShowHigher terminal low lives
+  pub lives_higher : (system : System) (low : ℕ) (lives : List LifeState) → OpenedWith (AreFrom (low + 1)) lives → AreLinked system lives → AreLegal system lives → LivesShowHigher terminal low lives
   lives_higher system low [] h linked legal = tt
   lives_higher system low (life ∷ lives) h linked legal =
       let is = legal.0.legal in (
         subst (AllShowHigher terminal low) (sym is.all) (steps_higher system low is.steps is.last (start_of system life.opening) is.legal is.end h),
-        lives_higher system low lives (opened_behind system terminal 0 (AreFrom (low + 1)) life lives (life_from system (low + 1) life h) linked.0) linked.1 legal.1,
+        lives_higher system low lives (opened_behind system (AreFrom (low + 1)) life lives (life_from system (low + 1) life h) linked.0) linked.1 legal.1,
       )
 
   -- all lives behind the first, too
-  numbered_behind : (system : System) (before lives : List LifeState) → OpenedWith (AreFrom 0) (before ++ lives) → AreLinked system (before ++ lives) → OpenedWith (AreFrom 0) lives
+  pub numbered_behind : (system : System) (before lives : List LifeState) → OpenedWith (AreFrom 0) (before ++ lives) → AreLinked system (before ++ lives) → OpenedWith (AreFrom 0) lives
   numbered_behind system [] lives h linked = h
   numbered_behind system (life ∷ before) lives h linked =
-      numbered_behind system before lives (opened_behind system terminal 0 (AreFrom 0) life (before ++ lives) (life_from system 0 life h) linked.0) linked.1
+      numbered_behind system before lives (opened_behind system (AreFrom 0) life (before ++ lives) (life_from system 0 life h) linked.0) linked.1
 
-  begins_from : (lives : List LifeState) → BeginsNumbered terminal lives → OpenedWith (AreFrom 0) lives
+  pub begins_from : (lives : List LifeState) → OpenedWith IsNumbered lives → OpenedWith (AreFrom 0) lives
   begins_from [] h = tt
-  begins_from (life ∷ lives) h = λ t is. record { numbered = h t is; least = omega arith }
+  begins_from (life ∷ lives) h = λ t is. record { numbered = h terminal t is; least = omega arith }
 
   -- ---- one that was acknowledged
 
@@ -292,13 +299,13 @@ module _ (terminal : List ℕ) where
     removes false true first e = refl
     removes false false first e = cc
 
-    first_is : (output : Option TerminalReplies) (t : TerminalReplies) → output ≡ Some t → ack_by output number ≡ Ok Removed → (number ≡ first_number t) × (is_some (slice_get t.replies 0) ≡ true)
+    pub first_is : (output : Option TerminalReplies) (t : TerminalReplies) → output ≡ Some t → ack_by output number ≡ Ok Removed → (number ≡ first_number t) × (is_some (slice_get t.replies 0) ≡ true)
     first_is None t is e = cc
     first_is (Some u) t is e =
         let both = split_and (number == first_number u) (is_some (slice_get u.replies 0)) (removes (nat_lt number (first_number u)) ((number == first_number u) && is_some (slice_get u.replies 0)) (first_number u) e) in
         subst (λ (v : TerminalReplies). (number ≡ first_number v) × (is_some (slice_get v.replies 0) ≡ true)) (some_is u t is) (eqb-true number (first_number u) both.0, both.1)
 
-    gone_then : (moment : Moment) → ack_answer moment terminal number ≡ Ok Removed → AreFrom 0 moment.lasting → AreFrom (number + 1) (after_entry system moment removal).lasting
+    pub gone_then : (moment : Moment) → ack_answer moment terminal number ≡ Ok Removed → AreFrom 0 moment.lasting → AreFrom (number + 1) (after_entry system moment removal).lasting
     gone_then moment is h =
         subst (λ (answer : Result Acked AckRefused). AreFrom (number + 1) (option_map_or (λ step. applied step moment.lasting) (acknowledged_step terminal answer) moment.lasting)) (sym is)
         (λ u e.
@@ -347,16 +354,4 @@ module _ (terminal : List ℕ) where
         subst (λ (es : List Entry). Leaving (AreFrom (number + 1)) system any_call (record { opening = life.opening; checkpoint = life.checkpoint; history = es })) whole
         (more (AreFrom (number + 1)) system any_call (from_kept (number + 1) system) (longer base (removal ∷ [])) rest (all_any rest)
         (leaves_with (AreFrom (number + 1)) system any_call base removal refl there.from)) in
-        (there.higher, lives_higher system number later (opened_behind system terminal 0 (AreFrom (number + 1)) life later left linked.0) linked.1 legal.1)
-
--- ---- all of it
-
-pub replies_shown : (system : System) (lives : List LifeState) → AreLinked system lives → AreLegal system lives → ShowsReplies system lives
-replies_shown system lives linked legal = record {
-  again = λ before later life front rest terminal number reply split all has.
-      shown_on terminal reply system life later front rest number (linked_behind system before (life ∷ later) (subst (AreLinked system) split linked)) all has;
-  never = λ before later life front rest terminal number begins split all.
-      gone_for_good terminal system number life later front rest
-      (linked_behind system before (life ∷ later) (subst (AreLinked system) split linked)) (legal_behind system before (life ∷ later) (subst (AreLegal system) split legal))
-      (numbered_behind terminal system before (life ∷ later) (subst (OpenedWith (AreFrom terminal 0)) split (begins_from terminal lives begins)) (subst (AreLinked system) split linked)) all;
-}
+        (there.higher, lives_higher system number later (opened_behind system (AreFrom (number + 1)) life later left linked.0) linked.1 legal.1)

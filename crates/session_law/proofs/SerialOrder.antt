@@ -18,7 +18,7 @@ use Rattle.system_types.specs.ValidSystem.{IsSystem}
 use Rattle.system_types.proofs.Indexed.{found_at}
 use Rattle.session_law.specs.SentAgain.{IsOpenedBehind, AreLinked}
 use Rattle.session_law.specs.SerialOrder.{DoneStep, EndsInOrder, all_kept_steps, ended_ids, kept_steps, step_done, steps_in}
-use Rattle.session_law.proofs.SentAgain.{OpenedWith}
+use Rattle.session_law.proofs.LifeEnds.{OpenedWith}
 use Rattle.session_law.proofs.SerialMessages.{AreFrom, CodeFrom, IdsAscend, ascend_from, code_all}
 use Rattle.session_law.proofs.SerialSteps.{Rise, SerialIf, ServesAt, behind, entries_go, ids_append, pairs_rise, rise_front, rise_on}
 

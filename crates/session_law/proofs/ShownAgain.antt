@@ -30,7 +30,7 @@ use Rattle.session_law.specs.SentAgain.{alone, AreLinked}
 use Rattle.session_law.specs.ShownAgain.{takes_reply, takes_none, WaitsOn, LivesWaitOn}
 use Rattle.session_law.proofs.Sessions.{Leaving, begun, leaves_with, more}
 use Rattle.session_law.proofs.Replies.{Waits, replies_kept}
-use Rattle.session_law.proofs.SentAgain.{OpenedWith, opened_behind}
+use Rattle.session_law.proofs.LifeEnds.{OpenedWith, opened_behind}
 
 apart : true ≡ false → ⊥
 apart e = cc
@@ -112,12 +112,12 @@ module _ (terminal : List ℕ) (reply : Reply) where
   waits_on system moment [] h = h
   waits_on system moment (entry ∷ entries) h = (h, λ spared. waits_on system (after_entry system moment entry) entries (kept_until system moment entry spared h))
 
-  lives_wait : (system : System) (lives : List LifeState) → OpenedWith (Waits terminal reply) lives → AreLinked system lives → LivesWaitOn system terminal reply lives
+  pub lives_wait : (system : System) (lives : List LifeState) → OpenedWith (Waits terminal reply) lives → AreLinked system lives → LivesWaitOn system terminal reply lives
   lives_wait system [] has linked = tt
   lives_wait system (life ∷ lives) has linked = (
     waits_on system (start_of system life.opening) life.history has,
     λ none. lives_wait system lives
-        (opened_behind system terminal 0 (Waits terminal reply) life lives
+        (opened_behind system (Waits terminal reply) life lives
         (more (Waits terminal reply) system kind (keeps system) (record { opening = life.opening; checkpoint = life.checkpoint; history = [] }) life.history none
         (begun (Waits terminal reply) system kind life.checkpoint life.opening has)) linked.0)
         linked.1,
@@ -136,7 +136,7 @@ module _ (terminal : List ℕ) (reply : Reply) where
       (kept_until system (life_moment system base front) entry refl has) in (
         waits_on system (life_moment system (alone life) front) (entry ∷ rest) has,
         λ none. lives_wait system later
-            (opened_behind system terminal 0 (Waits terminal reply) life later
+            (opened_behind system (Waits terminal reply) life later
             (subst (λ (h : List Entry). Leaving (Waits terminal reply) system kind (record { opening = life.opening; checkpoint = life.checkpoint; history = h })) whole
             (more (Waits terminal reply) system kind (keeps system) (longer base (entry ∷ [])) rest none
             (leaves_with (Waits terminal reply) system kind base entry refl behind))) linked.0)

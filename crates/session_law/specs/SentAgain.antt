@@ -1,5 +1,5 @@
 -- What is sent again, over the lives of a session: inputs.
-use Rattle.std.specs.Prelude.{◌≡◌, ◌⊎◌, ℕ, ◌-◌, ◌<◌, ◌≤◌, Bool, true, false, List, [], ◌∷◌, ◌++◌, Result, Ok, Err}
+use Rattle.std.specs.Prelude.{◌≡◌, ◌⊎◌, ℕ, ◌-◌, ◌<◌, ◌≤◌, ◌==◌, Bool, true, false, ◌&&◌, List, [], ◌∷◌, ◌++◌, Result, Ok, Err}
 use Rattle.std.specs.List.{AllByRecursion}
 use Rattle.std.specs.Str.{bytes_eq}
 use Rattle.model_system.specs.System.{System}
@@ -68,16 +68,28 @@ AllKnow terminal number entries = AllByRecursion (KnowsInput terminal number) en
 abbrev pub LivesKnow : List ℕ → ℕ → List LifeState → Type 0
 LivesKnow terminal number lives = AllByRecursion (λ life. AllKnow terminal number life.history) lives
 
--- The next input of the terminal, where it is sent under this number, is fresh.
-abbrev pub by_terminal : Bool → Type 0 → Type 0 → Type 0
-by_terminal true here later = here
-by_terminal false here later = later
+-- an input of the terminal under this number is fresh
+abbrev pub IsFreshInput : List ℕ → ℕ → Entry → Type 0
+IsFreshInput terminal number (Accept other sent segments answer) = bytes_eq other terminal ≡ true → sent ≡ number → IsFresh answer
+IsFreshInput terminal number _ = Unit {0}
 
-abbrev pub NextIsFresh : List ℕ → ℕ → List Entry → Type 0
-NextIsFresh terminal number [] = Unit {0}
-NextIsFresh terminal number (Accept other sent segments answer ∷ entries) =
-    by_terminal (bytes_eq other terminal) (sent ≡ number → IsFresh answer) (NextIsFresh terminal number entries)
-NextIsFresh terminal number (entry ∷ entries) = NextIsFresh terminal number entries
+-- an input of the terminal under this number is taken as new
+abbrev pub takes_input : List ℕ → ℕ → Entry → Bool
+takes_input terminal number (Accept other sent segments (Ok (New id))) = bytes_eq other terminal && (sent == number)
+takes_input terminal number _ = false
+
+-- the disk fails in its call
+abbrev pub fails_input : List ℕ → ℕ → Entry → Bool
+fails_input terminal number (Accept other sent segments (Err (Fault fault))) = bytes_eq other terminal && (sent == number)
+fails_input terminal number _ = false
+
+-- Each input of the terminal under this number is fresh, up to the one that is taken as new. Behind one in whose call the disk fails it
+-- goes on so, or each is known.
+abbrev pub FreshUntilTaken : List ℕ → ℕ → List Entry → Type 0
+FreshUntilTaken terminal number [] = Unit {0}
+FreshUntilTaken terminal number (entry ∷ entries) =
+    IsFreshInput terminal number entry
+    × (takes_input terminal number entry ≡ false → FreshUntilTaken terminal number entries ⊎ ((fails_input terminal number entry ≡ true) × AllKnow terminal number entries))
 
 -- The disk failed in the call of an input that would have been new, which ended the life.
 pub record IsInDoubt (system : System) (life : LifeState) (terminal : List ℕ) (number : ℕ) : Type 0 where
@@ -89,15 +101,15 @@ pub record IsInDoubt (system : System) (life : LifeState) (terminal : List ℕ) 
   pub fault : is_fault (Accept terminal number segments answer) ≡ true
   pub new : input_answer system (life_moment system (alone life) before) terminal number segments ≡ Ok (New id)
 
--- Its step is kept, and it is known from then on; or its step is not, and it is fresh when it is sent again.
+-- Its step is kept, and it is known from then on; or its step is not, and it is fresh whenever it is sent again, until it is taken.
 abbrev pub SettlesDoubt : System → LifeState → List LifeState → (terminal : List ℕ) → (number : ℕ) → List Entry → Type 0
 SettlesDoubt system life later terminal number before =
     ((life.kept ≡ steps_of system life life.history) × LivesKnow terminal number later)
-    ⊎ ((life.kept ≡ steps_of system life before) × NextIsFresh terminal number (entries_of_lives later))
+    ⊎ ((life.kept ≡ steps_of system life before) × FreshUntilTaken terminal number (entries_of_lives later))
 
 -- Behind any stops and restarts an input under a number is answered as accepted before exactly where its step was kept, and is
 -- taken as new exactly where it was not: one that was answered as new is known from then on, in its life and in all behind it;
--- and one in whose call the disk failed is known then where its step counts as kept, and else fresh.
+-- and one in whose call the disk failed is known then where its step counts as kept, and else fresh until it is taken.
 pub record KnowsInputs (system : System) (lives : List LifeState) : Type 0 where
   pub answered :
       (before later : List LifeState) (life : LifeState) (front rest : List Entry) (terminal : List ℕ) (number id : ℕ) (segments : List (List ℕ))

@@ -1,5 +1,5 @@
 -- What is sent again, over the lives of a session: replies.
-use Rattle.std.specs.Prelude.{◌≡◌, ℕ, ◌<◌, ◌==◌, Bool, true, false, not, ◌&&◌, List, [], ◌∷◌, ◌++◌, Some, Ok}
+use Rattle.std.specs.Prelude.{◌≡◌, ◌⊎◌, ℕ, ◌<◌, ◌==◌, Bool, true, false, not, ◌&&◌, List, [], ◌∷◌, ◌++◌, Some, Result, Ok}
 use Rattle.std.specs.List.{list_all, AllByRecursion}
 use Rattle.std.specs.Str.{bytes_eq}
 use Rattle.tm_types.specs.declared.message.Reply.{Reply}
@@ -8,16 +8,17 @@ use Rattle.model_machine.specs.declared.command.Command.TheVariants.{DequeueFirs
 use Rattle.model_machine.specs.declared.entry.ControlCall.{ControlCall}
 use Rattle.model_machine.specs.declared.entry.ControlCall.TheVariants.{Acknowledge, Command}
 use Rattle.model_machine.specs.declared.entry.Entry.{Entry}
+use Rattle.model_machine.specs.declared.entry.Entry.TheVariants.{Show, Acked as AckedEntry}
+use Rattle.model_machine.specs.declared.entry.Acked.{Acked}
 use Rattle.model_machine.specs.declared.entry.Acked.TheVariants.{Removed}
-use Rattle.model_machine.specs.declared.entry.Entry.TheVariants.{Show, Acked}
+use Rattle.model_machine.specs.declared.entry.AckRefused.{AckRefused}
 use Rattle.model_machine.specs.declared.entry.ShowAnswer.TheVariants.{Reply as ShowReply}
-use Rattle.model_messages.specs.declared.replies.TerminalReplies.{TerminalReplies}
-use Rattle.model_messages.specs.Outputs.{AreNumbered}
-use Rattle.model_machine.specs.Machine.{LastingState, Moment, start_of, output_at}
-use Rattle.model_machine.specs.History.{call_of, after_entry}
+use Rattle.model_machine.specs.Machine.{Moment, start_of}
+use Rattle.model_machine.specs.MachineCalls.{ack_answer}
+use Rattle.model_machine.specs.History.{call_of, after_entry, is_fault}
 use Rattle.model_session.specs.Lives.{LifeState, life_moment}
 use Rattle.session_law.specs.ResentInputs.{shown_reply}
-use Rattle.session_law.specs.SentAgain.{alone}
+use Rattle.session_law.specs.SentAgain.{alone, steps_of}
 
 -- a call that takes the terminal's reply of this number away: its acknowledgement, or a command that dequeues replies of the terminal
 abbrev pub takes_reply : List ℕ → ℕ → ControlCall → Bool
@@ -53,16 +54,30 @@ AllShowHigher terminal number entries = AllByRecursion (ShowsHigher terminal num
 abbrev pub LivesShowHigher : List ℕ → ℕ → List LifeState → Type 0
 LivesShowHigher terminal number lives = AllByRecursion (λ life. AllShowHigher terminal number life.history) lives
 
--- the replies that are kept for a terminal have numbers that follow one another, up to its next one
-abbrev pub IsNumbered : List ℕ → LastingState → Type 0
-IsNumbered terminal lasting = (t : TerminalReplies) → output_at lasting.outputs terminal ≡ Some t → AreNumbered t
+-- The disk failed in the call of an acknowledgement that would have removed its reply, which ended the life.
+pub record IsAckInDoubt (system : System) (life : LifeState) (terminal : List ℕ) (number : ℕ) : Type 0 where
+  pub before : List Entry
+  pub answer : Result Acked AckRefused
+  pub all : life.history ≡ before ++ AckedEntry terminal number answer ∷ []
+  pub fault : is_fault (AckedEntry terminal number answer) ≡ true
+  pub removes : ack_answer (life_moment system (alone life) before) terminal number ≡ Ok Removed
 
-abbrev pub BeginsNumbered : List ℕ → List LifeState → Type 0
-BeginsNumbered terminal [] = Unit {0}
-BeginsNumbered terminal (life ∷ lives) = IsNumbered terminal life.opening
+-- The reply of this number is what the terminal was shown at this moment, and is what it is shown on in these lives.
+pub record IsShownOn (system : System) (terminal : List ℕ) (number : ℕ) (moment : Moment) (lives : List LifeState) : Type 0 where
+  pub reply : Reply
+  pub numbered : reply.number ≡ number
+  pub shown : shown_reply terminal moment.lasting ≡ Some reply
+  pub waits : LivesWaitOn system terminal reply lives
+
+-- Its step is kept, and the reply is never shown again; or its step is not, and the terminal is shown the reply on.
+abbrev pub SettlesAck : System → LifeState → List LifeState → (terminal : List ℕ) → (number : ℕ) → List Entry → Type 0
+SettlesAck system life later terminal number before =
+    ((life.kept ≡ steps_of system life life.history) × LivesShowHigher terminal number later)
+    ⊎ ((life.kept ≡ steps_of system life before) × IsShownOn system terminal number (life_moment system (alone life) before) later)
 
 -- Behind any stops and restarts a reply that a terminal was shown is what it is shown again, until it is acknowledged or dequeued. Once
--- it was acknowledged it is never shown again, where the replies of the first life were numbered, as in each image that keeps the rules.
+-- it was acknowledged it is never shown again; and one in the call of whose acknowledgement the disk failed is never shown again where
+-- that one's step counts as kept, and else is what the terminal is shown on.
 pub record ShowsReplies (system : System) (lives : List LifeState) : Type 0 where
   pub again :
       (before later : List LifeState) (life : LifeState) (front rest : List Entry) (terminal : List ℕ) (number : ℕ) (reply : Reply)
@@ -72,5 +87,9 @@ pub record ShowsReplies (system : System) (lives : List LifeState) : Type 0 wher
       × (takes_none terminal reply.number rest ≡ true → LivesWaitOn system terminal reply later)
   pub never :
       (before later : List LifeState) (life : LifeState) (front rest : List Entry) (terminal : List ℕ) (number : ℕ)
-      → BeginsNumbered terminal lives → lives ≡ before ++ life ∷ later → life.history ≡ front ++ Acked terminal number (Ok Removed) ∷ rest
+      → lives ≡ before ++ life ∷ later → life.history ≡ front ++ AckedEntry terminal number (Ok Removed) ∷ rest
       → AllShowHigher terminal number rest × LivesShowHigher terminal number later
+  pub in_doubt :
+      (before later : List LifeState) (life next : LifeState) (terminal : List ℕ) (number : ℕ)
+      → lives ≡ before ++ life ∷ next ∷ later → (doubt : IsAckInDoubt system life terminal number)
+      → SettlesAck system life (next ∷ later) terminal number doubt.before

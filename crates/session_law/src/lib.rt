@@ -11,6 +11,13 @@
 //! is what the terminal is shown. An input is answered, and leaves what lasts, by its first 17 texts and by how many it
 //! has (proofs/Long).
 //!
+//! The same over all lives of a session (specs/SentAgain, ShownAgain; proofs/LifeEnds, Linked, SentAgain, FreshInputs,
+//! ShownAgain, NumberedReplies, AcksInDoubt). A life that ended with a fault is followed by one that opens with what all
+//! its entries led to, or all but the last. So an input in whose call the disk failed is known from then on, or fresh
+//! up to where it is taken; and a reply in the call of whose acknowledgement it failed is never shown again, or is shown
+//! on. An image recovers to a state only with replies whose numbers follow one another, so none that was acknowledged
+//! comes back.
+//!
 //! Serial codes (specs/SerialOrder; proofs/SerialMessages, SerialPicks, SerialSlots, SerialSteps, SerialOrder, FoundInOrder).
 //! At most one region has a message of a serial code, and that is the one with the lowest id. So in the lasting steps
 //! that are kept, over all lives, the messages of such a code are completed or abended in the ascending order of their

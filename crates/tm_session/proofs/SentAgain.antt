@@ -1,8 +1,10 @@
 -- What is sent again in a session is answered by what was kept.
 use Rattle.std.proofs.Common.{◌≡◌, ◌⊎◌, ℕ, Bool, true, false, List, [], ◌∷◌, map, inl, inr}
-use Rattle.std.specs.Prelude.{Option, IsTrue}
-use Rattle.tm_disk.specs.Disk.{DiskState, IsDisk}
+use Rattle.std.specs.Prelude.{Option, Ok, IsTrue}
+use Rattle.tm_disk.specs.Disk.{DiskState, Image, IsDisk}
 use Rattle.model_system.specs.System.{System}
+use Rattle.model_machine.specs.Machine.{LastingState}
+use Rattle.model_image.specs.RecoveredState.{Recovers}
 use Rattle.model_session.specs.Blocks.{Block}
 use Rattle.model_session.specs.Lives.{LifeState}
 use Rattle.model_session.specs.SessionState.{SessionState, Stop}
@@ -10,10 +12,12 @@ use Rattle.model_session.specs.Session.{IsSessionBegun}
 use Rattle.openings.specs.declared.life.Life.{Life}
 use Rattle.session_law.specs.SentAgain.{AreLinked}
 use Rattle.session_law.proofs.Linked.{lives_begin, lives_linked}
-use Rattle.session_law.proofs.SentAgain.{OpenedWith, inputs_known}
-use Rattle.session_law.proofs.NumberedReplies.{replies_shown}
+use Rattle.session_law.proofs.LifeEnds.{OpenedWith}
+use Rattle.session_law.proofs.FreshInputs.{inputs_known}
+use Rattle.session_law.proofs.NumberedReplies.{IsNumbered}
+use Rattle.session_law.proofs.AcksInDoubt.{replies_shown}
 use Rattle.session_law.proofs.SerialOrder.{IsInOrder, ends_in_order}
-use Rattle.session_law.proofs.FoundInOrder.{found_in_order}
+use Rattle.session_law.proofs.FoundInOrder.{found_in_order, found_numbered}
 use Rattle.session_lives.specs.RunningSession.{life_of, session_setting}
 use Rattle.tm_session.specs.declared.outcome.Ended.{Ended}
 use Rattle.tm_session.specs.Outcome.{is_undone, left_if}
@@ -25,12 +29,13 @@ left_either true system others mid last left = inr left
 left_either false system others mid last left = inl left
 
 module _ {D : Type 0} (state : D → DiskState) (is_disk : (disk : D) → IsDisk (state disk)) (handed disk : D) (stops : List Stop) where
-  -- the first life opened with messages in the order of their ids
-  begins_in_order : (system : System) (source : List ℕ) (lives : List LifeState) → IsTrue (state handed).tells → OpenedWith (session_setting state system source handed).begins lives → OpenedWith IsInOrder lives
-  begins_in_order system source [] tells begins = tt
-  begins_in_order system source (life ∷ lives) tells begins =
+  -- the first life opened with what an image recovers to
+  begins_as : (P : LastingState → Type 0) (system : System) (source : List ℕ) (lives : List LifeState) → ((image : Image) (found : LastingState) → Recovers system image (Ok found) → P found) → IsTrue (state handed).tells
+      → OpenedWith (session_setting state system source handed).begins lives → OpenedWith P lives
+  begins_as P system source [] has tells begins = tt
+  begins_as P system source (life ∷ lives) has tells begins =
       let its = begins (state handed).shown ((is_disk handed).shown_left tells) in
-      found_in_order system its.found life.opening its.recovers
+      has its.found life.opening its.recovers
 
   lived : (system : System) (source : List ℕ) (told left old new : Option (List ℕ)) (ended : Ended) (lives : List LifeState) (h : HasLived state system source told left old new handed disk ended lives stops)
       → IsTrue (state handed).tells → AskNoColdStart system h.blocks → IsAnsweredAsKept system lives
@@ -38,15 +43,14 @@ module _ {D : Type 0} (state : D → DiskState) (is_disk : (disk : D) → IsDisk
       let linked : AreLinked system lives =
       lives_linked (session_setting state system source handed) tells h.blocks h.others h.first h.mid h.last h.text lives h.begins h.session
       (left_either (is_undone ended) system h.others h.mid h.last h.unprinted) warm h.lives_are in
-      let begins : OpenedWith IsInOrder lives =
-      begins_in_order system source lives tells
-      (lives_begin (session_setting state system source handed) tells h.blocks h.others h.first h.mid h.last h.text lives h.begins h.session
-      (left_either (is_undone ended) system h.others h.mid h.last h.unprinted) warm h.lives_are) in
+      let begins : OpenedWith (session_setting state system source handed).begins lives =
+      lives_begin (session_setting state system source handed) tells h.blocks h.others h.first h.mid h.last h.text lives h.begins h.session
+      (left_either (is_undone ended) system h.others h.mid h.last h.unprinted) warm h.lives_are in
       record {
         linked = linked;
         inputs = inputs_known system lives linked h.legal;
-        replies = replies_shown system lives linked h.legal;
-        serial = ends_in_order system h.valid lives begins linked;
+        replies = replies_shown system lives (begins_as IsNumbered system source lives (found_numbered system) tells begins) linked h.legal;
+        serial = ends_in_order system h.valid lives (begins_as IsInOrder system source lives (found_in_order system) tells begins) linked;
       }
 
   pub answered_as_kept : (lives : List Life) → AnswersAsKept state handed disk lives stops
