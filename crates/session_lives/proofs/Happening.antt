@@ -1,13 +1,13 @@
 -- One event more happened at a disk, or none.
 use Rattle.std.proofs.Common.{◌≡◌, ℕ, Bool, true, false, List, [], ◌∷◌, ◌++◌, refl, arith}
 use Rattle.std.specs.Prelude.{if◌then◌else◌, Ok, Err}
-use Rattle.tm_disk.specs.Disk.{DiskState, Stays, IsToldToStop, armed}
+use Rattle.tm_disk.specs.Disk.{DiskState, IsToldToStop, armed}
 use Rattle.tm_disk.proofs.Words.{made_none, stays_same, stays_on}
 use Rattle.model_system.specs.System.{System}
 use Rattle.model_machine.specs.declared.entry.Entry.{Entry}
 use Rattle.model_machine.specs.declared.entry.Entry.TheVariants.{Accept, Show, Acked, Turn, Commanded, Checked, Quiet}
 use Rattle.model_session.specs.SessionState.{DiskEvent, DiskPast, stop_armed, told_one}
-use Rattle.model_session.specs.SessionState.DiskEvent.{StopsAt, CutWith, Tells}
+use Rattle.model_session.specs.SessionState.DiskEvent.{StopsAt, Tells}
 use Rattle.session_lives.specs.ToldNumbers.{ShowsTold}
 use Rattle.session_lives.specs.DiskEvents.{GoesOn, Happens, AreEvents}
 

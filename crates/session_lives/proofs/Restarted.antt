@@ -53,7 +53,7 @@ use Rattle.session_lives.specs.declared.place.Kept.{Kept}
 use Rattle.session_lives.specs.declared.place.Session.{Session}
 use Rattle.session_lives.specs.RunningSession.{life_of, last_life_of, last_up, kept_steps, outage_of, session_at, session_of, session_down, session_setting, CountsDown, CountsFirst, LeadsBy, IsBrokenAs, IsRefusedFirst, IsOfDefinition, IsEmptyImage, IsRight, IsOfText, HoldsSession, IsNumberedAt, IsDownSound, IsSessionSound, IsSoundAt, error_of}
 use Rattle.session_lives.specs.ControlCounts.{CountsUp}
-use Rattle.session_lives.specs.ToldNumbers.{numbers_told, numbers_so_far, told_numbers}
+use Rattle.session_lives.specs.ToldNumbers.{numbers_told, numbers_so_far}
 use Rattle.session_lives.proofs.Counting.{stands_more}
 use Rattle.session_lives.proofs.Told.{told_text, one_restart, no_restart}
 use Rattle.session_lives.specs.Openings.{how_of, life_kept_by, with_last_life, HasOpened, StaysIdle, HasFailed, HasGone, RefusesSpent, IsOpeningTold, IsRefusalTold, IsRestartedSo, IsLookedAt, CountsOn, UndoneBy, IsServedSo, asked_restart}
