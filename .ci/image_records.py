@@ -138,7 +138,7 @@ Code = namedtuple("Code", "name stopped class_ priority")
 Change = namedtuple("Change", "unit database slot before after")
 
 U64, BYTE, FLAG = Number(8), Number(1), Number(1, 0, 1)
-NAME, IMAGE, NO_TEXT, ANY_TEXT = Text(1, 1, 8, NAME_BYTES), Text(2, 0, 4000), Text(2, 0, 0), Text(2, 0, 65535)
+NAME, IMAGE, NO_TEXT, ANY_TEXT = Text(1, 1, 8, NAME_BYTES), Text(2, 0, 32000), Text(2, 0, 0), Text(2, 0, 65535)
 SEGMENTS = Choice({count: [Text(2, 0, 1996, PRINTABLE)] * count for count in range(1, 33)})
 PAD = Choice({0: [NO_TEXT], 1: [ANY_TEXT], 2: [NO_TEXT]})
 CONVERSATION = Choice({0: [NO_TEXT], 1: [NAME, ANY_TEXT]})
