@@ -16,11 +16,10 @@ use Rattle.model_messages.specs.Outputs.{outputs_bytes}
 use Rattle.model_machine.specs.declared.lasting.TerminalState.{TerminalState}
 use Rattle.model_machine.specs.declared.lasting.CodeSetting.{CodeSetting}
 use Rattle.log_records.specs.declared.record.Record.{Record}
-use Rattle.log_records.specs.declared.record.Record.TheVariants.{Input, Command, Reply as ReplyRecord, Discarded, Completed, Acknowledged, SyncPoint, Checkpoint, Terminal, Code, Change}
+use Rattle.log_records.specs.declared.record.Record.TheVariants.{Checkpoint, Terminal, Change}
 use Rattle.log_records.specs.RecordSpelling.{number2, record_spelling, record_content, text, conversation_field, record_length, IsConversationSpelled, IsLogRecord}
 use Rattle.log_records.proofs.FieldLaws.{number2_length, number8_length}
 use Rattle.log_records.proofs.Lengths.{eight, one, text_length}
-use Rattle.checkpointing.specs.Changes.{IsChange}
 use Rattle.checkpointing.specs.SnapshotRecords.{terminal_records, code_record, message_record, reply_record, reply_records}
 
 -- ---- bytes of records

@@ -1,4 +1,4 @@
-use Rattle.std.proofs.Common.{◌<◌, arith}
+use Rattle.std.proofs.Common.{arith}
 use Rattle.openings.proofs.Unspent.{none_spent}
 use Rattle.openings.proofs.spending.spent_output.Goals as goal
 

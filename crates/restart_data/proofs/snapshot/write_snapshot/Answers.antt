@@ -2,7 +2,7 @@ use Rattle.std.proofs.Common.{◌≡◌, ℕ, ◌+◌, ◌≤◌, List, length, 
 use Rattle.tm_disk.specs.Disk.{HasWritten}
 use Rattle.tm_disk.proofs.Words.{stays_on}
 use Rattle.tm_disk.proofs.States.{at_ok}
-use Rattle.restart_data.specs.Snapshot.{snapshot_sectors_of, snapshot_sector, snapshot_piece}
+use Rattle.restart_data.specs.Snapshot.{snapshot_sectors_of, snapshot_sector}
 use Rattle.restart_data.proofs.Laying.{HoldsFront, saves, holds_step, changes_follows, changes_within}
 use Rattle.restart_data.proofs.snapshot.write_snapshot.Goals as goal
 
