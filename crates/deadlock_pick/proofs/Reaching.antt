@@ -1,4 +1,4 @@
--- The regions that a region reaches: where none of them waits for it, it is in no ring.
+-- The regions that reach a region: where it waits for none of them, it is in no ring.
 use Rattle.std.proofs.Common.{◌≡◌, ℕ, ◌<◌, ◌≤◌, ◌+◌, ◌∷◌, [], ◌++◌, List, refl, sym, ap, subst, ◌∙◌, arith, Bool, true, false, not, ◌&&◌, ◌||◌, eqb, length, zero, suc, ⊎_elim, append_assoc, length-append}
 use Rattle.std.specs.Prelude.{nat_eq, Option, None, Some, slice_get, if◌then◌else◌}
 use Rattle.std.specs.List.{AllByRecursion, list_any}
@@ -9,14 +9,14 @@ use Rattle.std.proofs.lemmas.Map.Keys.{IsDistinct-cons, IsDistinct-push}
 use Rattle.model_data.specs.Table.{EnqueueTable, waits_for}
 use Rattle.model_data.specs.Cycle.{IsTableRegion, WaitsAlong, HasNoCycle}
 use Rattle.deadlock_pick.specs.Way.{BeginsWith}
-use Rattle.deadlock_pick.specs.Reached.{AreRegions, WaitsWithin, with_next}
+use Rattle.deadlock_pick.specs.Reached.{AreRegions, IsWaitedForWithin, with_next}
 use Rattle.deadlock_pick.proofs.Ways.{each, few_regions, distinct_none, append_nil}
 use Rattle.pi_enqueue.proofs.Granting.{clash}
 
--- a region that was looked at: it doesn't wait for this one, and for none but those that are reached
+-- a region that was looked at: this one doesn't wait for it, and none does but those that are there
 pub record IsLookedAt (table : EnqueueTable) (region : ℕ) (reached : List ℕ) (from : ℕ) : Type 0 where
-  pub open_end : waits_for from region table ≡ false
-  pub within : WaitsWithin table reached from
+  pub open_end : waits_for region from table ≡ false
+  pub within : IsWaitedForWithin table reached from
 
 -- so was each one before a place
 abbrev pub AreLookedAt : EnqueueTable → ℕ → List ℕ → ℕ → Type 0
@@ -65,7 +65,7 @@ on_more x xs ys b h = ap (list_any (nat_eq x)) b.whole ∙ any_front (nat_eq x) 
 -- ---- one region more
 module _ (T : EnqueueTable) (from next : ℕ) (old new : List ℕ) (is : new ≡ with_next T from next old) (there : IsTableRegion T next) where
   pub next_regions : AreRegions T old → AreRegions T new
-  next_regions h = subst (AreRegions T) (sym is) (by (list_any (nat_eq next) old) (waits_for from next T) refl)
+  next_regions h = subst (AreRegions T) (sym is) (by (list_any (nat_eq next) old) (waits_for next from T) refl)
     where
       by : (a b : Bool) → list_any (nat_eq next) old ≡ a → AreRegions T (if not a && b then old ++ next ∷ [] else old)
       by true b e = h
@@ -76,29 +76,29 @@ module _ (T : EnqueueTable) (from next : ℕ) (old new : List ℕ) (is : new ≡
       by false false e = h
 
   pub next_begins : BeginsWith old new
-  next_begins = subst (BeginsWith old) (sym is) (by (not (list_any (nat_eq next) old) && waits_for from next T))
+  next_begins = subst (BeginsWith old) (sym is) (by (not (list_any (nat_eq next) old) && waits_for next from T))
     where
       by : (b : Bool) → BeginsWith old (if b then old ++ next ∷ [] else old)
       by true = record { rest = next ∷ []; whole = refl }
       by false = begins_same old
 
-  next_on : waits_for from next T ≡ true → list_any (nat_eq next) new ≡ true
-  next_on w = ap (list_any (nat_eq next)) is ∙ by (list_any (nat_eq next) old) (waits_for from next T) refl w
+  next_on : waits_for next from T ≡ true → list_any (nat_eq next) new ≡ true
+  next_on w = ap (list_any (nat_eq next)) is ∙ by (list_any (nat_eq next) old) (waits_for next from T) refl w
     where
       by : (a b : Bool) → list_any (nat_eq next) old ≡ a → b ≡ true → list_any (nat_eq next) (if not a && b then old ++ next ∷ [] else old) ≡ true
       by true b e w = e
       by false true e w = any_last next old
       by false false e w = clash (sym w)
 
-  pub next_all : ((m : ℕ) → m < next → IsTableRegion T m → waits_for from m T ≡ true → list_any (nat_eq m) old ≡ true)
-      → (m : ℕ) → m < next + 1 → IsTableRegion T m → waits_for from m T ≡ true → list_any (nat_eq m) new ≡ true
+  pub next_all : ((m : ℕ) → m < next → IsTableRegion T m → waits_for m from T ≡ true → list_any (nat_eq m) old ≡ true)
+      → (m : ℕ) → m < next + 1 → IsTableRegion T m → waits_for m from T ≡ true → list_any (nat_eq m) new ≡ true
   next_all below m h r w =
-      ⊎_elim (λ (e : m ≡ next). subst (λ n. list_any (nat_eq n) new ≡ true) (sym e) (next_on (subst (λ n. waits_for from n T ≡ true) e w)))
+      ⊎_elim (λ (e : m ≡ next). subst (λ n. list_any (nat_eq n) new ≡ true) (sym e) (next_on (subst (λ n. waits_for n from T ≡ true) e w)))
       (⊎_elim (λ (l : m < next). on_more m old new next_begins (below m l r w)) (λ (l : next < m). absurd (omega arith))) (cases_order m next)
 
 -- what isn't among distinct regions of the table has room behind them
 pub has_room : (T : EnqueueTable) (from next : ℕ) (old : List ℕ) → T.regions ≤ 8 → IsTableRegion T next → AreRegions T old
-    → not (list_any (nat_eq next) old) && waits_for from next T ≡ true → length old < 8
+    → not (list_any (nat_eq next) old) && waits_for next from T ≡ true → length old < 8
 has_room T from next old few there h goes =
     let longer = next_regions T from next old (old ++ next ∷ []) (sym (ap (λ b. if b then old ++ next ∷ [] else old) goes)) there h in
     let n : length (old ++ next ∷ []) ≤ T.regions = few_regions T (old ++ next ∷ []) longer.distinct (each (IsTableRegion T) (old ++ next ∷ []) longer.regions) in
@@ -114,8 +114,8 @@ region_alone T region reached e h = subst (AreRegions T) (sym e) (record {
 })
 
 -- ---- one that is looked at more
-pub looked_on : (T : EnqueueTable) (region : ℕ) (old new : List ℕ) (place from : ℕ) → AreLookedAt T region old place → slice_get old place ≡ Some from → waits_for from region T ≡ false
-    → BeginsWith old new → WaitsWithin T new from → AreLookedAt T region new (place + 1)
+pub looked_on : (T : EnqueueTable) (region : ℕ) (old new : List ℕ) (place from : ℕ) → AreLookedAt T region old place → slice_get old place ≡ Some from → waits_for region from T ≡ false
+    → BeginsWith old new → IsWaitedForWithin T new from → AreLookedAt T region new (place + 1)
 looked_on T region old new place from seen at out more all i x h e =
     ⊎_elim (λ (s : i ≡ place). here s) (⊎_elim (λ (l : i < place). before l) (λ (l : place < i). absurd (omega arith))) (cases_order i place)
   where
@@ -156,19 +156,23 @@ module _ (T : EnqueueTable) (region : ℕ) (reached : List ℕ) (place : ℕ) (s
       one_of (IsLookedAt T region reached) from reached
       (every (IsLookedAt T region reached) reached (λ i x e. let l = get_within reached i x e in seen i x (omega (arith, l, get_past reached place past)) e)) on
 
-  along : (from : ℕ) (others : List ℕ) → list_any (nat_eq from) reached ≡ true → AllByRecursion (IsTableRegion T) others → WaitsAlong T from others region → ⊥
-  along from [] on there w = let it = looked_at from on in clash (sym w ∙ it.open_end)
-  along from (next ∷ others) on there w =
-      let it = looked_at from on in along next others (it.within next there.0 w.0) there.1 w.1
-
   region_on : list_any (nat_eq region) reached ≡ true
   region_on = on_more region (region ∷ []) reached first (any_last region [])
 
+  -- who waits along a way for the region is there
+  along : (from : ℕ) (others : List ℕ) → IsTableRegion T from → AllByRecursion (IsTableRegion T) others → WaitsAlong T from others region → list_any (nat_eq from) reached ≡ true
+  along from [] is there w = let it = looked_at region region_on in it.within from is w
+  along from (next ∷ others) is there w =
+      let it = looked_at next (along next others there.0 there.1 w.1) in it.within from is w.0
+
+  closed : (others : List ℕ) → AllByRecursion (IsTableRegion T) others → WaitsAlong T region others region → ⊥
+  closed [] there w = let it = looked_at region region_on in clash (sym w ∙ it.open_end)
+  closed (next ∷ others) there w =
+      let it = looked_at next (along next others there.0 there.1 w.1) in clash (sym w.0 ∙ it.open_end)
+
   pub no_cycle : HasNoCycle T region
   no_cycle [] c = absurd c
-  no_cycle (r ∷ others) c =
-      along region others region_on (each (IsTableRegion T) others c.1.regions)
-      (subst (λ r. WaitsAlong T r others r) c.0 c.1.waits)
+  no_cycle (r ∷ others) c = closed others (each (IsTableRegion T) others c.1.regions) (subst (λ r. WaitsAlong T r others r) c.0 c.1.waits)
 
 pub get_on : (xs : List ℕ) (i x : ℕ) (o : Option ℕ) → o ≡ slice_get xs i → o ≡ Some x → i < length xs
 get_on xs i x o e f = get_within xs i x (sym e ∙ f)

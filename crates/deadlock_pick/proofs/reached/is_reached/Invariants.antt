@@ -6,9 +6,9 @@ use Rattle.deadlock_pick.proofs.reached.is_reached.Given as goal
 
 abbrev pub invariant-loop-from : goal.invariant-loop-from
 invariant-loop-from l = record {
-  regions : AreRegions l.table l.reached;
-  first : BeginsWith (l.region ∷ []) l.reached;
-  seen : AreLookedAt l.table l.region l.reached l.place;
+  regions : AreRegions l.table l.reaching;
+  first : BeginsWith (l.region ∷ []) l.reaching;
+  seen : AreLookedAt l.table l.region l.reaching l.place;
 }
 
 abbrev pub decreases-loop-from : goal.decreases-loop-from
