@@ -1,5 +1,5 @@
 -- A reply in the call of whose acknowledgement the disk failed is never shown again, or is shown on.
-use Rattle.std.proofs.Common.{◌≡◌, ◌⊎◌, inl, inr, ⊎_elim, ℕ, ◌+◌, true, List, [], ◌∷◌, ◌++◌, Option, Some, None, refl, sym, ap, ◌∙◌, subst}
+use Rattle.std.proofs.Common.{◌≡◌, ◌⊎◌, inl, inr, ⊎_elim, ℕ, ◌+◌, true, List, ◌∷◌, Option, Some, None, refl, sym, ap, ◌∙◌, subst}
 use Rattle.std.specs.Prelude.{Ok, slice_get}
 use Rattle.std.specs.Option.{is_some, option_and_then, option_map_or}
 use Rattle.tm_types.specs.declared.message.Reply.{Reply}
@@ -8,14 +8,14 @@ use Rattle.model_messages.specs.declared.replies.TerminalReplies.{TerminalReplie
 use Rattle.model_machine.specs.declared.entry.Acked.TheVariants.{Removed}
 use Rattle.model_machine.specs.declared.entry.Entry.{Entry}
 use Rattle.model_machine.specs.declared.entry.Entry.TheVariants.{Acked as AckedEntry}
-use Rattle.model_machine.specs.Machine.{LastingState, Moment, start_of, output_at}
+use Rattle.model_machine.specs.Machine.{Moment, start_of, output_at}
 use Rattle.model_machine.specs.MachineCalls.{ack_by}
 use Rattle.model_machine.specs.History.{after_entry}
 use Rattle.model_machine.proofs.Histories.{moment_after-append}
 use Rattle.model_session.specs.Lives.{LifeState, AreLegal, life_moment}
 use Rattle.session_law.specs.ResentInputs.{shown_reply}
 use Rattle.session_law.specs.SentAgain.{alone, AreLinked}
-use Rattle.session_law.specs.ShownAgain.{IsAckInDoubt, IsShownOn, SettlesAck, ShowsReplies}
+use Rattle.session_law.specs.ShownAgain.{IsAckInDoubt, SettlesAck, ShowsReplies}
 use Rattle.session_law.proofs.LifeEnds.{OpensAfter, opened_in_doubt, linked_behind, legal_behind, OpenedWith}
 use Rattle.session_law.proofs.ShownAgain.{lives_wait, shown_on}
 use Rattle.session_law.proofs.NumberedReplies.{IsNumbered, AreFrom, from_after, lives_higher, numbered_behind, begins_from, first_is, gone_then, gone_for_good}

@@ -2,7 +2,6 @@
 use Rattle.std.proofs.Common.{◌≡◌, ◌⊎◌, inl, inr, ⊎_elim, ℕ, ◌+◌, ◌<◌, Bool, true, false, not, ◌&&◌, List, [], ◌∷◌, ◌++◌, refl, sym, ap, ◌∙◌, subst, arith, nat_lt}
 use Rattle.std.specs.Prelude.{Option, Some, None, Result, Ok, Err, nat_le, ◌==◌, if◌then◌else◌}
 use Rattle.std.specs.Option.{is_some, option_map_or, option_and_then, option_or, unwrap_or}
-use Rattle.std.specs.List.{AllByRecursion}
 use Rattle.std.specs.Str.{bytes_eq}
 use Rattle.std.proofs.lemmas.Bool.{eq-eqb, eqb-true}
 use Rattle.std.proofs.lemmas.Bool.Decides.{nat_tests}
@@ -27,12 +26,12 @@ use Rattle.model_machine.specs.CommandAnswers.{state_now}
 use Rattle.model_machine.specs.MachineCalls.{Refusal, by_number, busy_by, most_segments, by_count, accepted_step, input_answer}
 use Rattle.model_machine.specs.History.{May, AreSteps, IsEnd, after_entry, history_ended_by, is_fault, moment_after}
 use Rattle.model_machine.proofs.Histories.{moment_after-append}
-use Rattle.model_session.specs.Lives.{LifeState, LifeLeaves, AreLegal, life_moment}
+use Rattle.model_session.specs.Lives.{LifeState, AreLegal, life_moment}
 use Rattle.session_law.specs.ResentInputs.{last_number_of}
 use Rattle.session_law.specs.SentAgain.{alone, OpensBehind, AreLinked, entries_of_lives, IsFresh, AllKnow, LivesKnow, IsFreshInput, takes_input, fails_input, FreshUntilTaken, IsInDoubt, SettlesDoubt, KnowsInputs}
 use Rattle.session_law.proofs.Inputs.{Reached, answer_by, later_refusals, next_by, there_by, taken}
 use Rattle.session_law.proofs.Again.{Stands, last_kept, input_leaves}
-use Rattle.session_law.proofs.LifeEnds.{apart, EndHas, life_leaves, OpensAfter, opened_in_doubt, linked_behind, legal_behind, OpenedWith, opened_behind, opened_either}
+use Rattle.session_law.proofs.LifeEnds.{apart, life_leaves, OpensAfter, opened_in_doubt, linked_behind, legal_behind, OpenedWith, opened_behind, opened_either}
 use Rattle.session_law.proofs.SentAgain.{answers_input, same_terminal, lives_know, above_none, answered_known}
 
 -- ---- answers to inputs

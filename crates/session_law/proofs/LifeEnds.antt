@@ -6,7 +6,7 @@ use Rattle.std.proofs.lemmas.List.Folds.{list_all-append}
 use Rattle.model_system.specs.System.{System}
 use Rattle.model_machine.specs.declared.entry.Entry.{Entry}
 use Rattle.model_machine.specs.Machine.{LastingState, Moment, start_of}
-use Rattle.model_machine.specs.History.{AreSteps, call_of, after_entry, history_ended_by, is_fault, moment_after}
+use Rattle.model_machine.specs.History.{AreSteps, call_of, after_entry, history_ended_by, is_fault}
 use Rattle.model_machine.proofs.Histories.{moment_after-append}
 use Rattle.model_session.specs.Lives.{LifeState, LifeLeaves, IsLegalLife, AreLegal, life_moment}
 use Rattle.model_session.proofs.Unfaulted.{unfaulted}

@@ -1,20 +1,11 @@
 -- An input that is sent again is answered by what was kept.
-use Rattle.std.proofs.Common.{◌≡◌, ◌⊎◌, inl, inr, ⊎_elim, ℕ, ◌+◌, ◌-◌, ◌<◌, ◌≤◌, Bool, true, false, not, ◌&&◌, List, [], ◌∷◌, ◌++◌, refl, sym, ap, ◌∙◌, subst, arith, append_assoc, nat_lt}
+use Rattle.std.proofs.Common.{◌≡◌, ℕ, ◌+◌, ◌-◌, ◌<◌, ◌≤◌, Bool, true, false, List, [], ◌∷◌, ◌++◌, refl, sym, ap, ◌∙◌, subst, arith, append_assoc, nat_lt}
 use Rattle.std.specs.Prelude.{Option, Some, None, Result, Ok, Err, nat_le, if◌then◌else◌}
-use Rattle.std.specs.List.{list_all}
-use Rattle.std.specs.Option.{is_some, option_map_or, option_and_then, option_or, unwrap_or}
+use Rattle.std.specs.Option.{option_map_or, option_or, unwrap_or}
 use Rattle.std.specs.Str.{bytes_eq}
 use Rattle.std.proofs.lemmas.Bool.Decides.{nat_tests}
 use Rattle.std.proofs.lemmas.Slice.Eq.{bytes_eq-Decides}
-use Rattle.std.proofs.lemmas.List.Folds.{list_all-append}
-use Rattle.tm_types.specs.Segment.{counted_bytes}
-use Rattle.model_system.specs.declared.code.Code.{Code}
-use Rattle.model_system.specs.Codes.{code_at}
 use Rattle.model_system.specs.System.{System}
-use Rattle.model_messages.specs.declared.conversation.Conversation.{Conversation}
-use Rattle.model_messages.specs.ConversationInput.{busy_id}
-use Rattle.model_messages.specs.Room.{input_needs}
-use Rattle.model_messages.specs.Terminals.{conversation_at}
 use Rattle.model_machine.specs.declared.lasting.TerminalState.{TerminalState}
 use Rattle.model_machine.specs.declared.entry.Entry.{Entry}
 use Rattle.model_machine.specs.declared.entry.Entry.TheVariants.{Accept, Show, Acked as AckedEntry, Turn as TurnEntry, Commanded, Checked, Quiet}
@@ -22,16 +13,12 @@ use Rattle.model_machine.specs.declared.entry.Taken.{Taken}
 use Rattle.model_machine.specs.declared.entry.Taken.TheVariants.{New, Already}
 use Rattle.model_machine.specs.declared.entry.InputRefused.{InputRefused}
 use Rattle.model_machine.specs.declared.entry.InputRefused.TheVariants.{Terminal as NoTerminal, StoppedTerminal, Expected, Conversation as Conversing, Code as NoCode, StoppedCode, SegmentsOver, QueueFull, Fault}
-use Rattle.model_machine.specs.Machine.{LastingState, Moment, start_of, terminal_at, content, busy_slots}
-use Rattle.model_machine.specs.LastingSteps.{kept_input}
-use Rattle.model_machine.specs.CommandAnswers.{state_now}
-use Rattle.model_machine.specs.MachineCalls.{Refusal, by_number, busy_by, most_segments, by_count, input_answer}
-use Rattle.model_machine.specs.History.{May, AreSteps, IsEnd, call_of, after_entry, history_ended_by, is_fault, moment_after}
-use Rattle.model_machine.proofs.Histories.{moment_after-append}
-use Rattle.model_session.specs.Lives.{LifeState, LastLife, LifeLeaves, AreLegal, life_moment, longer}
-use Rattle.model_session.proofs.Unfaulted.{unfaulted}
-use Rattle.session_law.specs.ResentInputs.{last_number_of, any_call, spares_input}
-use Rattle.session_law.specs.SentAgain.{alone, OpensBehind, AreLinked, steps_of, entries_of_lives, IsInputKnown, IsFresh, KnowsInput, AllKnow, LivesKnow}
+use Rattle.model_machine.specs.Machine.{Moment, start_of, terminal_at}
+use Rattle.model_machine.specs.MachineCalls.{Refusal, by_number, input_answer}
+use Rattle.model_machine.specs.History.{May, AreSteps, IsEnd, after_entry, history_ended_by, is_fault, moment_after}
+use Rattle.model_session.specs.Lives.{LifeState, LastLife, AreLegal, longer}
+use Rattle.session_law.specs.ResentInputs.{last_number_of, any_call}
+use Rattle.session_law.specs.SentAgain.{alone, AreLinked, IsInputKnown, KnowsInput, AllKnow, LivesKnow}
 use Rattle.session_law.proofs.Sessions.{Leaving, begun, leaves_with, more}
 use Rattle.session_law.proofs.LifeEnds.{head_is, tail_is, none_there, apart, ended_more, all_any, OpenedWith, opened_behind}
 use Rattle.session_law.proofs.Inputs.{Reached, answer_by, later_refusals, next_by, there_by, numbers_kept, taken}
