@@ -1,5 +1,6 @@
 use Rattle.std.proofs.Common.{length, sym, subst}
 use Rattle.tm_disk.specs.Disk.{Within, Follows}
+use Rattle.tm_disk.proofs.Words.{stays_on}
 use Rattle.restart_data.specs.Snapshot as snapshot
 use Rattle.log_writer.specs.ForcedLog.{AddsAll}
 use Rattle.checkpointing.specs.CheckpointParts.{checkpoint_parts_of}
@@ -33,3 +34,11 @@ returns-clause-any_moment g c =
     (within_slots parts c.args.log.now c.args.stores.now c.requires.stores old mid next c.force.ensures.any_moment forced (subst (λ f. Within (MayPut f (changed_bytes c.args.stores.now)) mid next) c.requires.first c.write_slots.ensures.any_moment))
     (follows_slots parts c.args.log.now c.args.stores.now c.requires.stores old mid next forced holds)
     c.save_snapshot.ensures.any_moment
+
+pub returns-clause-stays : goal.returns-clause-stays
+returns-clause-stays g c =
+    let old = g.D.Disk.state c.args.disk.now in
+    let mid = g.D.Disk.state c.force.new.disk in
+    let next = g.D.Disk.state c.write_slots.new.disk in
+    let new = g.D.Disk.state c.save_snapshot.new.disk in
+    stays_on old mid new c.force.ensures.stays (stays_on mid next new c.write_slots.ensures.stays c.save_snapshot.ensures.stays)

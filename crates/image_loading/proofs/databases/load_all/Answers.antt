@@ -77,3 +77,19 @@ returns-in-None-clause-value g c tells =
     let all = slots_of_databases system old.shown c.args.given.now 0 system.databases in
     let whole : take c.loop-place.place all ≡ all = take_all c.loop-place.place all (omega (arith, c.loop-place-test.false, ap length c.databases-databases.ensures.value, count_databases system old.shown c.args.given.now 0 system.databases c.requires.count)) in
     (ap slot_fault (sym whole) ∙ sym (c.loop-place.invariant.fault tells) ∙ (sym c.broken_in.ensures ∙ c.in-None.is), subst (λ l. AreSlotted l c.loop-place.loaded.stores) whole (c.loop-place.invariant.slotted tells ((sym c.broken_in.ensures ∙ c.in-None.is))))
+
+pub add-requires-clause-area : goal.add-requires-clause-area
+add-requires-clause-area g c =
+    let place = c.loop-place.place in
+    let dbd = c.index-databases-place.result in
+    let found : slice_get c.args.system.now.databases place ≡ Some dbd = subst (λ l. slice_get l place ≡ Some dbd) c.databases-databases.ensures.value (slice_get_read c.databases-databases.result.now (length c.databases-databases.result.now) place dbd refl c.loop-place-test.true c.index-databases-place.is) in
+    let old = g.D.Disk.state c.args.disk.now in
+    omega (arith, c.loop-place.invariant.first, c.loop-place.invariant.keeps.stays.size, first_fits c.args.system.now place dbd old.size found c.requires.areas)
+
+pub returns-in-Err-Disk-clause-keeps : goal.returns-in-Err-Disk-clause-keeps
+returns-in-Err-Disk-clause-keeps g c =
+    keeps_on (g.D.Disk.state c.args.disk.now) (g.D.Disk.state c.loop-place.disk) (g.D.Disk.state c.add.new.disk) (g.met.D.Disk.is_disk c.args.disk.now) c.loop-place.invariant.keeps c.add.ensures.keeps
+
+pub returns-in-Err-Memory-clause-keeps : goal.returns-in-Err-Memory-clause-keeps
+returns-in-Err-Memory-clause-keeps g c =
+    keeps_on (g.D.Disk.state c.args.disk.now) (g.D.Disk.state c.loop-place.disk) (g.D.Disk.state c.add.new.disk) (g.met.D.Disk.is_disk c.args.disk.now) c.loop-place.invariant.keeps c.add.ensures.keeps

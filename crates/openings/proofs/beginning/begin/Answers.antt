@@ -1,5 +1,6 @@
 use Rattle.std.proofs.Common.{◌<◌, sym, arith, IsTrue}
 use Rattle.tm_disk.specs.Disk.{Follows, Only}
+use Rattle.tm_disk.proofs.Words.{stays_on}
 use Rattle.openings.specs.ColdWrites.{Clears, IsLaid}
 use Rattle.openings.proofs.ThreeSteps.{begins_second, prepared, begins_third, written_all, on_ok}
 use Rattle.openings.proofs.beginning.begin.Goals as goal
@@ -49,3 +50,11 @@ returns-clause-done g c =
     (written_all places text bytes now old old_disk some c.requires.value c.requires.short c.requires.first (omega (arith, c.requires.apart)) last new
     (prepared places text bytes now old old_disk some mid last mid_disk last_disk c.lay.ensures.stays.tells cleared c.lay.ensures.follows shown only))
     c.write_restart.ensures.done
+
+pub returns-clause-stays : goal.returns-clause-stays
+returns-clause-stays g c =
+    let old = g.D.Disk.state c.args.disk.now in
+    let mid = g.D.Disk.state c.clear_restart.new.disk in
+    let last = g.D.Disk.state c.lay.new.disk in
+    let new = g.D.Disk.state c.write_restart.new.disk in
+    stays_on old mid new c.clear_restart.ensures.stays (stays_on mid last new c.lay.ensures.stays c.write_restart.ensures.stays)
