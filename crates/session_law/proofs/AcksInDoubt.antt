@@ -14,7 +14,7 @@ use Rattle.model_machine.specs.History.{after_entry}
 use Rattle.model_machine.proofs.Histories.{moment_after-append}
 use Rattle.model_session.specs.Lives.{LifeState, AreLegal, life_moment}
 use Rattle.session_law.specs.ResentInputs.{shown_reply}
-use Rattle.session_law.specs.SentAgain.{alone, AreLinked}
+use Rattle.session_law.specs.SentAgain.{alone, AreLeft}
 use Rattle.session_law.specs.ShownAgain.{IsAckInDoubt, SettlesAck, ShowsReplies}
 use Rattle.session_law.proofs.LifeEnds.{OpensAfter, opened_in_doubt, linked_behind, legal_behind, OpenedWith}
 use Rattle.session_law.proofs.ShownAgain.{lives_wait, shown_on}
@@ -36,7 +36,7 @@ first_reply system terminal number (Some t) e =
     let its = first_is terminal system number (Some t) t refl e in
     first_by number t.next (slice_get t.replies 0) its.1 its.0
 
-module _ (system : System) (terminal : List ℕ) (number : ℕ) (life next : LifeState) (later : List LifeState) (linked : AreLinked system (life ∷ next ∷ later)) (legal : AreLegal system (life ∷ next ∷ later)) (doubt : IsAckInDoubt system life terminal number) where
+module _ (system : System) (terminal : List ℕ) (number : ℕ) (life next : LifeState) (later : List LifeState) (linked : AreLeft system (life ∷ next ∷ later)) (legal : AreLegal system (life ∷ next ∷ later)) (doubt : IsAckInDoubt system life terminal number) where
   abbrev entry : Entry
   entry = AckedEntry terminal number doubt.answer
 
@@ -71,16 +71,16 @@ module _ (system : System) (terminal : List ℕ) (number : ℕ) (life next : Lif
 
 -- ---- all of it
 
-pub replies_shown : (system : System) (lives : List LifeState) → OpenedWith IsNumbered lives → AreLinked system lives → AreLegal system lives → ShowsReplies system lives
+pub replies_shown : (system : System) (lives : List LifeState) → OpenedWith IsNumbered lives → AreLeft system lives → AreLegal system lives → ShowsReplies system lives
 replies_shown system lives begins linked legal = record {
   again = λ before later life front rest terminal number reply split all has.
-      shown_on terminal reply system life later front rest number (linked_behind system before (life ∷ later) (subst (AreLinked system) split linked)) all has;
+      shown_on terminal reply system life later front rest number (linked_behind system before (life ∷ later) (subst (AreLeft system) split linked)) all has;
   never = λ before later life front rest terminal number split all.
       gone_for_good terminal system number life later front rest
-      (linked_behind system before (life ∷ later) (subst (AreLinked system) split linked)) (legal_behind system before (life ∷ later) (subst (AreLegal system) split legal))
-      (numbered_behind terminal system before (life ∷ later) (subst (OpenedWith (AreFrom terminal 0)) split (begins_from terminal lives begins)) (subst (AreLinked system) split linked)) all;
+      (linked_behind system before (life ∷ later) (subst (AreLeft system) split linked)) (legal_behind system before (life ∷ later) (subst (AreLegal system) split legal))
+      (numbered_behind terminal system before (life ∷ later) (subst (OpenedWith (AreFrom terminal 0)) split (begins_from terminal lives begins)) (subst (AreLeft system) split linked)) all;
   in_doubt = λ before later life next terminal number split doubt.
       ack_settled system terminal number life next later
-      (linked_behind system before (life ∷ next ∷ later) (subst (AreLinked system) split linked)) (legal_behind system before (life ∷ next ∷ later) (subst (AreLegal system) split legal)) doubt
-      (numbered_behind terminal system before (life ∷ next ∷ later) (subst (OpenedWith (AreFrom terminal 0)) split (begins_from terminal lives begins)) (subst (AreLinked system) split linked));
+      (linked_behind system before (life ∷ next ∷ later) (subst (AreLeft system) split linked)) (legal_behind system before (life ∷ next ∷ later) (subst (AreLegal system) split legal)) doubt
+      (numbered_behind terminal system before (life ∷ next ∷ later) (subst (OpenedWith (AreFrom terminal 0)) split (begins_from terminal lives begins)) (subst (AreLeft system) split linked));
 }

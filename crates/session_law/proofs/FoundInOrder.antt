@@ -143,3 +143,7 @@ module _ (system : System) where
 
   pub found_numbered : (image : Image) (state : LastingState) → Recovers system image (Ok state) → IsNumbered state
   found_numbered image state recovers = all_numbered state.outputs (found_so image state recovers).1
+
+  -- and so it is in the empty state
+  pub empty_numbered : IsNumbered (empty_state system)
+  empty_numbered = all_numbered (empty_state system).outputs (fresh_run system.terminals)

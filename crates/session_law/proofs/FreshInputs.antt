@@ -28,7 +28,7 @@ use Rattle.model_machine.specs.History.{May, AreSteps, IsEnd, after_entry, histo
 use Rattle.model_machine.proofs.Histories.{moment_after-append}
 use Rattle.model_session.specs.Lives.{LifeState, AreLegal, life_moment}
 use Rattle.session_law.specs.ResentInputs.{last_number_of}
-use Rattle.session_law.specs.SentAgain.{alone, OpensBehind, AreLinked, entries_of_lives, IsFresh, AllKnow, LivesKnow, IsFreshInput, takes_input, fails_input, FreshUntilTaken, IsInDoubt, SettlesDoubt, KnowsInputs}
+use Rattle.session_law.specs.SentAgain.{alone, IsLeftBy, AreLeft, entries_of_lives, IsFresh, AllKnow, LivesKnow, IsFreshInput, takes_input, fails_input, FreshUntilTaken, IsInDoubt, SettlesDoubt, KnowsInputs}
 use Rattle.session_law.proofs.Inputs.{Reached, answer_by, later_refusals, next_by, there_by, taken}
 use Rattle.session_law.proofs.Again.{Stands, last_kept, input_leaves}
 use Rattle.session_law.proofs.LifeEnds.{apart, life_leaves, OpensAfter, opened_in_doubt, linked_behind, legal_behind, OpenedWith, opened_behind, opened_either}
@@ -263,7 +263,7 @@ module _ (system : System) (terminal : List ℕ) (number last : ℕ) (next : num
   some_number = omega (arith, next)
 
   -- behind a life, where it isn't taken in it
-  module _ (life : LifeState) (lives : List LifeState) (opens : OpensBehind system life lives) (linked : AreLinked system lives) (legal : AreLegal system lives) (fresh : OpenedWith (Stands terminal last) lives → FreshUntilTaken terminal number (entries_of_lives lives)) where
+  module _ (life : LifeState) (lives : List LifeState) (opens : IsLeftBy system life lives) (linked : AreLeft system lives) (legal : AreLegal system lives) (fresh : OpenedWith (Stands terminal last) lives → FreshUntilTaken terminal number (entries_of_lives lives)) where
     failed_behind : (steps : List Entry) (entry : Entry) → life.history ≡ history_ended_by steps (Some entry) → AreSteps system (start_of system life.opening) steps → is_fault entry ≡ true
         → Stands terminal last (life_moment system (alone life) steps).lasting → (b : Bool) → fails_input terminal number entry ≡ b → GoesOn (Some entry) (entries_of_lives lives)
     failed_behind steps entry all steps_legal fault stands false fails =
@@ -281,7 +281,7 @@ module _ (system : System) (terminal : List ℕ) (number last : ℕ) (next : num
     goes_behind steps None all steps_legal is stands = fresh (opened_behind system (Stands terminal last) life lives (life_leaves system (Stands terminal last) life steps None all steps_legal stands tt) opens)
     goes_behind steps (Some entry) all steps_legal is stands = failed_behind steps entry all steps_legal is.0 stands (fails_input terminal number entry) refl
 
-  lives_fresh : (lives : List LifeState) → OpenedWith (Stands terminal last) lives → AreLinked system lives → AreLegal system lives → FreshUntilTaken terminal number (entries_of_lives lives)
+  lives_fresh : (lives : List LifeState) → OpenedWith (Stands terminal last) lives → AreLeft system lives → AreLegal system lives → FreshUntilTaken terminal number (entries_of_lives lives)
   lives_fresh [] stands linked legal = tt
   lives_fresh (life ∷ lives) stands linked legal =
       let its = legal.0.legal in
@@ -291,7 +291,7 @@ module _ (system : System) (terminal : List ℕ) (number last : ℕ) (next : num
 
 -- ---- one in whose call the disk failed
 
-module _ (system : System) (terminal : List ℕ) (number : ℕ) (life next : LifeState) (later : List LifeState) (linked : AreLinked system (life ∷ next ∷ later)) (legal : AreLegal system (life ∷ next ∷ later)) (doubt : IsInDoubt system life terminal number) where
+module _ (system : System) (terminal : List ℕ) (number : ℕ) (life next : LifeState) (later : List LifeState) (linked : AreLeft system (life ∷ next ∷ later)) (legal : AreLegal system (life ∷ next ∷ later)) (doubt : IsInDoubt system life terminal number) where
   abbrev entry : Entry
   entry = Accept terminal number doubt.segments doubt.answer
 
@@ -328,12 +328,12 @@ module _ (system : System) (terminal : List ℕ) (number : ℕ) (life next : Lif
 
 -- ---- all of it
 
-pub inputs_known : (system : System) (lives : List LifeState) → AreLinked system lives → AreLegal system lives → KnowsInputs system lives
+pub inputs_known : (system : System) (lives : List LifeState) → AreLeft system lives → AreLegal system lives → KnowsInputs system lives
 inputs_known system lives linked legal = record {
   answered = λ before later life front rest terminal number id segments split all.
       answered_known system terminal number id segments life later front rest
-      (linked_behind system before (life ∷ later) (subst (AreLinked system) split linked)) (legal_behind system before (life ∷ later) (subst (AreLegal system) split legal)) all;
+      (linked_behind system before (life ∷ later) (subst (AreLeft system) split linked)) (legal_behind system before (life ∷ later) (subst (AreLegal system) split legal)) all;
   in_doubt = λ before later life next terminal number split doubt.
       doubt_settled system terminal number life next later
-      (linked_behind system before (life ∷ next ∷ later) (subst (AreLinked system) split linked)) (legal_behind system before (life ∷ next ∷ later) (subst (AreLegal system) split legal)) doubt;
+      (linked_behind system before (life ∷ next ∷ later) (subst (AreLeft system) split linked)) (legal_behind system before (life ∷ next ∷ later) (subst (AreLegal system) split legal)) doubt;
 }

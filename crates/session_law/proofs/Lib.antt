@@ -15,6 +15,7 @@ pub mod LifeEnds
 pub mod SentAgain
 pub mod FreshInputs
 pub mod Linked
+pub mod ColdRuns
 pub mod ShownAgain
 pub mod NumberedReplies
 pub mod AcksInDoubt

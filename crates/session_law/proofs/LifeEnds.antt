@@ -11,7 +11,7 @@ use Rattle.model_machine.proofs.Histories.{moment_after-append}
 use Rattle.model_session.specs.Lives.{LifeState, LifeLeaves, IsLegalLife, AreLegal, life_moment}
 use Rattle.model_session.proofs.Unfaulted.{unfaulted}
 use Rattle.session_law.specs.ResentInputs.{any_call}
-use Rattle.session_law.specs.SentAgain.{alone, IsOpenedBehind, OpensBehind, AreLinked, steps_of}
+use Rattle.session_law.specs.SentAgain.{alone, IsLeftBy, AreLeft, AreLinked, steps_of}
 use Rattle.session_law.proofs.Sessions.{EndsRest, last_in}
 
 -- ---- lists
@@ -115,13 +115,12 @@ module _ (system : System) where
       record { counted = leaves.counted ∙ ap (λ (s : LastingState). s.steps - life.opening.steps) opening; opening = opening }
 
   -- With all entries, or with all but the one that met a fault.
-  pub opened_in_doubt : (life next : LifeState) (before : List Entry) (entry : Entry) → IsLegalLife system life.opening life.checkpoint life.history → IsOpenedBehind system life next → life.history ≡ before ++ entry ∷ [] → is_fault entry ≡ true
+  pub opened_in_doubt : (life next : LifeState) (before : List Entry) (entry : Entry) → IsLegalLife system life.opening life.checkpoint life.history → LifeLeaves system (alone life) life.kept next.opening → life.history ≡ before ++ entry ∷ [] → is_fault entry ≡ true
       → OpensAfter life next life.history ⊎ OpensAfter life next before
-  opened_in_doubt life next before entry its opens all fault =
+  opened_in_doubt life next before entry its leaves all fault =
       let steps_are : its.legal.steps ≡ before =
       steps_before system its.legal.steps its.legal.last (start_of system life.opening) before entry its.legal.legal (sym its.legal.all ∙ all) fault in
       let answered : AreSteps system (start_of system life.opening) before = subst (AreSteps system (start_of system life.opening)) steps_are its.legal.legal in
-      let leaves : LifeLeaves system (alone life) life.kept next.opening = opens.left in
       ⊎_elim
       (λ whole. inl (opens_after life next life.history leaves (whole ∙ sym all)))
       (λ (ends : EndsRest before entry leaves.front leaves.rest).
@@ -131,7 +130,7 @@ module _ (system : System) where
 
 -- ---- parts of lives
 
-pub linked_behind : (system : System) (before lives : List LifeState) → AreLinked system (before ++ lives) → AreLinked system lives
+pub linked_behind : (system : System) (before lives : List LifeState) → AreLeft system (before ++ lives) → AreLeft system lives
 linked_behind system [] lives linked = linked
 linked_behind system (life ∷ before) lives linked = linked_behind system before lives linked.1
 
@@ -144,12 +143,24 @@ abbrev pub OpenedWith : (LastingState → Type 0) → List LifeState → Type 0
 OpenedWith P [] = Unit {0}
 OpenedWith P (life ∷ lives) = P life.opening
 
-pub opened_behind : (system : System) (P : LastingState → Type 0) (life : LifeState) (later : List LifeState) → ((kept : ℕ) (state : LastingState) → LifeLeaves system (alone life) kept state → P state) → OpensBehind system life later
+pub opened_behind : (system : System) (P : LastingState → Type 0) (life : LifeState) (later : List LifeState) → ((kept : ℕ) (state : LastingState) → LifeLeaves system (alone life) kept state → P state) → IsLeftBy system life later
     → OpenedWith P later
 opened_behind system P life [] has opens = tt
-opened_behind system P life (next ∷ later) has opens = has life.kept next.opening opens.left
+opened_behind system P life (next ∷ later) has opens = has life.kept next.opening opens
 
 -- one or the other, of the first of these lives
 pub opened_either : (P Q : LastingState → Type 0) (lives : List LifeState) → OpenedWith (λ (s : LastingState). P s ⊎ Q s) lives → OpenedWith P lives ⊎ OpenedWith Q lives
 opened_either P Q [] has = inl tt
 opened_either P Q (life ∷ lives) has = has
+
+-- what goes by links goes by this too
+pub linked_left : (system : System) (lives : List LifeState) → AreLinked system lives → AreLeft system lives
+linked_left system [] linked = tt
+linked_left system (life ∷ []) linked = (tt, tt)
+linked_left system (life ∷ next ∷ lives) linked = (linked.0.left, linked_left system (next ∷ lives) linked.1)
+
+-- ---- runs of lives
+
+pub legal_parts : (system : System) (lives others : List LifeState) → AreLegal system (lives ++ others) → AreLegal system lives × AreLegal system others
+legal_parts system [] others legal = (tt, legal)
+legal_parts system (life ∷ lives) others legal = let its = legal_parts system lives others legal.1 in ((legal.0, its.0), its.1)

@@ -37,17 +37,17 @@ one_linked system (life ∷ next ∷ lives) a b leaves linked = (linked.0, one_l
 
 -- ---- the first life
 
-same_first : (P : LastingState → Type 0) (lives : List LifeState) (a b : LifeState) → a.opening ≡ b.opening → OpenedWith P (lives ++ a ∷ []) → OpenedWith P (lives ++ b ∷ [])
+pub same_first : (P : LastingState → Type 0) (lives : List LifeState) (a b : LifeState) → a.opening ≡ b.opening → OpenedWith P (lives ++ a ∷ []) → OpenedWith P (lives ++ b ∷ [])
 same_first P [] a b same h = subst P same h
 same_first P (life ∷ lives) a b same h = h
 
-first_stays : (P : LastingState → Type 0) (lives : List LifeState) (a b : LifeState) → OpenedWith P (lives ++ a ∷ []) → OpenedWith P ((lives ++ a ∷ []) ++ b ∷ [])
+pub first_stays : (P : LastingState → Type 0) (lives : List LifeState) (a b : LifeState) → OpenedWith P (lives ++ a ∷ []) → OpenedWith P ((lives ++ a ∷ []) ++ b ∷ [])
 first_stays P [] a b h = h
 first_stays P (life ∷ lives) a b h = h
 
 -- ---- where a session stands
 
-abbrev is_emptied : Standing → Bool
+abbrev pub is_emptied : Standing → Bool
 is_emptied (Up life) = false
 is_emptied (Down outage) = outage.emptied
 

@@ -31,7 +31,7 @@ use Rattle.model_machine.specs.MachineCalls.{acknowledged_step, ack_by, ack_answ
 use Rattle.model_machine.specs.History.{May, AreSteps, IsEnd, call_of, after_entry, history_ended_by, is_fault, moment_after}
 use Rattle.model_session.specs.Lives.{LifeState, LastLife, AreLegal, longer}
 use Rattle.session_law.specs.ResentInputs.{IsKeptBy, any_call}
-use Rattle.session_law.specs.SentAgain.{alone, AreLinked}
+use Rattle.session_law.specs.SentAgain.{alone, AreLeft}
 use Rattle.session_law.specs.ShownAgain.{ShowsHigher, AllShowHigher, LivesShowHigher}
 use Rattle.session_law.proofs.Steps.{FineBy, applied_by}
 use Rattle.session_law.proofs.Sessions.{Leaving, begun, leaves_with, more}
@@ -259,7 +259,7 @@ module _ (terminal : List ℕ) where
   life_from system low life h =
       more (AreFrom low) system any_call (from_kept low system) (record { opening = life.opening; checkpoint = life.checkpoint; history = [] }) life.history (all_any life.history) (begun (AreFrom low) system any_call life.checkpoint life.opening h)
 
-  pub lives_higher : (system : System) (low : ℕ) (lives : List LifeState) → OpenedWith (AreFrom (low + 1)) lives → AreLinked system lives → AreLegal system lives → LivesShowHigher terminal low lives
+  pub lives_higher : (system : System) (low : ℕ) (lives : List LifeState) → OpenedWith (AreFrom (low + 1)) lives → AreLeft system lives → AreLegal system lives → LivesShowHigher terminal low lives
   lives_higher system low [] h linked legal = tt
   lives_higher system low (life ∷ lives) h linked legal =
       let is = legal.0.legal in (
@@ -268,7 +268,7 @@ module _ (terminal : List ℕ) where
       )
 
   -- all lives behind the first, too
-  pub numbered_behind : (system : System) (before lives : List LifeState) → OpenedWith (AreFrom 0) (before ++ lives) → AreLinked system (before ++ lives) → OpenedWith (AreFrom 0) lives
+  pub numbered_behind : (system : System) (before lives : List LifeState) → OpenedWith (AreFrom 0) (before ++ lives) → AreLeft system (before ++ lives) → OpenedWith (AreFrom 0) lives
   numbered_behind system [] lives h linked = h
   numbered_behind system (life ∷ before) lives h linked =
       numbered_behind system before lives (opened_behind system (AreFrom 0) life (before ++ lives) (life_from system 0 life h) linked.0) linked.1
@@ -343,7 +343,7 @@ module _ (terminal : List ℕ) where
           higher = there.higher;
         }
 
-    pub gone_for_good : (life : LifeState) (later : List LifeState) (front rest : List Entry) → AreLinked system (life ∷ later) → AreLegal system (life ∷ later) → AreFrom 0 life.opening → life.history ≡ front ++ removal ∷ rest
+    pub gone_for_good : (life : LifeState) (later : List LifeState) (front rest : List Entry) → AreLeft system (life ∷ later) → AreLegal system (life ∷ later) → AreFrom 0 life.opening → life.history ≡ front ++ removal ∷ rest
         → AllShowHigher terminal number rest × LivesShowHigher terminal number later
     gone_for_good life later front rest linked legal h split =
         let is = legal.0.legal in

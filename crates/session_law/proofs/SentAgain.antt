@@ -18,7 +18,7 @@ use Rattle.model_machine.specs.MachineCalls.{Refusal, by_number, input_answer}
 use Rattle.model_machine.specs.History.{May, AreSteps, IsEnd, after_entry, history_ended_by, is_fault, moment_after}
 use Rattle.model_session.specs.Lives.{LifeState, LastLife, AreLegal, longer}
 use Rattle.session_law.specs.ResentInputs.{last_number_of, any_call}
-use Rattle.session_law.specs.SentAgain.{alone, AreLinked, IsInputKnown, KnowsInput, AllKnow, LivesKnow}
+use Rattle.session_law.specs.SentAgain.{alone, AreLeft, IsInputKnown, KnowsInput, AllKnow, LivesKnow}
 use Rattle.session_law.proofs.Sessions.{Leaving, begun, leaves_with, more}
 use Rattle.session_law.proofs.LifeEnds.{head_is, tail_is, none_there, apart, ended_more, all_any, OpenedWith, opened_behind}
 use Rattle.session_law.proofs.Inputs.{Reached, answer_by, later_refusals, next_by, there_by, numbers_kept, taken}
@@ -99,7 +99,7 @@ module _ (system : System) (terminal : List ℕ) (number : ℕ) where
   steps_know (step ∷ steps) (Some entry) moment legal end some low =
       (entry_knows moment step legal.0 some low, steps_know steps (Some entry) (after_entry system moment step) legal.1 end some (numbers_kept terminal number system moment step refl low))
 
-  pub lives_know : (lives : List LifeState) → 0 < number → OpenedWith (Reached terminal number) lives → AreLinked system lives → AreLegal system lives → LivesKnow terminal number lives
+  pub lives_know : (lives : List LifeState) → 0 < number → OpenedWith (Reached terminal number) lives → AreLeft system lives → AreLegal system lives → LivesKnow terminal number lives
   lives_know [] some low linked legal = tt
   lives_know (life ∷ lives) some low linked legal =
       let is = legal.0.legal in (
@@ -164,7 +164,7 @@ module _ (system : System) (terminal : List ℕ) (number : ℕ) where
           know = there.know;
         }
 
-    pub answered_known : (life : LifeState) (later : List LifeState) (front rest : List Entry) → AreLinked system (life ∷ later) → AreLegal system (life ∷ later) → life.history ≡ front ++ taken_entry ∷ rest
+    pub answered_known : (life : LifeState) (later : List LifeState) (front rest : List Entry) → AreLeft system (life ∷ later) → AreLegal system (life ∷ later) → life.history ≡ front ++ taken_entry ∷ rest
         → AllKnow terminal number rest × LivesKnow terminal number later
     answered_known life later front rest linked legal split =
         let is = legal.0.legal in

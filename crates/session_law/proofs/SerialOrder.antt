@@ -13,10 +13,10 @@ use Rattle.model_machine.specs.History.{after_entry, call_of, moment_after}
 use Rattle.model_machine.specs.LastingSteps.{LastingStep, applied}
 use Rattle.model_machine.specs.Machine.{LastingState, Moment, Slot, start_of}
 use Rattle.model_machine.specs.MachineCalls.{lasting_step}
-use Rattle.model_session.specs.Lives.{LifeState}
+use Rattle.model_session.specs.Lives.{LifeState, LifeLeaves}
 use Rattle.system_types.specs.ValidSystem.{IsSystem}
 use Rattle.system_types.proofs.Indexed.{found_at}
-use Rattle.session_law.specs.SentAgain.{IsOpenedBehind, AreLinked}
+use Rattle.session_law.specs.SentAgain.{alone, AreLeft}
 use Rattle.session_law.specs.SerialOrder.{DoneStep, EndsInOrder, all_kept_steps, ended_ids, kept_steps, step_done, steps_in}
 use Rattle.session_law.proofs.LifeEnds.{OpenedWith}
 use Rattle.session_law.proofs.SerialMessages.{AreFrom, CodeFrom, IdsAscend, ascend_from, code_all}
@@ -56,21 +56,21 @@ record IsKeptFront (system : System) (life next : LifeState) : Type 0 where
   kept : kept_steps system life ≡ steps_in system (start_of system life.opening) front
   opening : next.opening ≡ (moment_after system (start_of system life.opening) front).lasting
 
-kept_front : (system : System) (life next : LifeState) → IsOpenedBehind system life next → IsKeptFront system life next
+kept_front : (system : System) (life next : LifeState) → LifeLeaves system (alone life) life.kept next.opening → IsKeptFront system life next
 kept_front system life next opens =
     let start : Moment = start_of system life.opening in
-    let front : List Entry = opens.left.front in
-    let rest : List Entry = opens.left.rest in
+    let front : List Entry = opens.front in
+    let rest : List Entry = opens.rest in
     let steps : List DoneStep = steps_in system start front in
     let others : List DoneStep = steps_in system (moment_after system start front) rest in
-    let all : steps_in system start life.history ≡ steps ++ others = ap (steps_in system start) opens.left.split ∙ steps_append system start front rest in
+    let all : steps_in system start life.history ≡ steps ++ others = ap (steps_in system start) opens.split ∙ steps_append system start front rest in
     let count : life.kept ≡ length steps =
-    omega (arith, opens.left.counted, ap (λ (s : LastingState). s.steps) opens.left.left, steps_counted system start front) in
+    omega (arith, opens.counted, ap (λ (s : LastingState). s.steps) opens.left, steps_counted system start front) in
     record {
       front = front;
       kept = ap (λ (n : ℕ). take n (steps_in system start life.history)) count ∙ ap (take (length steps)) all
           ∙ take-append-le (length steps) steps others (omega arith) ∙ take_all (length steps) steps (omega arith);
-      opening = opens.left.left;
+      opening = opens.left;
     }
 
 -- ---- lives
@@ -107,7 +107,7 @@ module _ (system : System) (code : List ℕ) (serial : AllByRecursion (SerialIf 
       rise_front low (ended_ids code (take n steps)) (ended_ids code (drop n steps))
       (subst (λ (ids : List ℕ). Rise low ids) (ap (ended_ids code) (sym (take-append-drop n steps)) ∙ ids_append code (take n steps) (drop n steps)) h)
 
-  lives_rise : (low : ℕ) (life : LifeState) (lives : List LifeState) → ServesAt system code serial low (start_of system life.opening) → AreLinked system (life ∷ lives)
+  lives_rise : (low : ℕ) (life : LifeState) (lives : List LifeState) → ServesAt system code serial low (start_of system life.opening) → AreLeft system (life ∷ lives)
       → Rise low (ended_ids code (all_kept_steps system (life ∷ lives)))
   lives_rise low life [] h linked =
       let start : Moment = start_of system life.opening in
@@ -149,7 +149,7 @@ abbrev pub IsInOrder : LastingState → Type 0
 IsInOrder lasting = IdsAscend lasting.next_id lasting.messages
 
 -- So it is where the first life opened with messages in the order of their ids.
-pub ends_in_order : (system : System) → IsSystem system → (lives : List LifeState) → OpenedWith IsInOrder lives → AreLinked system lives → EndsInOrder system lives
+pub ends_in_order : (system : System) → IsSystem system → (lives : List LifeState) → OpenedWith IsInOrder lives → AreLeft system lives → EndsInOrder system lives
 ends_in_order system valid [] begins linked = λ name code found serial. pairs_rise 0 [] tt
 ends_in_order system valid (life ∷ lives) begins linked = λ name code found serial.
     let codes : AllByRecursion (SerialIf name) system.codes = serial_codes system valid name code found serial in

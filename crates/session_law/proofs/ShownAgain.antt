@@ -26,7 +26,7 @@ use Rattle.model_machine.specs.History.{call_of, after_entry}
 use Rattle.model_machine.proofs.Histories.{moment_after-append}
 use Rattle.model_session.specs.Lives.{LifeState, LastLife, life_moment, longer}
 use Rattle.session_law.specs.ResentInputs.{spares, IsKeptBy}
-use Rattle.session_law.specs.SentAgain.{alone, AreLinked}
+use Rattle.session_law.specs.SentAgain.{alone, AreLeft}
 use Rattle.session_law.specs.ShownAgain.{takes_reply, takes_none, WaitsOn, LivesWaitOn}
 use Rattle.session_law.proofs.Sessions.{Leaving, begun, leaves_with, more}
 use Rattle.session_law.proofs.Replies.{Waits, replies_kept}
@@ -112,7 +112,7 @@ module _ (terminal : List ℕ) (reply : Reply) where
   waits_on system moment [] h = h
   waits_on system moment (entry ∷ entries) h = (h, λ spared. waits_on system (after_entry system moment entry) entries (kept_until system moment entry spared h))
 
-  pub lives_wait : (system : System) (lives : List LifeState) → OpenedWith (Waits terminal reply) lives → AreLinked system lives → LivesWaitOn system terminal reply lives
+  pub lives_wait : (system : System) (lives : List LifeState) → OpenedWith (Waits terminal reply) lives → AreLeft system lives → LivesWaitOn system terminal reply lives
   lives_wait system [] has linked = tt
   lives_wait system (life ∷ lives) has linked = (
     waits_on system (start_of system life.opening) life.history has,
@@ -123,7 +123,7 @@ module _ (terminal : List ℕ) (reply : Reply) where
         linked.1,
   )
 
-  pub shown_on : (system : System) (life : LifeState) (later : List LifeState) (front rest : List Entry) (number : ℕ) → AreLinked system (life ∷ later) → life.history ≡ front ++ Show terminal (ShowReply number) ∷ rest
+  pub shown_on : (system : System) (life : LifeState) (later : List LifeState) (front rest : List Entry) (number : ℕ) → AreLeft system (life ∷ later) → life.history ≡ front ++ Show terminal (ShowReply number) ∷ rest
       → Waits terminal reply (life_moment system (alone life) front).lasting
       → WaitsOn system terminal reply (life_moment system (alone life) front) (Show terminal (ShowReply number) ∷ rest)
       × (takes_none terminal reply.number rest ≡ true → LivesWaitOn system terminal reply later)

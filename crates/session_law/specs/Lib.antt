@@ -5,4 +5,5 @@ pub mod Measures
 pub mod SpentCounters
 pub mod SentAgain
 pub mod ShownAgain
+pub mod ColdRuns
 pub mod SerialOrder

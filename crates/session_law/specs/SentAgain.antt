@@ -34,6 +34,15 @@ abbrev pub AreLinked : System → List LifeState → Type 0
 AreLinked system [] = Unit {0}
 AreLinked system (life ∷ lives) = OpensBehind system life lives × AreLinked system lives
 
+-- Each opened with what the one before it left, whatever the numbers of checkpoints.
+abbrev pub IsLeftBy : System → LifeState → List LifeState → Type 0
+IsLeftBy system life [] = Unit {0}
+IsLeftBy system life (next ∷ lives) = LifeLeaves system (alone life) life.kept next.opening
+
+abbrev pub AreLeft : System → List LifeState → Type 0
+AreLeft system [] = Unit {0}
+AreLeft system (life ∷ lives) = IsLeftBy system life lives × AreLeft system lives
+
 -- how many lasting steps these entries of a life are
 abbrev pub steps_of : System → LifeState → List Entry → ℕ
 steps_of system life entries = (life_moment system (alone life) entries).lasting.steps - life.opening.steps

@@ -16,7 +16,8 @@
 //! its entries led to, or all but the last. So an input in whose call the disk failed is known from then on, or fresh
 //! up to where it is taken; and a reply in the call of whose acknowledgement it failed is never shown again, or is shown
 //! on. An image recovers to a state only with replies whose numbers follow one another, so none that was acknowledged
-//! comes back.
+//! comes back. Where a session asks for cold starts, its lives fall into runs of which all this holds, one more than cold
+//! starts at most (specs/ColdRuns; proofs/ColdRuns).
 //!
 //! Serial codes (specs/SerialOrder; proofs/SerialMessages, SerialPicks, SerialSlots, SerialSteps, SerialOrder, FoundInOrder).
 //! At most one region has a message of a serial code, and that is the one with the lowest id. So in the lasting steps

@@ -58,8 +58,8 @@ pub fn run<S: Source, K: Sink, D: Disk>(
         ¬ HasRisen (S.faults source.old) (S.faults source.new) → ¬ HasRisen (K.faults sink.old) (K.faults sink.new) →
         IsWithinLimits (bytes_served_by (workload_of (map (λ word. string_bytes word) words.now)) (S.left source.old)) →
         IsComplete (bytes_served_by (workload_of (map (λ word. string_bytes word) words.now)) (S.left source.old)) (D.state disk) (D.state result.disk) result.status result.stops }
-    // Behind any stops and restarts, cold starts apart, what is sent again is answered by what was kept, where the disk tells its
-    // contents.
+    // Behind any stops and restarts what is sent again is answered by what was kept, between one cold start and the next, where the
+    // disk tells its contents.
     ensures resends { AnswersAsKept D.state disk result.disk result.lives result.stops }
     // That a counter is spent is told of a disk alone that was near it as it was handed in, where that tells its contents.
     ensures near { IsNear (bytes_served_by (workload_of (map (λ word. string_bytes word) words.now)) (S.left source.old)) (D.state disk) result.status }
