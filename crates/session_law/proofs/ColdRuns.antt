@@ -11,9 +11,9 @@ use Rattle.model_session.specs.declared.asked.Asked.TheVariants.{Bad, BadCommand
 use Rattle.model_session.specs.Blocks.{Block}
 use Rattle.model_session.specs.Lines.{asked_of}
 use Rattle.model_session.specs.Lives.{LifeState, LastLife, LifeLeaves, kept_life, with_life, longer, ends_life}
-use Rattle.model_session.specs.SessionState.{Setting, SessionState, Outage, Standing, MayBeFound, AreAllLives, no_life, unbegun, called_on, last_life, or_cold}
+use Rattle.model_session.specs.SessionState.{Setting, SessionState, Outage, Standing, MayBeFound, AreAllLives, unbegun, called_on, last_life}
 use Rattle.model_session.specs.SessionState.Standing.{Up, Down}
-use Rattle.model_session.specs.Session.{OpensSession, ServedBy, IsServedUp, IsServedDown, IsRestarted, AreServed, BeginsSession, IsSessionBegun, IsBegunBy}
+use Rattle.model_session.specs.Session.{ServedBy, IsServedUp, IsServedDown, IsRestarted, AreServed, BeginsSession, IsSessionBegun, IsBegunBy}
 use Rattle.session_law.specs.SentAgain.{alone, AreLeft}
 use Rattle.session_law.specs.ColdRuns.{cold_count, colds_in, joined, OpensEmpty, AreEmptyBehind}
 use Rattle.session_law.proofs.LifeEnds.{OpenedWith}

@@ -34,7 +34,7 @@ pub record HasArmed {D : Type 0} (state : D → DiskState) (writes : ℕ) (old n
   pub told : IsToldToStop (state old.disk) (state new.disk)
   pub until_stop : (state new.disk).until_stop ≡ (if (state old.disk).can_arm then armed writes (state old.disk).until_stop else (state old.disk).until_stop)
 
--- What no call but `arm` changes: the disk isn't told to stop, and a stop to come may be nearer and isn't put off.
+-- What no call but `arm` changes: the disk isn't told to stop, and a stop to come is nearer by just the writes that were made.
 pub record StaysSo {D : Type 0} (state : D → DiskState) (old new : ControlOnDisk D) : Type 0 where
   pub system : new.control.system ≡ old.control.system
   pub opening : new.control.opening ≡ old.control.opening
