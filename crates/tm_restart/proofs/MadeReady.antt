@@ -1,5 +1,5 @@
 -- What is made of an image that was found: a life may begin with it, and it is that of the image.
-use Rattle.std.proofs.Common.{◌≡◌, ℕ, ◌+◌, ◌-◌, ◌<◌, ◌≤◌, Bool, not, ◌&&◌, List, [], length, map, refl, sym, ◌∙◌, ap, subst, arith, None, Ok, nat_lt}
+use Rattle.std.proofs.Common.{◌≡◌, ℕ, ◌+◌, ◌-◌, ◌*◌, ◌<◌, ◌≤◌, Bool, not, ◌&&◌, List, [], length, map, refl, sym, ◌∙◌, ap, subst, arith, None, Ok, nat_lt}
 use Rattle.std.specs.List.{AllByRecursion}
 use Rattle.std.proofs.lemmas.Bool.{lt-ltb, ne_eqb}
 use Rattle.tm_disk.specs.Disk.{Image}
@@ -11,7 +11,9 @@ use Rattle.restart_data.specs.Restart.{IsRestart}
 use Rattle.seg_store.specs.Slots.{Stored, rows_of_slots}
 use Rattle.seg_store.specs.ChangedSlots.{Kept, AllStores, stored, all_stores}
 use Rattle.system_types.specs.ValidSystem.{IsSystem}
-use Rattle.model_image.specs.Areas.{snapshot_area}
+use Rattle.model_image.specs.Areas.{snapshot_area, most_sectors}
+use Rattle.image_loading.proofs.Single.{single_sectors}
+use native.Mathlib.Nat.{mul-le-mul_right}
 use Rattle.model_image.specs.Counters.{next_sequence}
 use Rattle.model_image.specs.RecoveredState.{log_in, Recovers}
 use Rattle.image_law.specs.SegmentCounts.{AreSegmentsCounted}
@@ -155,7 +157,8 @@ module _ (system : System) (text : List ℕ) (found : Found) (judged : IsFoundJu
 
       pub few_bytes : length bytes ≤ 16777216
       few_bytes =
-          let area : snapshot_area system ≤ 2613 = omega (arith, defined.most_bytes, defined.few_regions) in
+          let times : 262144 * most_sectors system * length system.regions ≤ 262144 * length system.regions = mul-le-mul_right {m = 262144 * most_sectors system} {n = 262144} (length system.regions) (omega (arith, single_sectors system defined)) in
+          let area : snapshot_area system ≤ 2613 = omega (arith, times, defined.most_bytes, defined.few_regions) in
           omega (arith, area, is_whole.fits)
 
       abbrev opened : OpeningParts

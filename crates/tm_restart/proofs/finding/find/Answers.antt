@@ -6,7 +6,7 @@ use Rattle.model_image.specs.Areas.{is_single}
 use Rattle.restart_data.specs.WrittenSectors.{TellsRestart}
 use Rattle.tm_restart.specs.FoundImage.{TellsFound}
 use Rattle.tm_restart.proofs.Seen.{bad_first}
-use Rattle.openings.proofs.Reading.{told_before}
+use Rattle.openings.proofs.Reading.{told_before, read_cause}
 use Rattle.tm_restart.proofs.finding.find.Goals as goal
 
 pub returns-in-Err-Bad-clause-value : goal.returns-in-Err-Bad-clause-value
@@ -25,3 +25,7 @@ returns-in-Ok-clause-value g c =
 pub returns-in-Ok-clause-keeps : goal.returns-in-Ok-clause-keeps
 returns-in-Ok-clause-keeps g c =
     keeps_on (g.D.Disk.state c.args.disk.now) (g.D.Disk.state c.read_restart.new.disk) (g.D.Disk.state c.find_behind.new.disk) (g.met.D.Disk.is_disk c.args.disk.now) c.in-Ok-Some.ensures.keeps c.in-Ok.ensures.keeps
+
+pub returns-in-Err-clause-cause : goal.returns-in-Err-clause-cause
+returns-in-Err-clause-cause g c =
+    read_cause (g.D.Disk.state c.args.disk.now) (g.D.Disk.state c.read_restart.new.disk) (g.D.Disk.state c.find_behind.new.disk) (Err c.in-Err.error) (g.met.D.Disk.is_disk c.args.disk.now) c.in-Ok-Some.ensures.keeps c.in-Ok-Some.ensures.cause c.in-Err.ensures.cause

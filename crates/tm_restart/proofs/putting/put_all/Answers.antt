@@ -76,3 +76,11 @@ loop-place-preserved g c =
           (subst (λ first. HasPut first slots mid.shown new.shown) c.loop-place.invariant.first
           (at_ok c.write_slots.result (IsTrue mid.tells → HasPut c.loop-place.first slots mid.shown new.shown) (sym c.if-is_err.ensures.value) c.write_slots.ensures.shown (subst IsTrue (sym stays.tells) tells)));
     }
+
+pub write_slots-requires-clause-area : goal.write_slots-requires-clause-area
+write_slots-requires-clause-area g c =
+    let place = c.loop-place.place in
+    let dbd = c.index-databases-place.result in
+    let found : slice_get c.args.system.now.databases place ≡ Some dbd = subst (λ l. slice_get l place ≡ Some dbd) c.databases-databases.ensures.value (slice_get_read c.databases-databases.result.now (length c.databases-databases.result.now) place dbd refl c.loop-place-test.true c.index-databases-place.is) in
+    let old = g.D.Disk.state c.args.disk.now in
+    omega (arith, c.loop-place.invariant.first, c.loop-place.invariant.stays.size, first_fits c.args.system.now place dbd old.size found c.requires.areas)

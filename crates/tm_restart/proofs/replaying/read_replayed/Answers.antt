@@ -49,3 +49,6 @@ returns-in-Err-Bad-clause-keeps g c = keeps_on (g.D.Disk.state c.args.disk.now) 
 
 pub returns-in-Err-Memory-replay-clause-keeps : goal.returns-in-Err-Memory-replay-clause-keeps
 returns-in-Err-Memory-replay-clause-keeps g c = keeps_on (g.D.Disk.state c.args.disk.now) (g.D.Disk.state c.read_log.new.disk) (g.D.Disk.state c.read_told.new.disk) (g.met.D.Disk.is_disk c.args.disk.now) c.in-Ok.ensures.keeps c.in-Ok-read_told.ensures.keeps
+
+pub returns-in-Err-clause-keeps : goal.returns-in-Err-clause-keeps
+returns-in-Err-clause-keeps g c = keeps_on (g.D.Disk.state c.args.disk.now) (g.D.Disk.state c.read_log.new.disk) (g.D.Disk.state c.read_told.new.disk) (g.met.D.Disk.is_disk c.args.disk.now) c.in-Ok.ensures.keeps c.in-Err.ensures.keeps

@@ -1,5 +1,6 @@
 use Rattle.std.proofs.Common.{Ok, subst}
 use Rattle.tm_disk.specs.Disk.{Image}
+use Rattle.tm_disk.proofs.Words.{stays_on}
 use Rattle.openings.specs.OpenedImage.{TellsOpening}
 use Rattle.openings.proofs.Reading.{read_cause, told_before, told_behind}
 use Rattle.tm_restart.specs.FoundImage.{FindAlways, TellsFind, IsSeen}
@@ -51,3 +52,15 @@ returns-in-Ok-Some-clause-counts g c =
 pub returns-in-Err-clause-counts : goal.returns-in-Err-clause-counts
 returns-in-Err-clause-counts g c =
     read_counts c.args.system.now c.args.text.now (g.D.Disk.state c.args.disk.now) (g.D.Disk.state c.find.new.disk) c.in-Err.ensures.keeps
+
+pub returns-in-Ok-None-clause-stays : goal.returns-in-Ok-None-clause-stays
+returns-in-Ok-None-clause-stays g c =
+    stays_on (g.D.Disk.state c.args.disk.now) (g.D.Disk.state c.find.new.disk) (g.D.Disk.state c.cold.new.disk) c.in-Ok-None.ensures.keeps.stays c.cold.ensures.stays
+
+pub returns-in-Ok-Some-clause-stays : goal.returns-in-Ok-Some-clause-stays
+returns-in-Ok-Some-clause-stays g c =
+    stays_on (g.D.Disk.state c.args.disk.now) (g.D.Disk.state c.find.new.disk) (g.D.Disk.state c.reopen.new.disk) c.in-Ok-Some.ensures.keeps.stays c.reopen.ensures.stays
+
+pub returns-in-Ok-None-clause-cause : goal.returns-in-Ok-None-clause-cause
+returns-in-Ok-None-clause-cause g c =
+    read_cause (g.D.Disk.state c.args.disk.now) (g.D.Disk.state c.find.new.disk) (g.D.Disk.state c.cold.new.disk) c.cold.result (g.met.D.Disk.is_disk c.args.disk.now) c.in-Ok-None.ensures.keeps c.in-Ok-None.ensures.cause c.cold.ensures.cause
