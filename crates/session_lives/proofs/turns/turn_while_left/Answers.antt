@@ -2,7 +2,7 @@
 use Rattle.std.specs.Prelude.{Ok, Err}
 use Rattle.std.proofs.Common.{◌≡◌, ◌+◌, ◌%◌, false, length, ap, sym, ◌∙◌, refl, arith}
 use Rattle.model_session.specs.QuietTurns.{region_behind_turns}
-use Rattle.session_lives.proofs.Asked.{spent_up}
+use Rattle.session_lives.proofs.Asked.{spent_up, stays_so_on}
 use Rattle.session_lives.proofs.Counting.{pace_on, pace_turn}
 use Rattle.session_lives.proofs.Turned.{turned_next, turned_fails, turns_end, turns_stand}
 use Rattle.session_lives.proofs.turns.turn_while_left.Goals as goal
@@ -62,3 +62,6 @@ returns-in-Err-Spent-clause-pace g c =
     pace_on g.D.Disk.state c.args.control.now c.loop-turns.control c.turn.new.self c.loop-turns.invariant.stays c.loop-turns.invariant.pace
     (pace_turn g.D.Disk.state ((c.loop-turns.turns % length c.regions-regions.result.now) + 1) (Err c.in-Err-Spent.field-0) c.loop-turns.control c.turn.new.self c.loop-turns.invariant.up (g.met.D.Disk.is_disk c.turn.new.self.disk) c.turn.ensures.stays c.turn.ensures.raises
     c.turn.ensures.counts c.in-Err-Spent.ensures.adds c.in-Err-Spent.ensures.nothing c.in-Err-Spent.ensures.undone)
+
+pub returns-in-Err-Disk-clause-stays : goal.returns-in-Err-Disk-clause-stays
+returns-in-Err-Disk-clause-stays g c = stays_so_on g.D.Disk.state c.args.control.now c.loop-turns.control c.turn.new.self c.loop-turns.invariant.stays c.turn.ensures.stays
