@@ -5,7 +5,7 @@ use Rattle.tm_edge.specs.Lines.{unread}
 use Rattle.model_session.specs.SessionState.{is_session_stopped}
 use Rattle.tm_session.specs.Outcome.{IsTextBack}
 use Rattle.session_lives.specs.RunningSession.{standing_of}
-use Rattle.session_lives.proofs.Restarted.{cut_opening}
+use Rattle.session_lives.proofs.Restarted.{events_opening}
 use Rattle.tm_session.specs.Headline.{IsUnbegun}
 use Rattle.tm_session.specs.BegunSession.{IsDefinitionRead}
 use Rattle.tm_session.proofs.Begun.{begun_is}
@@ -37,7 +37,7 @@ returns-clause-session g c =
     (begun_is c.new-lines.result (g.S.Source.left c.args.source.now) c.new-lines.ensures) c.in-Ok.ensures.read in
     is_session g.D.Disk.state c.in-Ok.read.1 c.in-Ok.read.2 c.args.disk (g.S.Source.left c.args.source.now) (unread c.read_system.new.lines (g.S.Source.left c.read_system.new.source)) c.serve_lines-status.new.lines (g.S.Source.left c.serve_lines-status.new.source)
     (g.K.Sink.written c.args.sink.now) (g.K.Sink.written c.serve_lines-status.new.sink) c.in-Ok.read.0 c.finish-in-None.result.disk
-    (cut_opening [] c.begin-session.ensures.begun.kept c.begin-session.ensures.begun.opening) c.begin-session.result.0 c.serve_lines-status.new.session c.serve_lines-status.result
+    (events_opening [] c.begin-session.ensures.begun.kept c.begin-session.ensures.begun.opening) c.begin-session.result.0 c.serve_lines-status.new.session c.serve_lines-status.result
     c.finish-in-None.result.status c.finish-in-None.result.lives c.finish-in-None.result.stops read
     (text_told (g.S.Source.left c.args.source.now) (unread c.read_system.new.lines (g.S.Source.left c.read_system.new.source)) read.texts c.in-Ok.read.2 read.read read.joined)
     (begins g.D.Disk.state g.met.D.Disk.is_disk c.in-Ok.read.1 c.in-Ok.read.2 c.args.disk c.begin-session.result.0 c.begin-session.result.1 c.requires.only c.begin-session.ensures.begun c.in-None.is)
