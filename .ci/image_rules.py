@@ -11,11 +11,15 @@ from image_records import is_front, read_records, spell
 
 SECTOR = 4096
 PAYLOAD = 4064
+SLOT_PAYLOAD = 4000
 LIMIT = 2 * 10**18
 SPENT = 10**18
 
 
 # The system, and where its areas stand.
+
+
+Database = namedtuple("Database", "roots sectors types")
 
 
 class System:
@@ -27,9 +31,9 @@ class System:
             if macro == "IMSCTRL":
                 self.queue_bytes, self.log_sectors = int(has["QBYTES"]), int(has["LOGS"])
             elif macro == "DBD":
-                self.databases.append((int(has["ROOTS"]), {}))
+                self.databases.append(Database(int(has["ROOTS"]), int(has.get("SECTORS", "1")), {}))
             elif macro == "SEGM":
-                types = self.databases[-1][1]
+                types = self.databases[-1].types
                 names = [known[0] for known in types.values()]
                 parent = names.index(has["PARENT"]) + 1 if has["PARENT"] != "0" else 0
                 types[len(types) + 1] = (has["NAME"], parent, int(has["KEY"]), int(has["BYTES"]))
@@ -41,19 +45,35 @@ class System:
                 self.terminals.append(has["LTERM"].encode())
             elif macro == "REGION":
                 regions += 1
-        self.snapshot_sectors = -(-(self.queue_bytes + 262144 * regions + 131072) // PAYLOAD)
+        self.most = max([1, *(database.sectors for database in self.databases)])
+        self.snapshot_sectors = -(-(self.queue_bytes + 262144 * self.most * regions + 131072) // PAYLOAD)
         self.snapshots = (65, 65 + self.snapshot_sectors)
         self.logs = (65 + 2 * self.snapshot_sectors, 65 + 2 * self.snapshot_sectors + self.log_sectors)
         self.data = self.logs[1] + self.log_sectors
-        self.slots = [(number, slot) for number, (roots, _) in enumerate(self.databases, 1) for slot in range(roots)]
-        self.sectors = self.data + len(self.slots)
+        self.slots = [(number, slot) for number, database in enumerate(self.databases, 1) for slot in range(database.roots)]
+        self.first, self.sectors = {}, self.data
+        for at in self.slots:
+            self.first[at] = self.sectors
+            self.sectors += self.size_of(*at)
 
-    def sector_of(self, database, slot):
-        return self.data + self.slots.index((database, slot))
+    # (a process that is given a system has one of its own)
+    def __eq__(self, other):
+        return self.text == other.text
+
+    def __hash__(self):
+        return hash(self.text)
+
+    def size_of(self, database, slot):
+        """How many sectors a slot has."""
+        return self.databases[database - 1].sectors
+
+    def places_of(self, *at):
+        """The sectors of a slot."""
+        return range(self.first[at], self.first[at] + self.size_of(*at))
 
     def is_record(self, database, image):
         """Whether these bytes are the rows under one root, in their order."""
-        types, paths, at, rows = self.databases[database - 1][1], {}, 0, 0
+        types, paths, at, rows = self.databases[database - 1].types, {}, 0, 0
         last = []
         while at < len(image):
             if image[at] not in types:
@@ -67,10 +87,19 @@ class System:
                 return False
             paths[image[at]], last = path, path
             at, rows = at + 1 + size, rows + 1
-        return rows > 0 and len(image) <= 4000
+        return rows > 0 and len(image) <= SLOT_PAYLOAD * self.databases[database - 1].sectors
+
+    def rows_of(self, database, image):
+        """The data of a record's rows."""
+        types, at, rows = self.databases[database - 1].types, 0, []
+        while at < len(image):
+            size = types[image[at]][3]
+            rows.append(image[at + 1 : at + 1 + size])
+            at += 1 + size
+        return rows
 
     def root_key(self, database, image):
-        return image[1 : 1 + self.databases[database - 1][1][1][2]]
+        return image[1 : 1 + self.databases[database - 1].types[1][2]]
 
 
 # Sectors. An image is a bytearray of all of them.
@@ -91,6 +120,11 @@ def snapshot_sector(checkpoint, place, payload):
 
 def data_sector(image):
     return sector(len(image).to_bytes(2, "big"), image)
+
+
+def slot_sectors(image, size):
+    """The sectors of a slot with this record: 4,000 bytes in each, as long as there are any."""
+    return [data_sector(image[at * SLOT_PAYLOAD : (at + 1) * SLOT_PAYLOAD]) for at in range(size)]
 
 
 Restart = namedtuple("Restart", "epoch snapshot log sectors sequence checkpoint text")
@@ -292,7 +326,7 @@ def read_restart(system, image):
     now = Restart(*(number_at(text, at, size) for at, size in ((8, 8), (16, 1), (17, 1), (20, 4), (24, 8), (32, 8), (40, 4))))
     broken = [
         text[:4] != b"IMSR",
-        number_at(text, 4, 4) not in (1, 2),
+        number_at(text, 4, 4) not in ((1, 2) if system.most == 1 else (2,)),
         now.snapshot > 1 or now.log > 1,
         not 1 <= now.sectors <= system.snapshot_sectors,
         not all(0 < counter < LIMIT for counter in (now.epoch, now.sequence, now.checkpoint)),
@@ -412,19 +446,21 @@ def slot_values(system, image, changes, ended):
     faults = []
     for at in system.slots:
         if at not in named:
-            text, where = got(image, system.sector_of(*at)), system.sector_of(*at)
-            used = number_at(text, 0, 2)
-            values[at] = text[2 : 2 + used]
-            if used > 4000 or any(text[2 + used :]):
-                faults.append((20, where))
-            elif used and not system.is_record(at[0], values[at]):
-                faults.append((21, where))
+            values[at], full = b"", True
+            for where in system.places_of(*at):
+                text = got(image, where)
+                used = number_at(text, 0, 2)
+                if used > SLOT_PAYLOAD or any(text[2 + used :]) or used and not full:
+                    faults.append((20, where))
+                values[at], full = values[at] + text[2 : 2 + used], full and used == SLOT_PAYLOAD
+            if values[at] and not system.is_record(at[0], values[at]):
+                faults.append((21, system.first[at]))
     if faults:
         raise bad(*min(faults))
     keys = [(at[0], system.root_key(at[0], values[at])) if values[at] else None for at in system.slots]
     for place, key in enumerate(keys):
         if key and key in keys[place + 1 :]:
-            raise bad(22, system.data + place)
+            raise bad(22, system.first[system.slots[place]])
     return values, [at for at in system.slots if at in named]
 
 
@@ -470,6 +506,10 @@ def recover(system, image):
 # What is written. A step is a sector with its place, or nothing for a sync.
 
 
+def slot_steps(system, at, value):
+    return list(zip(system.places_of(*at), slot_sectors(value, system.size_of(*at))))
+
+
 def snapshot_steps(system, now, payload):
     first = system.snapshots[now.snapshot]
     return [(first + place, snapshot_sector(now.checkpoint, place, piece)) for place, piece in enumerate(pieces(payload))]
@@ -488,7 +528,7 @@ def restart_steps(system, opened):
     old = opened.now
     areas = {"snapshot": 1 - old.snapshot, "log": 1 - old.log, "sectors": len(pieces(payload))}
     now = old._replace(epoch=old.epoch + 1, checkpoint=old.checkpoint + 1, **areas)
-    slots = [(system.sector_of(*at), data_sector(opened.values[at])) for at in opened.named]
+    slots = [step for at in opened.named for step in slot_steps(system, at, opened.values[at])]
     return [*slots, None, *snapshot_steps(system, now, payload), None, (0, restart_sector(now)), None]
 
 
@@ -526,6 +566,10 @@ def left(image, steps, count, pick):
     return image
 
 
+class RolledBack(list):
+    """The records of a ROLB: behind it the unit has changed nothing."""
+
+
 class Life:
     """A system from an opening on: what lasts, what its stores have, and all that was written."""
 
@@ -560,6 +604,8 @@ class Life:
                 self.units.pop(record.unit, None)
         if any(type(record) is not Change for record in records):
             self.force()
+        if isinstance(records, RolledBack):
+            self.units.pop(records[0].unit, None)
 
     def take_back(self, unit):
         self.stores.update(self.units.pop(unit, {}))
@@ -577,6 +623,6 @@ class Life:
         payload = b"".join(map(spell, self.state.records(self.now.checkpoint + 1, changes)))
         areas = {"snapshot": 1 - self.now.snapshot, "log": 1 - self.now.log, "sectors": len(pieces(payload))}
         self.now = self.now._replace(checkpoint=self.now.checkpoint + 1, **areas)
-        slots = [(self.system.sector_of(*at), data_sector(self.stores[at])) for at in sorted(self.dirty)]
+        slots = [step for at in sorted(self.dirty) for step in slot_steps(self.system, at, self.stores[at])]
         self.write([*slots, None, *snapshot_steps(self.system, self.now, payload), None, (0, restart_sector(self.now)), None])
         self.used, self.dirty = 0, set()

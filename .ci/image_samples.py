@@ -1,17 +1,23 @@
-"""What `.ci/images` tries: a small system, a session over several lives with the records of each line, and images that keep the rules or
-break one, each with what is wanted of it by hand.
+"""What `.ci/images` tries: a small system, one whose records have several sectors, a session of each over several lives with the records of
+each line, and images that keep the rules or break one, each with what is wanted of it by hand.
 """
 import os
 
 from image_records import Acknowledged, Change, Code, Command, Completed, Counts, Discarded, Message, Reply, SyncPoint, Terminal, spell
-from image_rules import LIMIT, Restart, State, System, data_sector, log_sector, pieces, put, restart_sector, snapshot_steps, SECTOR
+from image_rules import LIMIT, Restart, RolledBack, State, System, data_sector, log_sector, pieces, put, restart_sector, slot_sectors, snapshot_steps, SECTOR
 
 HERE = os.path.dirname(os.path.abspath(__file__))
 with open(os.path.join(HERE, "image_system.txt"), "rb") as it:
     SYSTEM = System(it.read())
+with open(os.path.join(HERE, "image_wide.txt"), "rb") as it:
+    WIDE = System(it.read())
 with open(os.path.join(HERE, "..", "bench", "sessions", "bank.txt"), "rb") as it:
     BANK = System(it.read())
 T1, T2, T9, ECHO, TALK, ROWS, GET = b"T1", b"T2", b"T9", b"ECHO", b"TALK", b"ROWS", b"GET"
+
+# Which rows T9 asks for, by a program of each system: the text behind the code, the database and the root's key.
+ASKED_ROWS = {SYSTEM: [(key, 1, key) for key in (b"0001", b"0002", b"0003")]}
+ASKED_ROWS[WIDE] = [(b"%d %s" % (database, key), database, key) for database, key in ((1, b"0001"), (1, b"0002"), (1, b"0003"), (2, b"0007"), (3, b"0009"))]
 
 
 # A session over several lives: its lines, their answers, and the records that each appends, or what else it does to the disk.
@@ -445,3 +451,274 @@ def breaking(rules):
     for at, place, text in texts:
         put(image, at, text, place)
     return image
+
+
+# The system whose records have several sectors: two in its first database, one in the second and three in the third. The first has rows of
+# 1,000 bytes, and of 13; the third of 1,000 and of 1,500.
+
+MOST = {1: 8000, 2: 4000, 3: 12000}
+
+
+def account(key, value, *below):
+    return b"\x01" + (key + value).ljust(999) + b"".join(below)
+
+
+def move(key, value=b"OPEN"):
+    return b"\x02" + (key + value).ljust(999)
+
+
+def note(key, value=b"NOTE"):
+    return b"\x03" + (key + value).ljust(12)
+
+
+def tree(key, value, *below):
+    return b"\x01" + (key + value).ljust(999) + b"".join(below)
+
+
+def leaf(key, value=b"LEAF"):
+    return b"\x02" + (key + value).ljust(1499)
+
+
+def worked(region, unit, id_, *calls, open_=False):
+    """A message of ROWS: the calls for each of its segments, and the change that the last of them makes."""
+    steps, front = [], f"SCHEDULED ROWS {id_}|GU 0 OK|"
+    for texts, *change in calls:
+        steps += turns(region, front + texts, *(Change(unit, *it) for it in change))
+        front = "GN 0 OK|"
+    return steps if open_ else steps + turns(region, f"GN 0 QD|DONE ROWS {id_}", *ended(unit, id_))
+
+
+def grown(database, slot, *records):
+    """Rows that are added to a record, one after another: what it is before, and behind each."""
+    return [(f"ISRT {database} OK", (database, slot, *both)) for both in zip(records, records[1:])]
+
+
+MOVES = [move(b"%04d" % key) for key in range(10)]
+LEAVES = [leaf(b"%04d" % key) for key in range(9)]
+FIVE = account(b"0001", b"AAAA", *MOVES[1:5])
+FOUR = account(b"0001", b"AAAA", *MOVES[2:5])
+NOTED = FOUR + note(b"0001")
+GROWN = [account(b"0001", b"AAAA", *MOVES[2:most]) + note(b"0001") for most in (5, 6, 7, 8)]
+EIGHT = account(b"0002", b"BBBB", *MOVES[1:8])
+SEVEN = account(b"0002", b"BBBB", *MOVES[1:3], *MOVES[4:8])
+TREES = [tree(b"0009", b"DDDD", *LEAVES[1:most]) for most in range(1, 9)]
+THIRD_ROOT = account(b"0003", b"EEEE", move(b"0001"))
+TURNED = [tree(b"0009", b"%04d" % turn, *LEAVES[1:8]) for turn in range(31)]
+
+
+def turned(region, unit, id_, first):
+    return worked(region, unit, id_, *(("GHU 3 OK|REPL 3 OK", (3, 0, old, new)) for old, new in zip(([TREES[7]] + TURNED[1:])[first : first + 15], TURNED[first + 1 :])))
+
+
+WIDE_SESSION = [
+    # a record of two sectors, which shrinks to one that is full, and grows by a row of a few bytes
+    *given(T1, 1, 1, ROWS, b"ROWS ADD 0001 AAAA", *(b"x MOVE 0001 %04dOPEN" % key for key in range(1, 5))),
+    *worked(1, 1, 1, *grown(1, 0, b"", *(account(b"0001", b"AAAA", *MOVES[1:most]) for most in range(1, 6)))),
+    (b"/CHECKPOINT", ["CHECKPOINT 2"], CHECKPOINT),
+    *given(T1, 2, 2, ROWS, b"ROWS CUT 0001 0001"),
+    *worked(1, 2, 2, ("GHU 1 OK|DLET 1 OK", (1, 0, FIVE, FOUR))),
+    (b"/CHECKPOINT", ["CHECKPOINT 3"], CHECKPOINT),
+    *given(T1, 3, 3, ROWS, b"ROWS NOTE 0001 0001NOTE"),
+    *worked(1, 3, 3, *grown(1, 0, FOUR, NOTED)),
+    # a record of one sector, one in the database of one, and one of three whose last row stands in two
+    *given(T1, 4, 4, ROWS, b"ROWS ADD 0002 BBBB", b"x PAST 0007 CCCC", b"x TREE 0009 DDDD", *(b"x LEAF 0009 %04dLEAF" % key for key in range(1, 6))),
+    *worked(1, 4, 4, *grown(1, 1, b"", account(b"0002", b"BBBB")), ("ISRT 2 OK", (2, 0, b"", b"\x010007CCCC")), *grown(3, 0, b"", *TREES[:6])),
+    (b"/CHECKPOINT", ["CHECKPOINT 4"], CHECKPOINT),
+    # a row too many, which ends the work abnormally
+    *given(T1, 5, 5, ROWS, b"ROWS MOVE 0001 0005OPEN", *(b"x MOVE 0001 %04dOPEN" % key for key in (6, 7, 8))),
+    *worked(1, 5, 5, *grown(1, 0, *GROWN), open_=True),
+    *turns(1, "GN 0 OK|ABENDED ROWS 5 U0903", Discarded(5, 5, 903, 1)),
+    # a record that fills both of its sectors, and one more byte is too many
+    *given(T1, 6, 6, ROWS, *((b"x", b"ROWS")[key == 1] + b" MOVE 0002 %04dOPEN" % key for key in range(1, 8))),
+    *worked(1, 6, 6, *grown(1, 1, *(account(b"0002", b"BBBB", *MOVES[1:most]) for most in range(1, 9)))),
+    (b"/CHECKPOINT", ["CHECKPOINT 5"], CHECKPOINT),
+    *given(T1, 7, 7, ROWS, b"ROWS NOTE 0002 0001NOTE"),
+    *turns(1, "SCHEDULED ROWS 7|GU 0 OK|ABENDED ROWS 7 U0903", Discarded(7, 7, 903, 2)),
+    # what is rolled back, and what goes; another root takes the slot
+    *given(T1, 8, 8, ROWS, b"ROWS BACK 0002"),
+    *turns(1, "SCHEDULED ROWS 8|GU 0 OK|GHU 1 OK|DLET 1 OK", Change(8, 1, 1, EIGHT, b"")),
+    (b"TURN 1", ["R1 ROLB 0 OK"], RolledBack([Change(8, 1, 1, b"", EIGHT)])),
+    (b"/CHECKPOINT", ["CHECKPOINT 6"], CHECKPOINT),
+    *turns(1, "DONE ROWS 8", *ended(8, 8)),
+    *given(T1, 9, 9, ROWS, b"ROWS DROP 0001"),
+    *worked(1, 9, 9, ("GHU 1 OK|DLET 1 OK", (1, 0, NOTED, b""))),
+    (b"/CHECKPOINT", ["CHECKPOINT 7"], CHECKPOINT),
+    *given(T1, 10, 10, ROWS, b"ROWS ADD 0003 EEEE", b"x MOVE 0003 0001OPEN"),
+    *worked(1, 10, 10, *grown(1, 0, b"", account(b"0003", b"EEEE"), THIRD_ROOT)),
+    # two units are open as checkpoints are taken
+    *given(T1, 11, 11, ROWS, b"ROWS LEAF 0009 0006LEAF", b"x LEAF 0009 0007LEAF"),
+    *given(T1, 12, 12, ROWS, b"ROWS CUT 0002 0003"),
+    *worked(2, 11, 11, *grown(3, 0, *TREES[5:7]), open_=True),
+    *worked(1, 12, 12, ("GHU 1 OK|DLET 1 OK", (1, 1, EIGHT, SEVEN)), open_=True),
+    (b"/CHECKPOINT", ["CHECKPOINT 8"], CHECKPOINT),
+    *turns(2, "GN 0 OK|ISRT 3 OK", Change(11, 3, 0, *TREES[6:8])),
+    *turns(1, "GN 0 QD|DONE ROWS 12", *ended(12, 12)),
+    (b"/CHECKPOINT", ["CHECKPOINT 9"], CHECKPOINT),
+    *turns(2, "GN 0 QD|DONE ROWS 11", *ended(11, 11)),
+    # so many changes that a checkpoint is due by itself, while the unit is open
+    *given(T1, 13, 13, ROWS, b"ROWS TURN 0009 0001", *(b"x TURN 0009 %04d" % turn for turn in range(2, 16))),
+    *turned(1, 13, 13, 0),
+    *given(T1, 14, 14, ROWS, b"ROWS TURN 0009 0016", *(b"x TURN 0009 %04d" % turn for turn in range(17, 31))),
+    *turned(1, 14, 14, 15),
+    (b"/CHECKPOINT FREEZE", ["FROZEN 11"], FREEZE),
+    (b"/ERESTART", ["RESTARTED"], RESTART),
+    *given(T1, 15, 15, ROWS, b"ROWS CUT 0002 0001"),
+    *worked(1, 15, 15, ("GHU 1 OK|DLET 1 OK", (1, 1, SEVEN, account(b"0002", b"BBBB", MOVES[2], *MOVES[4:8])))),
+    (b"/CHECKPOINT FREEZE", ["FROZEN 13"], FREEZE),
+    (b"/NRESTART CHECKPOINT 0", ["COLD STARTED"], COLD),
+    *given(T1, 1, 1, ROWS, b"ROWS ADD 0001 AAAA", *(b"x MOVE 0001 %04dOPEN" % key for key in range(1, 5))),
+    *worked(1, 1, 1, *grown(1, 0, b"", *(account(b"0001", b"AAAA", *MOVES[1:most]) for most in range(1, 6)))),
+]
+
+WIDE_OPEN = [
+    *given(T1, 2, 2, ROWS, b"ROWS CUT 0001 0001", b"x TREE 0009 DDDD", *(b"x LEAF 0009 %04dLEAF" % key for key in range(1, 6))),
+    *worked(2, 2, 2, ("GHU 1 OK|DLET 1 OK", (1, 0, FIVE, FOUR)), *grown(3, 0, b"", *TREES[:6]), open_=True),
+    *command(b"/STOP LTERM T9", "STOPPED T9"),
+]
+WIDE_LIVES = [
+    *WIDE_SESSION,
+    *WIDE_OPEN,
+    (b"POWER 0", ["POWER"], POWER),
+    (b"/NRESTART", ["RESTARTED"], RESTART),
+    *worked(1, 3, 2, ("GHU 1 OK|DLET 1 OK", (1, 0, FIVE, FOUR)), *grown(3, 0, b"", *TREES[:6]), open_=True),
+    (b"/CHECKPOINT", ["CHECKPOINT 3"], CHECKPOINT),
+    (b"POWER 7", ["POWER"], POWER),
+    (b"/ERESTART", ["RESTARTED"], RESTART),
+    (b"/NRESTART", ["UP"], []),
+]
+
+# Images of it. Slots are the first of the database of two sectors, the second, and the first of three; ends are one behind the last sector.
+WIDE_NOW = Restart(4, 1, 1, 0, 11, 3, len(WIDE.text))
+TWO_A, TWO_B, TWO_C, ONE_A, ONE_B, THREE_A, THREE_B, WIDE_END = (WIDE.data + at for at in (0, 2, 4, 6, 7, 8, 11, 14))
+SHORT, FULL, WHOLE_TREE = account(b"0002", b"BBBB"), EIGHT, TREES[5]
+WIDE_SLOTS = {(1, 0): FIVE, (1, 1): SHORT, (2, 0): b"\x010007CCCC", (3, 0): WHOLE_TREE}
+
+
+def wide_image(slots=None, log=(), changes=(), sectors=(), first=0):
+    """An image of the empty state with these slots, these changes in its snapshot, these records in its log, and what else stands in
+    sectors from a place in each on."""
+    image, now = bytearray(WIDE.sectors * SECTOR), WIDE_NOW
+    state = State(WIDE)
+    state.next_unit = 9
+    payload = joined(state.records(now.checkpoint, changes))
+    put(image, 0, restart_sector(now._replace(sectors=len(pieces(payload)))))
+    put(image, 1, WIDE.text)
+    for at, spelled in snapshot_steps(WIDE, now, payload):
+        put(image, at, spelled)
+    for place, part in enumerate(pieces(joined(log))):
+        put(image, WIDE.logs[now.log] + place, log_sector(now.epoch, now.sequence + place, part))
+    for at, value in (WIDE_SLOTS if slots is None else slots).items():
+        for place, spelled in zip(WIDE.places_of(*at), slot_sectors(value, WIDE.size_of(*at))):
+            put(image, place, spelled)
+    for at, place, text in sectors:
+        put(image, at, text, place)
+    return image
+
+
+# What is put into sectors, and the rule that is told with the sector; 0 where none is broken.
+EMPTY_SECTOR, FULL_ONES = (0, bytes(SECTOR)), b"\x0f\xa0" + b"\1" * 4000
+NO_ROWS = account(b"0001", b"AAAA", *MOVES[2:0:-1], *MOVES[3:5])
+WIDE_BYTES = [
+    # in the second of two sectors, of which the first is full: its length, and bytes behind the record
+    *((20, TWO_A + 1, [(TWO_A + 1, 0, text)]) for text in (b"\x0f\xa1", b"\xff\xff", b"\x10", b"\x03\xe7", b"\0\0")),
+    *((20, TWO_A + 1, [(TWO_A + 1, place, b"\1")]) for place in (1002, 4001, 4002, 4095)),
+    (21, TWO_A, [(TWO_A + 1, 0, b"\x03\xe9")]),
+    (21, TWO_A, [(TWO_A + 1, 0, b"\x0f\xa0")]),
+    # in the first of them
+    *((20, TWO_A, [(TWO_A, 0, text)]) for text in (b"\x0f\x9f", b"\x0f\xa1", b"\0\0", b"\0\1")),
+    *((20, TWO_A, [(TWO_A, place, b"\1")]) for place in (4002, 4095)),
+    # bytes behind a sector that isn't full, zeros among them
+    *((20, TWO_B + 1, [(TWO_B + 1, 0, text)]) for text in (b"\0\1\1", b"\0\1\0", b"\0\x0d\x030001NOTE    ", b"\x0f\xa0", FULL_ONES)),
+    (20, TWO_B + 1, [(TWO_B + 1, 4095, b"\1")]),
+    (20, TWO_C + 1, [(TWO_C + 1, 0, b"\0\1\1")]),
+    (20, TWO_A + 1, [(TWO_A, *EMPTY_SECTOR)]),
+    (0, 0, [(TWO_A, *EMPTY_SECTOR), (TWO_A + 1, *EMPTY_SECTOR)]),
+    (0, 0, [(TWO_A + 1, *EMPTY_SECTOR)]),
+    # in the three of a slot, the last of which has the end of a row
+    *((20, THREE_A + 2, [(THREE_A + 2, 0, text)]) for text in (b"\x0f\xa1", b"\xff\xff", b"\x01\xf3", b"\0\0")),
+    *((20, THREE_A + 2, [(THREE_A + 2, place, b"\1")]) for place in (502, 4001, 4095)),
+    (20, THREE_A + 2, [(THREE_A + 1, *EMPTY_SECTOR)]),
+    (20, THREE_A + 2, [(THREE_A + 1, 0, data_sector(WHOLE_TREE[4000:7999]))]),
+    (20, THREE_A + 1, [(THREE_A, *EMPTY_SECTOR)]),
+    (20, THREE_A + 1, [(THREE_A, 0, data_sector(WHOLE_TREE[:3999]))]),
+    (20, THREE_A + 1, [(THREE_A, *EMPTY_SECTOR), (THREE_A + 2, 4095, b"\1")]),
+    (20, THREE_A + 1, [(THREE_A + 1, 4095, b"\1"), (THREE_A + 2, 4095, b"\1")]),
+    (20, THREE_A + 1, [(THREE_A + 1, 0, b"\x0f\x9f")]),
+    (21, THREE_A, [(THREE_A + 2, 0, b"\x01\xf5")]),
+    (21, THREE_A, [(THREE_A + 2, *EMPTY_SECTOR)]),
+    (0, 0, [(THREE_A + 1, *EMPTY_SECTOR), (THREE_A + 2, *EMPTY_SECTOR)]),
+    (0, 0, [(THREE_A + place, *EMPTY_SECTOR) for place in range(3)]),
+    # in the last of the image
+    *((20, WIDE_END - 1, [(WIDE_END - 1, *text)]) for text in ((0, b"\x10"), (0, b"\0\1\1"), (1, b"\1"), (4095, b"\1"))),
+    (20, WIDE_END - 2, [(WIDE_END - 2, 1, b"\1")]),
+    (20, WIDE_END - 2, [(WIDE_END - 2, 1, b"\1"), (WIDE_END - 1, 1, b"\1")]),
+    (21, WIDE_END - 3, [(WIDE_END - 3, 1, b"\1")]),
+    # no record: in the first, in a later one, and in all of a slot
+    (21, TWO_A, [(TWO_A, 2, b"\2")]),
+    *((21, TWO_A, [(TWO_A + 1, place, text)]) for place, text in ((2, b"\1"), (2, b"\x04"), (3, b"\x1f"), (3, b"0003"), (1001, b"\x7f"))),
+    *((21, THREE_A, [(THREE_A + 2, place, b"\n")]) for place in (2, 501)),
+    (21, TWO_A, [(TWO_A, 0, slot_sectors(NO_ROWS, 2)[0]), (TWO_A + 1, 0, slot_sectors(NO_ROWS, 2)[1])]),
+    *((21, TWO_A, [(TWO_A, 0, FULL_ONES), (TWO_A + 1, 0, last)]) for last in (FULL_ONES, b"\0\0" + bytes(4000))),
+    (21, THREE_B, [(at, 0, FULL_ONES) for at in range(THREE_B, WIDE_END)]),
+    (20, WIDE_END - 1, [(at, 0, FULL_ONES) for at in range(THREE_B, WIDE_END)] + [(WIDE_END - 1, 4002, b"\1")]),
+    # a record that fills all of its sectors
+    (0, 0, [(TWO_B + place, 0, spelled) for place, spelled in enumerate(slot_sectors(FULL, 2))]),
+    (0, 0, [(THREE_A + place, 0, spelled) for place, spelled in enumerate(slot_sectors(TREES[7], 3))]),
+    # of several rules the lowest, and of it the lowest sector
+    (20, WIDE_END - 1, [(TWO_A, 2, b"\2"), (WIDE_END - 1, 1, b"\1")]),
+    (20, TWO_A + 1, [(TWO_B + 1, 1, b"\1"), (TWO_A + 1, 4095, b"\1")]),
+    (20, ONE_B, [(THREE_A + 1, 4095, b"\1"), (ONE_B, 4095, b"\1"), (TWO_A + 1, 2, b"\1")]),
+    (21, TWO_B, [(TWO_B, 2, b"\2"), (THREE_A + 2, 2, b"\n")]),
+    (21, ONE_A, [(ONE_A, 2, b"\2"), (THREE_A + 2, 2, b"\n")]),
+]
+# Slots with one root: two of the same, of another length, and what is told with them.
+WIDE_ROOTS = [
+    (22, TWO_A, {(1, 0): FIVE, (1, 1): account(b"0001", b"OTHER")}, []),
+    (22, TWO_A, {(1, 0): account(b"0001", b"OTHER"), (1, 2): FIVE}, []),
+    (22, TWO_B, {(1, 0): FIVE, (1, 1): EIGHT, (1, 2): SHORT}, []),
+    (22, THREE_A, {(1, 0): FIVE, (3, 0): TREES[7], (3, 1): TREES[0]}, []),
+    (22, TWO_B, {(1, 1): EIGHT, (1, 2): SHORT, (3, 0): TREES[7], (3, 1): TREES[0]}, []),
+    (21, THREE_A, {(1, 0): FIVE, (1, 1): FOUR, (3, 0): TREES[7]}, [(THREE_A + 2, 2, b"\n")]),
+    (20, THREE_A + 2, {(1, 0): FIVE, (1, 1): FOUR, (3, 0): TREES[7]}, [(THREE_A + 2, 4095, b"\1")]),
+    (0, 0, {(1, 0): FIVE, (2, 0): b"\x010001CCCC", (3, 0): tree(b"0001", b"AAAA")}, []),
+]
+# A slot's sectors as a stop may leave them, one of the old record and one of the new, or anything: no matter where a record names it.
+TORN_SLOTS = [
+    *((slot_sectors(first, 2)[0], slot_sectors(second, 2)[1]) for first in (FIVE, FOUR) for second in (FIVE, FOUR)),
+    (b"\xff" * SECTOR, b"\xff" * SECTOR),
+    (bytes(SECTOR), slot_sectors(FIVE, 2)[1]),
+    (slot_sectors(NO_ROWS, 2)[0], b"\x0f\xa1"),
+]
+CUT_OFF = Change(9, 1, 0, FIVE, FOUR)
+WIDE_VALUES = [
+    ([], [CUT_OFF], FIVE),
+    ([], [CUT_OFF, end(9)], FOUR),
+    ([CUT_OFF], [], FIVE),
+    ([CUT_OFF], [end(9)], FOUR),
+    ([Change(8, 1, 0, FOUR, FIVE)], [end(8), CUT_OFF], FIVE),
+    ([], [Change(9, 1, 0, FIVE, b""), end(9)], b""),
+    ([], [Change(9, 1, 0, b"", FIVE)], b""),
+    ([], [Change(9, 1, 0, FIVE, account(b"0001", b"SHORT")), end(9)], account(b"0001", b"SHORT")),
+]
+# The images in a change: as long as the slot has room for, and longer.
+LONGEST = {1: account(b"0001", b"AAAA", *MOVES[1:8]), 2: b"\x010007CCCC", 3: TREES[7]}
+WIDE_CHANGES = [
+    *((0, (database, 0, b"", record)) for database, record in LONGEST.items()),
+    (1, (1, 0, b"", LONGEST[1] + note(b"0001"))),
+    (1, (1, 0, LONGEST[1] + note(b"0001"), b"")),
+    (1, (3, 0, b"", tree(b"0009", b"DDDD", *LEAVES[1:9]))),
+    *((1, (database, 0, b"", b"\1" * most)) for database, most in MOST.items()),
+    (1, (1, 3, b"", b"")),
+    (1, (3, 2, b"", b"")),
+]
+
+
+def torn_slots():
+    """An image in whose log and snapshot units change slots of one, two and three sectors, some with their sync points; the sectors of these
+    slots have parts of what stood there before and of what was to stand."""
+    moved = account(b"0002", b"BBBB", *MOVES[1:7])
+    changes = [Change(7, 3, 0, TREES[5], TREES[6]), Change(8, 1, 1, SHORT, moved)]
+    log = [end(7), CUT_OFF, Change(9, 2, 0, b"\x010007CCCC", b""), end(9), Change(10, 3, 0, TREES[6], TREES[7])]
+    torn = [(TWO_A, 0, slot_sectors(FOUR, 2)[0]), (TWO_B + 1, 0, slot_sectors(moved, 2)[1])]
+    torn += [(THREE_A + 1, 0, slot_sectors(TREES[7], 3)[1]), (THREE_A + 2, 0, slot_sectors(TREES[6], 3)[2])]
+    return wide_image(log=log, changes=changes, sectors=torn)

@@ -1,7 +1,7 @@
 -- An image with a snapshot of the empty state, and zeros in the log areas and the data, recovers to the empty state.
-use Rattle.std.proofs.Common.{◌≡◌, ℕ, zero, suc, ◌+◌, ◌-◌, ◌*◌, ◌<◌, ◌≤◌, Bool, true, false, not, ◌||◌, List, [], ◌∷◌, ◌++◌, length, take, drop, map, refl, sym, ◌∙◌, ap, subst, arith, Some, None, Ok, nat_le, nat_lt}
-use Rattle.std.specs.Prelude.{Option, Result, if◌then◌else◌, filter, find, slice_get}
-use Rattle.std.specs.Option.{option_map, unwrap_or}
+use Rattle.std.proofs.Common.{◌≡◌, ℕ, zero, suc, ◌+◌, ◌-◌, ◌*◌, ◌<◌, ◌≤◌, Bool, true, false, not, ◌&&◌, ◌||◌, List, [], ◌∷◌, ◌++◌, length, take, drop, map, refl, sym, ◌∙◌, ap, subst, arith, Some, None, Ok, nat_le, nat_lt}
+use Rattle.std.specs.Prelude.{Option, Result, if◌then◌else◌, ◌==◌, filter, find, slice_get}
+use Rattle.std.specs.Option.{is_some, option_map, option_or, unwrap_or}
 use Rattle.std.specs.List.{list_any, AllByRecursion, flat_map}
 use Rattle.std.specs.Int.{w16, from_be_bytes}
 use Rattle.std.specs.Str.{bytes_eq}
@@ -24,17 +24,16 @@ use Rattle.restart_data.specs.Fields.{number2_at, are_zeros}
 use Rattle.restart_data.specs.Restart.{restart_in}
 use Rattle.restart_data.specs.Snapshot.{snapshot_in}
 use Rattle.restart_data.proofs.Zeros.{are_zeros-zeros}
-use Rattle.model_image.specs.Areas.{is_single, snapshot_area, snapshot_first, log_first, data_first}
+use Rattle.model_system.specs.Areas.{is_single, snapshot_area, snapshot_first, log_first, data_first}
 use Rattle.model_image.specs.CutRecords.{Cut, cut_of, IsRecordCutOff}
 use Rattle.model_image.specs.Faults.{Fault, in_sector, unless_fault}
-use Rattle.model_image.specs.Slots.{SlotOnImage, Source, source_of, slots_by, image_slot_in, named_by, is_change_of, all_slots, slot_fault, rows_of_databases, image_rows_from, rows_of_bytes, rows_by, used_in, slot_bytes_in, is_wrong_length, has_wrong_length, has_no_record, slot_rows, have_one_root, first_shared, first_in, is_image}
+use Rattle.model_image.specs.Slots.{SlotOnImage, Source, source_of, slots_by, image_slot_in, named_by, is_change_of, all_slots, slot_fault, rows_of_databases, image_rows_from, rows_of_bytes, rows_by, used_in, payload_in, spelled_in, is_wrong_sector, wrong_from, sectors_from, wrong_sector, has_no_record, slot_rows, have_one_root, first_shared, first_wrong, first_no_record, first_doubled, first_in, place_in, fault_of, is_image}
 use Rattle.model_image.specs.Slots.Source.{Spelled}
 use Rattle.model_image.specs.RecoveredState.{is_later, snapshot_from, log_in, log_from, state_from, later_sector, state_with, state_by_restart, rest_by, log_rest, Recovers}
 use Rattle.model_image.specs.States.{breaks_a_rule}
 use Rattle.model_image.proofs.Later.{none_later}
 use Rattle.model_image.proofs.Answers.{nothing_cut_off}
-use Rattle.model_image.proofs.Places.{slot_above, slot_below, both_logs, log_above, log_below}
-use Rattle.model_image.proofs.Alike.{IsSlotOf}
+use Rattle.model_image.proofs.Places.{size_of, slot_above, slot_below, both_logs, log_above, log_below}
 use Rattle.seg_store.specs.Slots.{rows_of_slots, with_rows}
 use Rattle.checkpointing.specs.SnapshotRecords.{snapshot_records, AreApart, IsOfSystem}
 use Rattle.checkpointing.proofs.Told.{without_rows, state_told}
@@ -65,12 +64,42 @@ other_letters = refl
 pub blank_not_later : (epoch : ℕ) → is_later epoch blank ≡ false
 blank_not_later epoch = rw (front_blank 0 4 (omega arith), other_letters) refl
 
-none_used : slot_bytes_in blank ≡ []
+none_used : payload_in blank ≡ []
 none_used = ap (λ (n : ℕ). take n (drop 2 blank)) used_blank
 
-right_length : is_wrong_length (Spelled blank) ≡ false
-right_length =
-    rw (used_blank) (ap (λ (b : Bool). nat_lt 4000 0 || not b) (ap are_zeros (ap (drop 2) blank_is ∙ drop-zeros 2 4096) ∙ are_zeros-zeros 4094))
+zeros_behind : are_zeros (drop 2 blank) ≡ true
+zeros_behind = ap are_zeros (ap (drop 2) blank_is ∙ drop-zeros 2 4096) ∙ are_zeros-zeros 4094
+
+-- it isn't wrong, whatever stands before it
+right_by : (full : Bool) (used : ℕ) (clear : Bool) → used ≡ 0 → clear ≡ true → nat_lt 4000 used || not clear || (not full && nat_lt 0 used) ≡ false
+right_by true used clear none all = rw (none, all) refl
+right_by false used clear none all = rw (none, all) refl
+
+right_blank : (full : Bool) → is_wrong_sector full blank ≡ false
+right_blank full = right_by full (used_in blank) (are_zeros (drop (2 + used_in blank) blank)) used_blank (ap (λ (n : ℕ). are_zeros (drop (2 + n) blank)) used_blank ∙ zeros_behind)
+
+-- ---- blank sectors of a slot
+
+-- so many of them
+abbrev pub blanks : ℕ → List (List ℕ)
+blanks zero = []
+blanks (suc n) = blank ∷ blanks n
+
+none_wrong : (n : ℕ) (full : Bool) (at : ℕ) → wrong_from full at (blanks n) ≡ None
+none_wrong zero full at = refl
+none_wrong (suc n) full at =
+    ap (λ (b : Bool). if b then Some at else wrong_from (full && (used_in blank == 4000)) (at + 1) (blanks n)) (right_blank full)
+    ∙ none_wrong n (full && (used_in blank == 4000)) (at + 1)
+
+none_spelled : (n : ℕ) → spelled_in (blanks n) ≡ []
+none_spelled zero = refl
+none_spelled (suc n) = ap (λ (l : List ℕ). l ++ spelled_in (blanks n)) none_used ∙ none_spelled n
+
+all_blank : (n : ℕ) (image : Image) (at : ℕ) → ((k : ℕ) → k < n → sector_at image (at + k) ≡ blank) → sectors_from image at n ≡ blanks n
+all_blank zero image at are = refl
+all_blank (suc n) image at are =
+    ap (λ (s : List ℕ). s ∷ sectors_from image (at + 1) n) (subst (λ p. sector_at image p ≡ blank) (omega arith) (are 0 (omega arith)))
+    ∙ ap (λ (l : List (List ℕ)). blank ∷ l) (all_blank n image (at + 1) (λ k below. subst (λ p. sector_at image p ≡ blank) (omega arith) (are (suc k) (omega (arith, below)))))
 
 least : (n : ℕ) → nat_le 0 n ≡ true
 least n = grind (arith, nat_tests)
@@ -82,15 +111,15 @@ no_rows dbd = ap (λ (b : Bool). if b then rows_by 0 dbd.types [] [] else None) 
 -- ---- free slots
 
 pub record IsFreeSlot (slot : SlotOnImage) : Type 0 where
-  pub right : has_wrong_length slot ≡ false
+  pub right : wrong_sector slot ≡ None
   pub spells : has_no_record slot ≡ false
   pub none : slot_rows slot ≡ []
 
-blank_free : (dbd : Dbd) (place : ℕ) → IsFreeSlot (record { dbd = dbd; place = place; source = Spelled blank })
-blank_free dbd place = record {
-  right = right_length;
-  spells = ap (λ (l : List ℕ). not (is_image dbd l)) none_used ∙ ap (λ (r : Option (List Row)). not (Rattle.std.specs.Option.is_some r)) (no_rows dbd);
-  none = ap (λ (l : List ℕ). unwrap_or (rows_of_bytes dbd l) []) none_used ∙ ap (λ (r : Option (List Row)). unwrap_or r []) (no_rows dbd);
+blank_free : (dbd : Dbd) (place n : ℕ) → IsFreeSlot (record { dbd = dbd; place = place; source = Spelled (blanks n) })
+blank_free dbd place n = record {
+  right = none_wrong n true place;
+  spells = ap (λ (l : List ℕ). not (is_image dbd l)) (none_spelled n) ∙ ap (λ (r : Option (List Row)). not (is_some r)) (no_rows dbd);
+  none = ap (λ (l : List ℕ). unwrap_or (rows_of_bytes dbd l) []) (none_spelled n) ∙ ap (λ (r : Option (List Row)). unwrap_or r []) (no_rows dbd);
 }
 
 abbrev AreFree : List SlotOnImage → Type 0
@@ -100,9 +129,9 @@ found_none : (test : SlotOnImage → Bool) (slots : List SlotOnImage) → AllByR
 found_none test [] none = refl
 found_none test (s ∷ slots) none = ap (λ (b : Bool). if b then Some s else find test slots) none.0 ∙ found_none test slots none.1
 
-rights : (slots : List SlotOnImage) → AreFree slots → AllByRecursion (λ s. has_wrong_length s ≡ false) slots
-rights [] free = tt
-rights (s ∷ slots) free = (free.0.right, rights slots free.1)
+rights : (slots : List SlotOnImage) → AreFree slots → first_wrong slots ≡ None
+rights [] free = refl
+rights (s ∷ slots) free = ap (λ (at : Option ℕ). option_or at (first_wrong slots)) free.0.right ∙ rights slots free.1
 
 spelleds : (slots : List SlotOnImage) → AreFree slots → AllByRecursion (λ s. has_no_record s ≡ false) slots
 spelleds [] free = tt
@@ -122,25 +151,29 @@ none_shared (s ∷ slots) free = ap (λ (b : Bool). if b then Some s else first_
 abbrev AreAllFree : List (List SlotOnImage) → Type 0
 AreAllFree databases = AllByRecursion AreFree databases
 
-first_none : (test : List SlotOnImage → Option SlotOnImage) (databases : List (List SlotOnImage)) → AllByRecursion (λ slots. test slots ≡ None) databases → first_in test databases ≡ None
-first_none test [] none = refl
-first_none test (slots ∷ databases) none = rw (none.0) (first_none test databases none.1)
+first_none : (place : List SlotOnImage → Option ℕ) (databases : List (List SlotOnImage)) → AllByRecursion (λ slots. place slots ≡ None) databases → first_in place databases ≡ None
+first_none place [] none = refl
+first_none place (slots ∷ databases) none = rw (none.0) (first_none place databases none.1)
 
-each_right : (databases : List (List SlotOnImage)) → AreAllFree databases → AllByRecursion (λ slots. find has_wrong_length slots ≡ None) databases
+each_right : (databases : List (List SlotOnImage)) → AreAllFree databases → AllByRecursion (λ slots. first_wrong slots ≡ None) databases
 each_right [] free = tt
-each_right (slots ∷ databases) free = (found_none has_wrong_length slots (rights slots free.0), each_right databases free.1)
+each_right (slots ∷ databases) free = (rights slots free.0, each_right databases free.1)
 
-each_spelled : (databases : List (List SlotOnImage)) → AreAllFree databases → AllByRecursion (λ slots. find has_no_record slots ≡ None) databases
+each_spelled : (databases : List (List SlotOnImage)) → AreAllFree databases → AllByRecursion (λ slots. first_no_record slots ≡ None) databases
 each_spelled [] free = tt
-each_spelled (slots ∷ databases) free = (found_none has_no_record slots (spelleds slots free.0), each_spelled databases free.1)
+each_spelled (slots ∷ databases) free = (ap place_in (found_none has_no_record slots (spelleds slots free.0)), each_spelled databases free.1)
 
-each_apart : (databases : List (List SlotOnImage)) → AreAllFree databases → AllByRecursion (λ slots. first_shared slots ≡ None) databases
+each_apart : (databases : List (List SlotOnImage)) → AreAllFree databases → AllByRecursion (λ slots. first_doubled slots ≡ None) databases
 each_apart [] free = tt
-each_apart (slots ∷ databases) free = (none_shared slots free.0, each_apart databases free.1)
+each_apart (slots ∷ databases) free = (ap place_in (none_shared slots free.0), each_apart databases free.1)
+
+none_broken : (wrong no_record doubled : Option ℕ) → wrong ≡ None → no_record ≡ None → doubled ≡ None → option_or (fault_of 20 wrong) (option_or (fault_of 21 no_record) (fault_of 22 doubled)) ≡ None
+none_broken wrong no_record doubled one two three = rw (one, two, three) refl
 
 pub no_fault : (databases : List (List SlotOnImage)) → AreAllFree databases → slot_fault databases ≡ None
 no_fault databases free =
-    rw (first_none (find has_wrong_length) databases (each_right databases free), first_none (find has_no_record) databases (each_spelled databases free), first_none first_shared databases (each_apart databases free)) refl
+    none_broken (first_in first_wrong databases) (first_in first_no_record databases) (first_in first_doubled databases)
+    (first_none first_wrong databases (each_right databases free)) (first_none first_no_record databases (each_spelled databases free)) (first_none first_doubled databases (each_apart databases free))
 
 rows_free : (slots : List SlotOnImage) → AreFree slots → rows_of_slots (map slot_rows slots) ≡ []
 rows_free [] free = refl
@@ -165,20 +198,28 @@ module _ (system : System) (image : Image) (records : List Record) (unnamed : (d
   unfolding named_by
   not_named database slot = rw (unnamed database slot) refl
 
-  one_free : (dbd : Dbd) (place number : ℕ) → IsSlotOf system place number → IsFreeSlot (image_slot_in image records [] dbd (data_first system place) (place + 1) number)
-  one_free dbd place number is =
-      let at : ℕ = data_first system place + number in
-      let is_blank : sector_at image at ≡ blank = blank_all.each at (omega (arith, slot_above system place number, both_logs system)) (slot_below system place number is) in
-      let spelled : source_of (named_by records [] (place + 1) number) (sector_at image at) ≡ Spelled blank =
-      ap (λ (named : Option (List ℕ)). source_of named (sector_at image at)) (not_named (place + 1) number) ∙ ap Spelled is_blank in
-      subst (λ (source : Source). IsFreeSlot (record { dbd = dbd; place = at; source = source })) (sym spelled) (blank_free dbd at)
+  sector_blank : (dbd : Dbd) (place number index : ℕ) → slice_get system.databases place ≡ Some dbd → number < dbd.roots → index < dbd.sectors → sector_at image (data_first system place + number * dbd.sectors + index) ≡ blank
+  sector_blank dbd place number index found below within =
+      let size = size_of system place dbd found in
+      let same = ap (λ n. number * n) size in
+      blank_all.each (data_first system place + number * dbd.sectors + index)
+      (omega (arith, slot_above system place number index, both_logs system, same))
+      (omega (arith, slot_below system place number index (record { dbd = dbd; found = found; below = below }) (omega (arith, within, size)), same))
+
+  one_free : (dbd : Dbd) (place number : ℕ) → slice_get system.databases place ≡ Some dbd → number < dbd.roots → IsFreeSlot (image_slot_in image records [] dbd (data_first system place) (place + 1) number)
+  one_free dbd place number found below =
+      let at : ℕ = data_first system place + number * dbd.sectors in
+      let are_blank : sectors_from image at dbd.sectors ≡ blanks dbd.sectors = all_blank dbd.sectors image at (λ index within. sector_blank dbd place number index found below within) in
+      let spelled : source_of (named_by records [] (place + 1) number) (sectors_from image at dbd.sectors) ≡ Spelled (blanks dbd.sectors) =
+      ap (λ (named : Option (List ℕ)). source_of named (sectors_from image at dbd.sectors)) (not_named (place + 1) number) ∙ ap Spelled are_blank in
+      subst (λ (source : Source). IsFreeSlot (record { dbd = dbd; place = at; source = source })) (sym spelled) (blank_free dbd at dbd.sectors)
 
   all_free : (place : ℕ) (dbds : List Dbd) → ((j : ℕ) → slice_get dbds j ≡ slice_get system.databases (place + j)) → AreAllFree (all_slots system image records [] place dbds)
   unfolding all_slots
   all_free place [] same = tt
   all_free place (dbd ∷ dbds) same =
       let found : slice_get system.databases place ≡ Some dbd = ap (slice_get system.databases) (omega arith) ∙ sym (same 0) in (
-        free_by (image_slot_in image records [] dbd (data_first system place) (place + 1)) dbd.roots 0 (λ k lt. one_free dbd place (0 + k) (record { dbd = dbd; found = found; below = omega (arith, lt) })),
+        free_by (image_slot_in image records [] dbd (data_first system place) (place + 1)) dbd.roots 0 (λ k lt. one_free dbd place (0 + k) found (omega (arith, lt))),
         all_free (place + 1) dbds (λ j. same (suc j) ∙ ap (slice_get system.databases) (omega arith)),
       )
 
@@ -240,14 +281,14 @@ module _ (system : System) (state : LastingState) (checkpoint unit : ℕ) (termi
   log_is =
       ap (λ (payloads : List (List ℕ)). cut_of (joined_payloads payloads))
       (chain_none system.logs image (log_first system now.log) now.sequence now.epoch (λ k low high.
-      has.blanks.each k (omega (arith, low, log_above system now.log)) (omega (arith, high, log_below system now.log has.log, slot_above system (length system.databases) 0))))
+      has.blanks.each k (omega (arith, low, log_above system now.log)) (omega (arith, high, log_below system now.log has.log, slot_above system (length system.databases) 0 0))))
       ∙ nothing_cut
 
   none_is_later : later_sector system image now ≡ None
   none_is_later =
       ap (option_map (λ sector. (24, sector)))
       (none_later (2 * system.logs) image (log_first system 0) now.epoch (λ k low high.
-      ap (is_later now.epoch) (has.blanks.each k low (omega (arith, high, both_logs system, slot_above system (length system.databases) 0))) ∙ blank_not_later now.epoch))
+      ap (is_later now.epoch) (has.blanks.each k low (omega (arith, high, both_logs system, slot_above system (length system.databases) 0 0))) ∙ blank_not_later now.epoch))
 
   state_is : state_with system image true now ≡ Ok (without_rows system state)
   state_is =

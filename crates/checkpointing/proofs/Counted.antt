@@ -9,7 +9,7 @@ use Rattle.restart_data.specs.Restart.{IsRestart, restart_of, restart_in}
 use Rattle.log_sectors.specs.SealedSector.{opened_payload}
 use Rattle.log_sectors.specs.Chain.{before, chain, joined_payloads}
 use Rattle.log_writer.proofs.Gaining.{chain-same}
-use Rattle.model_image.specs.Areas.{is_single, snapshot_area, log_first}
+use Rattle.model_system.specs.Areas.{is_single, snapshot_area, log_first}
 use Rattle.model_image.specs.CutRecords.{Cut, cut_of}
 use Rattle.model_image.specs.SectorsAhead.{NoneAhead}
 use Rattle.model_image.specs.Counters.{next_sequence, next_unit, told_unit}

@@ -5,7 +5,7 @@ use Rattle.model_machine.specs.Machine.{LastingState}
 use Rattle.log_sectors.specs.SealedSector.{opened_payload}
 use Rattle.log_writer.specs.Writer.{Writer}
 use Rattle.log_writer.specs.ForcedLog.{log_sectors_of}
-use Rattle.model_image.specs.Areas.{log_first}
+use Rattle.model_system.specs.Areas.{log_first}
 use Rattle.model_image.specs.RecoveredState.{is_later, first_later, Recovers}
 use Rattle.model_image.proofs.Places.{snapshot_below, both_logs}
 use Rattle.model_image.proofs.Readings.{opened_not_later}

@@ -1,6 +1,5 @@
 -- A snapshot of a state that keeps the rules fits its area.
-use Rattle.std.proofs.Common.{◌≡◌, ℕ, zero, suc, ◌+◌, ◌*◌, ◌/◌, ◌≤◌, ◌<◌, Bool, true, false, not, ◌&&◌, ◌||◌, List, [], ◌∷◌, ◌++◌, length, map, refl, sym, ◌∙◌, ap, arith, Some, None, nat_lt, cond, subst, max}
-use native.Mathlib.Nat.{mul-le-mul_right}
+use Rattle.std.proofs.Common.{◌≡◌, ℕ, zero, suc, ◌+◌, ◌*◌, ◌/◌, ◌≤◌, ◌<◌, Bool, true, false, not, ◌&&◌, ◌||◌, List, [], ◌∷◌, ◌++◌, length, map, refl, sym, ◌∙◌, ap, arith, Some, None, nat_lt, cond, subst}
 use Rattle.std.specs.Prelude.{Option, All, IfSome, find, take, drop, ◌==◌}
 use Rattle.std.specs.Option.{option_map_or}
 use Rattle.std.specs.List.{list_all, flat_map, AllByRecursion}
@@ -21,8 +20,7 @@ use Rattle.model_machine.specs.Machine.{LastingState}
 use Rattle.log_records.specs.declared.record.Record.{Record}
 use Rattle.log_records.specs.declared.record.Record.TheVariants.{Checkpoint}
 use Rattle.log_records.specs.RecordSpelling.{record_spelling, IsLogRecord, HasRoomForPad}
-use Rattle.model_image.specs.Areas.{snapshot_area, most_sectors, most_sectors_from}
-use Rattle.tm_types.specs.declared.dbd.Dbd.{Dbd}
+use Rattle.model_system.specs.Areas.{snapshot_area, most_sectors}
 use Rattle.model_image.specs.States.{is_printable_byte, is_conversation, is_pad_of, has_right_pad, wrong_values, wrong_ids, unknown_messages, wrong_replies, over_full, breaks_a_rule, is_next, is_small, is_setting}
 use Rattle.system_types.specs.ValidSystem.{IsSystem, IsPadLength}
 use Rattle.checkpointing.specs.SnapshotRecords.{terminal_records, code_record, message_record, reply_records, snapshot_records, IsOfSystem}
@@ -104,14 +102,6 @@ kept system state sound =
 
 -- ---- the whole
 
-most_at_least : (n : ℕ) (dbds : List Dbd) → n ≤ most_sectors_from n dbds
-most_at_least n [] = omega arith
-most_at_least n (dbd ∷ dbds) = omega (arith, most_at_least (max n dbd.sectors) dbds)
-
-at_least_one : (most n q : ℕ) → 1 ≤ most → q + 262144 * n + 131072 ≤ q + 262144 * most * n + 131072
-at_least_one most n q le =
-    let times : 262144 * n ≤ 262144 * most * n = mul-le-mul_right {m = 262144} {n = 262144 * most} n (omega (arith, le)) in omega (arith, times)
-
 sectors_cover : (n : ℕ) → n ≤ (n + 4063) / 4064 * 4064
 sectors_cover n = omega arith
 
@@ -119,7 +109,7 @@ whole_sectors : (bytes most : ℕ) → bytes ≤ most → bytes ≤ (most + 4063
 whole_sectors bytes most h = omega (arith, h, sectors_cover most)
 
 module _ (system : System) (state : LastingState) (checkpoint unit : ℕ) (changes : List Record) (defined : IsSystem system) (is : IsOfSystem system state) (sound : breaks_a_rule system state ≡ false)
-    (valid : AllByRecursion IsLogRecord (snapshot_records checkpoint unit state changes)) (few : size changes ≤ 262144 * length system.regions) where
+    (valid : AllByRecursion IsLogRecord (snapshot_records checkpoint unit state changes)) (few : size changes ≤ 262144 * most_sectors system * length system.regions) where
   abbrev terminals : List Record
   terminals = terminal_records state.terminals state.outputs state.conversations
 
@@ -133,7 +123,7 @@ module _ (system : System) (state : LastingState) (checkpoint unit : ℕ) (chang
   replies = reply_records state.outputs
 
   -- so many bytes at most
-  pub fits_bytes : length (flat_map record_spelling (snapshot_records checkpoint unit state changes)) ≤ system.qbytes + 262144 * length system.regions + 131072
+  pub fits_bytes : length (flat_map record_spelling (snapshot_records checkpoint unit state changes)) ≤ system.qbytes + 262144 * most_sectors system * length system.regions + 131072
   fits_bytes =
       let keeps = kept system state sound in
       let behind_counts = valid.1 in
@@ -162,12 +152,9 @@ module _ (system : System) (state : LastingState) (checkpoint unit : ℕ) (chang
         defined.few_codes,
       )
 
-  most_bytes : system.qbytes + 262144 * length system.regions + 131072 ≤ system.qbytes + 262144 * most_sectors system * length system.regions + 131072
-  most_bytes = at_least_one (most_sectors system) (length system.regions) system.qbytes (most_at_least 1 system.databases)
-
   -- and so they fit the sectors of the area
   pub fits : length (flat_map record_spelling (snapshot_records checkpoint unit state changes)) ≤ snapshot_area system * 4064
-  fits = whole_sectors (length (flat_map record_spelling (snapshot_records checkpoint unit state changes))) (system.qbytes + 262144 * most_sectors system * length system.regions + 131072) (omega (arith, fits_bytes, most_bytes))
+  fits = whole_sectors (length (flat_map record_spelling (snapshot_records checkpoint unit state changes))) (system.qbytes + 262144 * most_sectors system * length system.regions + 131072) fits_bytes
 
   pub some : 0 < length (flat_map record_spelling (snapshot_records checkpoint unit state changes))
   some = omega (

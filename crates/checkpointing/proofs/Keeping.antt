@@ -15,19 +15,19 @@ use Rattle.restart_data.specs.Snapshot as snapshot
 use Rattle.restart_data.specs.WrittenSectors.{Saves, Restarts}
 use Rattle.restart_data.proofs.ImageLaws.{others_stay, restart_keeps_snapshots}
 use Rattle.model_image.specs.SectorsAhead.{NoneAhead}
-use Rattle.model_image.specs.Areas.{is_single, snapshot_area, log_first, data_first}
+use Rattle.model_system.specs.Areas.{is_single, snapshot_area, log_first, data_first, slot_first, slot_size}
 use Rattle.model_image.specs.CutRecords.{cut_of}
-use Rattle.model_image.specs.Slots.{named_by}
+use Rattle.model_image.specs.Slots.{named_by, slot_at}
 use Rattle.model_image.specs.RecoveredState.{snapshot_from, log_in}
 use Rattle.model_image.proofs.Ahead.{opened_one, ahead_free}
 use Rattle.model_image.proofs.Alike.{ImagesAlike, recovers_alike, snapshot_same}
-use Rattle.model_image.proofs.Places.{snapshot_below, log_above, log_below, both_logs, slot_above}
+use Rattle.model_image.proofs.Places.{snapshot_below, log_above, log_below, both_logs, slot_above, slot_same}
 use Rattle.model_image.proofs.Readings.{IsKept, restart_kept}
 use Rattle.model_image.proofs.Unread.{InFreeSnapshot, OfNamedSlot, unread_alike}
 use Rattle.checkpointing.specs.CheckpointParts.{CheckpointParts, AreAreasFree, IsOver, sequence_behind, next_restart, next_writer}
 use Rattle.model_data.specs.Record.{rows_spelling}
 use Rattle.seg_store.specs.ChangedSlots.{AllStores}
-use Rattle.seg_store.specs.DataSectors.{data_sector, HasPut}
+use Rattle.seg_store.specs.DataSectors.{slot_spelling, HasPut}
 use Rattle.seg_store.specs.WrittenSlots.{changed_bytes}
 use Rattle.checkpointing.specs.DirtySlots.{DirtySlot, DirtyAt, AreStoresOf}
 use Rattle.checkpointing.proofs.Slots.{dirty_slot, put_dirty, put_holds}
@@ -54,7 +54,7 @@ module _ (parts : CheckpointParts) (log : Writer) (stores : AllStores) (a : Imag
   -- a changed slot stands behind the logs
   pub dirty_above : (k : ℕ) → DirtyAt parts.system stores k → log_first parts.system 2 ≤ k
   dirty_above k dirty =
-      omega (arith, dirty.sector, slot_above parts.system dirty.place dirty.number)
+      omega (arith, dirty.sector, slot_above parts.system dirty.place dirty.number dirty.index)
 
   -- ---- the log is forced
   module _ (b : Image) (all : AddsAll log a b) where
@@ -77,6 +77,8 @@ module _ (parts : CheckpointParts) (log : Writer) (stores : AllStores) (a : Imag
             place = dirty.place;
             number = dirty.number;
             slot = dirty_slot parts.system stores s.of_ dirty.place dirty.number dirty.slot;
+            index = dirty.index;
+            within = dirty.within;
             sector = dirty.sector;
             named = λ snapshot read.
                 subst (λ (l : List Record). IsSome (named_by snapshot l (dirty.place + 1) dirty.number)) (sym forced_records)
@@ -143,14 +145,17 @@ module _ (parts : CheckpointParts) (log : Writer) (stores : AllStores) (a : Imag
         (λ logs. inr (subst (λ (v : List ℕ). IsSome (opened_payload log.epoch (log.sequence + x) v)) (sym (at_own x lt)) logs))
         (all.each x)
 
-    slots_hold : (place number : ℕ) (slot : DirtySlot stores place number) → sector_at e (data_first parts.system place + number) ≡ data_sector (rows_spelling (slice_index_or slot.store.slots number []))
-    slots_hold place number slot =
-        let k = data_first parts.system place + number in
-        let above : log_first parts.system 2 ≤ k = dirty_above k (record { place = place; number = number; slot = slot; sector = refl }) in
-        let same : sector_at e k ≡ sector_at c k =
+    -- a sector behind the logs
+    at_slot : (k : ℕ) → log_first parts.system 2 ≤ k → sector_at e k ≡ sector_at c k
+    at_slot k above =
         others_stay (next_restart parts log) d e restarts k (omega (arith, above, log_above parts.system 2))
-        ∙ saves.changes.above k (omega (arith, above, area_below, log_above parts.system 2)) in
-        same ∙ put_holds parts.system stores s.of_ b c holds place number slot
+        ∙ saves.changes.above k (omega (arith, above, area_below, log_above parts.system 2))
+
+    slots_hold : (place number : ℕ) (slot : DirtySlot stores place number) → slot_at parts.system e place number ≡ slot_spelling (slot_size parts.system place) (rows_spelling (slice_index_or slot.store.slots number []))
+    slots_hold place number slot =
+        slot_same (slot_size parts.system place) c e (slot_first parts.system place number)
+        (λ index within. at_slot (slot_first parts.system place number + index) (slot_above parts.system place number index))
+        ∙ put_holds parts.system stores s.of_ b c holds place number slot
 
     size : length e ≡ length a
     size =

@@ -10,7 +10,7 @@ use Rattle.checkpointing.specs.CheckpointParts.{CheckpointParts}
 use Rattle.seg_store.specs.ChangedSlots.{AllStores}
 use Rattle.seg_store.specs.DataSectors.{MayPut, HasPut}
 use Rattle.seg_store.specs.WrittenSlots.{changed_bytes}
-use Rattle.model_image.specs.Areas.{data_first}
+use Rattle.model_system.specs.Areas.{data_first}
 use Rattle.checkpointing.specs.DirtySlots.{DirtyAt, AreStoresOf}
 use Rattle.checkpointing.proofs.Slots.{may_dirty, put_dirty}
 use Rattle.checkpointing.specs.Checkpoint.{InArea}

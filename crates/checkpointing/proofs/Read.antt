@@ -11,7 +11,7 @@ use Rattle.log_records.specs.RecordReader.{◌>>=◌}
 use Rattle.restart_data.specs.declared.restart.RestartSector.{RestartSector}
 use Rattle.restart_data.specs.Rules.{first_broken, unless_rule_broken}
 use Rattle.restart_data.specs.Snapshot.{snapshot_in}
-use Rattle.model_image.specs.Areas.{snapshot_first}
+use Rattle.model_system.specs.Areas.{snapshot_first}
 use Rattle.model_image.specs.Counters.{told_unit}
 use Rattle.model_image.specs.CutRecords.{records_cut}
 use Rattle.model_image.specs.Faults.{Fault, in_sector, unless_any, or_fault}

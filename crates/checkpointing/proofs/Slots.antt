@@ -1,5 +1,5 @@
 -- The changed slots of the stores, among the slots of the system.
-use Rattle.std.proofs.Common.{◌≡◌, ◌⊎◌, ℕ, zero, suc, ◌+◌, List, [], ◌∷◌, ◌++◌, length, take, refl, sym, ◌∙◌, ap, subst, inl, inr, ⊎_elim, arith, Some, None, eqb, true, false, Bool}
+use Rattle.std.proofs.Common.{◌≡◌, ◌⊎◌, ℕ, zero, suc, ◌+◌, ◌*◌, ◌<◌, List, [], ◌∷◌, ◌++◌, length, take, refl, sym, ◌∙◌, ap, subst, inl, inr, ⊎_elim, arith, Some, None, eqb, true, false, Bool}
 use Rattle.std.specs.Prelude.{Option, map, option_map, slice_get, slice_index_or, sum_by, if◌then◌else◌}
 use Rattle.std.specs.Option.{option_or, unwrap_or}
 use Rattle.std.proofs.lemmas.Bool.{eqb-true, eq-eqb}
@@ -11,90 +11,144 @@ use Rattle.model_data.specs.declared.row.Row.{Row}
 use Rattle.model_data.specs.Record.{rows_spelling}
 use Rattle.tm_disk.specs.Disk.{Image, sector_at}
 use Rattle.model_system.specs.System.{System}
+use Rattle.model_system.specs.Areas.{data_first, slot_first, slot_size}
 use Rattle.seg_store.specs.Slots.{Stored}
 use Rattle.seg_store.specs.ChangedSlots.{AllStores}
-use Rattle.seg_store.specs.DataSectors.{data_sector, IsGivenAt, given_at, MayPut, HasPut}
-use Rattle.seg_store.specs.WrittenSlots.{slot_count, bytes_behind, all_bytes, changed_bytes}
-use Rattle.seg_store.proofs.WritingBack.{is_given_front, is_given_back}
-use Rattle.model_image.specs.Areas.{data_first}
+use Rattle.seg_store.specs.DataSectors.{data_sector, slot_spelling, pieces_from, pieces_of, IsGivenAt, given_at, MayPut, HasPut, bytes_of_slots}
+use Rattle.seg_store.specs.WrittenSlots.{sector_count, behind, all_bytes, changed_bytes}
+use Rattle.seg_store.proofs.Pieces.{piece_at, piece_given, in_piece}
+use Rattle.seg_store.proofs.WritingBack.{is_given_front, is_given_back, is_given_behind}
+use Rattle.model_image.specs.Slots.{slot_at}
 use Rattle.model_image.proofs.Alike.{IsSlotOf}
-use Rattle.model_image.proofs.Places.{one_slot}
+use Rattle.model_image.proofs.Places.{one_slot, size_of, slot_is}
 use Rattle.checkpointing.specs.DirtySlots.{DirtySlot, DirtyAt, AreStoresOf}
 
--- the slots of the databases before one
-abbrev pub slots_before : List Stored → ℕ → ℕ
-slots_before stores place = sum_by (λ s. s.dbd.roots) (take place stores)
+-- ---- what a list gives a place
 
--- what a list of changed slots gives a place: it is one of them
+-- the sectors of the databases before one
+abbrev pub sectors_before : List Stored → ℕ → ℕ
+sectors_before stores place = sum_by (λ s. s.dbd.roots * s.dbd.sectors) (take place stores)
+
+-- what stands in a sector of a slot with these bytes
+abbrev sector_of : List ℕ → ℕ → List ℕ
+sector_of bytes index = data_sector (piece_at index bytes)
+
+-- the bytes of a slot
+abbrev bytes_in : List (List Row) → ℕ → List ℕ
+bytes_in images number = rows_spelling (slice_index_or images number [])
+
+-- what a list of changed slots gives a place: it is a sector of one of them
 pub record Gives (first others : ℕ) (stores : List Stored) (changed : List (List ℕ)) (at : ℕ) (sector : List ℕ) : Type 0 where
   pub place : ℕ
   pub number : ℕ
   pub slot : DirtySlot (record { stores = stores; changed = changed }) place number
-  pub is : at ≡ first + others + slots_before stores place + number
-  pub holds : sector ≡ data_sector (rows_spelling (slice_index_or slot.store.slots number []))
-
-record InNumbers (first others : ℕ) (images : List (List Row)) (numbers : List ℕ) (at : ℕ) (sector : List ℕ) : Type 0 where
-  pub number : ℕ
   pub index : ℕ
-  pub listed : slice_get numbers index ≡ Some number
-  pub is : at ≡ first + others + number
-  pub holds : sector ≡ data_sector (rows_spelling (slice_index_or images number []))
+  pub within : index < slot.store.dbd.sectors
+  pub is : at ≡ first + others + sectors_before stores place + (number * slot.store.dbd.sectors + index)
+  pub holds : sector ≡ sector_of (bytes_in slot.store.slots number) index
 
-in_numbers : (first others : ℕ) (images : List (List Row)) (numbers : List ℕ) (rest : List (ℕ × List ℕ)) (at : ℕ) (sector : List ℕ) → IsGivenAt first (bytes_behind others images numbers ++ rest) at sector → InNumbers first others images numbers at sector ⊎ IsGivenAt first rest at sector
-in_numbers first others images [] rest at sector given = inr given
-in_numbers first others images (n ∷ numbers) rest at sector given =
+record InNumbers (first sectors : ℕ) (images : List (List Row)) (numbers : List ℕ) (at : ℕ) (sector : List ℕ) : Type 0 where
+  pub number : ℕ
+  pub place : ℕ
+  pub listed : slice_get numbers place ≡ Some number
+  pub index : ℕ
+  pub within : index < sectors
+  pub is : at ≡ first + (number * sectors + index)
+  pub holds : sector ≡ sector_of (bytes_in images number) index
+
+given_either : (first : ℕ) (some more : List (ℕ × List ℕ)) (at : ℕ) (sector : List ℕ) → IsGivenAt first (some ++ more) at sector → IsGivenAt first some at sector ⊎ IsGivenAt first more at sector
+given_either first [] more at sector given = inr given
+given_either first (p ∷ some) more at sector given =
     ⊎_elim
-    (λ here. inl (record { number = n; index = 0; listed = refl; is = omega (arith, here.0); holds = here.1 }))
-    (λ later.
-    ⊎_elim
-    (λ (w : InNumbers first others images numbers at sector). inl (record { number = w.number; index = suc w.index; listed = w.listed; is = w.is; holds = w.holds }))
-    (λ behind. inr behind)
-    (in_numbers first others images numbers rest at sector later))
+    (λ here. inl (inl here))
+    (λ later. ⊎_elim (λ one. inl (inr one)) (λ other. inr other) (given_either first some more at sector later))
     given
+
+-- pieces behind others, by their own first sector
+by_own_first : (first others : ℕ) (pieces : List (ℕ × List ℕ)) (at : ℕ) (sector : List ℕ) → IsGivenAt first (behind others pieces) at sector → IsGivenAt (first + others) pieces at sector
+by_own_first first others [] at sector given = given
+by_own_first first others (p ∷ pieces) at sector given =
+    let place : (first + others) + p.0 ≡ first + (others + p.0) = omega arith in
+    ⊎_elim (λ here. inl (place ∙ here.0, here.1)) (λ later. inr (by_own_first first others pieces at sector later)) given
+
+in_numbers : (first sectors : ℕ) (images : List (List Row)) (numbers : List ℕ) (at : ℕ) (sector : List ℕ) → IsGivenAt first (pieces_of sectors (bytes_of_slots images numbers)) at sector → InNumbers first sectors images numbers at sector
+in_numbers first sectors images [] at sector given = absurd given
+in_numbers first sectors images (n ∷ numbers) at sector given =
+    ⊎_elim
+    (λ (here : IsGivenAt first (pieces_from sectors (n * sectors) (bytes_in images n)) at sector).
+    let w = in_piece sectors first (n * sectors) (bytes_in images n) at sector here in
+    record { number = n; place = 0; listed = refl; index = w.index; within = w.within; is = w.is; holds = w.holds })
+    (λ (later : IsGivenAt first (pieces_of sectors (bytes_of_slots images numbers)) at sector).
+    let w = in_numbers first sectors images numbers at sector later in
+    record { number = w.number; place = suc w.place; listed = w.listed; index = w.index; within = w.within; is = w.is; holds = w.holds })
+    (given_either first (pieces_from sectors (n * sectors) (bytes_in images n)) (pieces_of sectors (bytes_of_slots images numbers)) at sector given)
 
 pub gives : (first others : ℕ) (stores : List Stored) (changed : List (List ℕ)) (at : ℕ) (sector : List ℕ) → IsGivenAt first (all_bytes others stores changed) at sector → Gives first others stores changed at sector
 gives first others [] changed at sector given = absurd given
 gives first others (s ∷ stores) [] at sector given = absurd given
 gives first others (s ∷ stores) (numbers ∷ changed) at sector given =
+    let own : List (ℕ × List ℕ) = pieces_of s.dbd.sectors (bytes_of_slots s.slots numbers) in
+    let more : List (ℕ × List ℕ) = all_bytes (others + s.dbd.roots * s.dbd.sectors) stores changed in
     ⊎_elim
-    (λ (w : InNumbers first others s.slots numbers at sector). record {
+    (λ (here : IsGivenAt first (behind others own) at sector).
+    let w = in_numbers (first + others) s.dbd.sectors s.slots numbers at sector (by_own_first first others own at sector here) in
+    record {
       place = 0;
       number = w.number;
-      slot = record { store = s; found = refl; numbers = numbers; changed = refl; index = w.index; listed = w.listed };
+      slot = record { store = s; found = refl; numbers = numbers; changed = refl; index = w.place; listed = w.listed };
+      index = w.index;
+      within = w.within;
       is = omega (arith, w.is);
       holds = w.holds;
     })
-    (λ later.
-    let w = gives first (others + s.dbd.roots) stores changed at sector later in record {
+    (λ (later : IsGivenAt first more at sector).
+    let w = gives first (others + s.dbd.roots * s.dbd.sectors) stores changed at sector later in
+    record {
       place = suc w.place;
       number = w.number;
       slot = record { store = w.slot.store; found = w.slot.found; numbers = w.slot.numbers; changed = w.slot.changed; index = w.slot.index; listed = w.slot.listed };
-      is = omega (arith, w.is, sum_by-cons (λ (x : Stored). x.dbd.roots) s (take w.place stores));
+      index = w.index;
+      within = w.within;
+      is = omega (arith, w.is, sum_by-cons (λ (x : Stored). x.dbd.roots * x.dbd.sectors) s (take w.place stores));
       holds = w.holds;
     })
-    (in_numbers first others s.slots numbers (all_bytes (others + s.dbd.roots) stores changed) at sector given)
+    (given_either first (behind others own) more at sector given)
 
 -- and each of them is given
-given_number : (first others : ℕ) (images : List (List Row)) (numbers : List ℕ) (i n at : ℕ) → slice_get numbers i ≡ Some n → at ≡ first + others + n → IsGivenAt first (bytes_behind others images numbers) at (data_sector (rows_spelling (slice_index_or images n [])))
-given_number first others images [] i n at listed is = absurd (none_of i listed) where
+given_number : (first sectors : ℕ) (images : List (List Row)) (numbers : List ℕ) (i n index : ℕ) → slice_get numbers i ≡ Some n → index < sectors → IsGivenAt first (pieces_of sectors (bytes_of_slots images numbers)) (first + (n * sectors + index)) (sector_of (bytes_in images n) index)
+given_number first sectors images [] i n index listed within = absurd (none_of i listed) where
   none_of : (k : ℕ) → slice_get {X = ℕ} [] k ≡ Some n → ⊥
   none_of k e = cc
-given_number first others images (m ∷ numbers) zero n at listed is =
-    let same : m ≡ n = cc in inl (omega (arith, is, same), ap (λ k. data_sector (rows_spelling (slice_index_or images k []))) (sym same))
-given_number first others images (m ∷ numbers) (suc i) n at listed is = inr (given_number first others images numbers i n at listed is)
+given_number first sectors images (m ∷ numbers) zero n index listed within =
+    let same : n ≡ m = cc in
+    is_given_front first (pieces_from sectors (m * sectors) (bytes_in images m)) (pieces_of sectors (bytes_of_slots images numbers)) (first + (n * sectors + index)) (sector_of (bytes_in images n) index)
+    (subst (λ k. IsGivenAt first (pieces_from sectors (k * sectors) (bytes_in images k)) (first + (n * sectors + index)) (sector_of (bytes_in images n) index)) same
+    (piece_given sectors first (n * sectors) (bytes_in images n) index within))
+given_number first sectors images (m ∷ numbers) (suc i) n index listed within =
+    is_given_back first (pieces_from sectors (m * sectors) (bytes_in images m)) (pieces_of sectors (bytes_of_slots images numbers)) (first + (n * sectors + index)) (sector_of (bytes_in images n) index)
+    (given_number first sectors images numbers i n index listed within)
 
-pub given : (first others : ℕ) (stores : List Stored) (changed : List (List ℕ)) (place n i at : ℕ) (store : Stored) (numbers : List ℕ) → slice_get stores place ≡ Some store → slice_get changed place ≡ Some numbers → slice_get numbers i ≡ Some n → at ≡ first + others + slots_before stores place + n → IsGivenAt first (all_bytes others stores changed) at (data_sector (rows_spelling (slice_index_or store.slots n [])))
-given first others [] changed place n i at store numbers found listed is at_is = absurd (omega (arith, slice_get_within [] place store found))
-given first others (s ∷ stores) [] place n i at store numbers found listed is at_is = absurd (omega (arith, slice_get_within [] place numbers listed))
-given first others (s ∷ stores) (ns ∷ changed) zero n i at store numbers found listed is at_is =
-    let store_is : s ≡ store = cc in
-    let numbers_is : ns ≡ numbers = cc in
-    is_given_front first (bytes_behind others s.slots ns) (all_bytes (others + s.dbd.roots) stores changed) at (data_sector (rows_spelling (slice_index_or store.slots n [])))
-    (subst (λ (x : Stored). IsGivenAt first (bytes_behind others s.slots ns) at (data_sector (rows_spelling (slice_index_or x.slots n [])))) store_is
-    (given_number first others s.slots ns i n at (subst (λ (l : List ℕ). slice_get l i ≡ Some n) (sym numbers_is) is) (omega (arith, at_is))))
-given first others (s ∷ stores) (ns ∷ changed) (suc place) n i at store numbers found listed is at_is =
-    is_given_back first (bytes_behind others s.slots ns) (all_bytes (others + s.dbd.roots) stores changed) at (data_sector (rows_spelling (slice_index_or store.slots n [])))
-    (given first (others + s.dbd.roots) stores changed place n i at store numbers found listed is (omega (arith, at_is, sum_by-cons (λ (x : Stored). x.dbd.roots) s (take place stores))))
+given_of : (first others : ℕ) (s : Stored) (numbers : List ℕ) (i n index at : ℕ) → slice_get numbers i ≡ Some n → index < s.dbd.sectors → at ≡ (first + others) + (n * s.dbd.sectors + index)
+    → IsGivenAt first (behind others (pieces_of s.dbd.sectors (bytes_of_slots s.slots numbers))) at (sector_of (bytes_in s.slots n) index)
+given_of first others s numbers i n index at listed within is =
+    let own : List (ℕ × List ℕ) = pieces_of s.dbd.sectors (bytes_of_slots s.slots numbers) in
+    is_given_behind first others own at (sector_of (bytes_in s.slots n) index)
+    (subst (λ k. IsGivenAt (first + others) own k (sector_of (bytes_in s.slots n) index)) (sym is)
+    (given_number (first + others) s.dbd.sectors s.slots numbers i n index listed within))
+
+pub given : (first others : ℕ) (stores : List Stored) (changed : List (List ℕ)) (place n i index at : ℕ) (store : Stored) (numbers : List ℕ) → slice_get stores place ≡ Some store → slice_get changed place ≡ Some numbers → slice_get numbers i ≡ Some n → index < store.dbd.sectors
+    → at ≡ first + others + sectors_before stores place + (n * store.dbd.sectors + index) → IsGivenAt first (all_bytes others stores changed) at (sector_of (bytes_in store.slots n) index)
+given first others [] changed place n i index at store numbers found listed is within at_is = absurd (omega (arith, slice_get_within [] place store found))
+given first others (s ∷ stores) [] place n i index at store numbers found listed is within at_is = absurd (omega (arith, slice_get_within [] place numbers listed))
+given first others (s ∷ stores) (ns ∷ changed) zero n i index at store numbers found listed is within at_is =
+    let store_is : store ≡ s = cc in
+    let numbers_is : numbers ≡ ns = cc in
+    is_given_front first (behind others (pieces_of s.dbd.sectors (bytes_of_slots s.slots ns))) (all_bytes (others + s.dbd.roots * s.dbd.sectors) stores changed) at (sector_of (bytes_in store.slots n) index)
+    (subst (λ (x : Stored). IsGivenAt first (behind others (pieces_of x.dbd.sectors (bytes_of_slots x.slots ns))) at (sector_of (bytes_in store.slots n) index)) store_is
+    (given_of first others store ns i n index at (subst (λ (l : List ℕ). slice_get l i ≡ Some n) numbers_is is) within (omega (arith, at_is))))
+given first others (s ∷ stores) (ns ∷ changed) (suc place) n i index at store numbers found listed is within at_is =
+    is_given_back first (behind others (pieces_of s.dbd.sectors (bytes_of_slots s.slots ns))) (all_bytes (others + s.dbd.roots * s.dbd.sectors) stores changed) at (sector_of (bytes_in store.slots n) index)
+    (given first (others + s.dbd.roots * s.dbd.sectors) stores changed place n i index at store numbers found listed is within (omega (arith, at_is, sum_by-cons (λ (x : Stored). x.dbd.roots * x.dbd.sectors) s (take place stores))))
 
 -- ---- the sector that a list gives
 
@@ -123,12 +177,12 @@ same_length : (stores : List Stored) → length (map (λ (s : Stored). s.dbd) st
 same_length [] = refl
 same_length (s ∷ stores) = omega (arith, same_length stores)
 
-sums_map : (stores : List Stored) (place : ℕ) → sum_by (λ (d : Dbd). d.roots) (take place (map (λ (s : Stored). s.dbd) stores)) ≡ slots_before stores place
+sums_map : (stores : List Stored) (place : ℕ) → sum_by (λ (d : Dbd). d.roots * d.sectors) (take place (map (λ (s : Stored). s.dbd) stores)) ≡ sectors_before stores place
 sums_map [] zero = refl
 sums_map [] (suc place) = refl
 sums_map (s ∷ stores) zero = refl
 sums_map (s ∷ stores) (suc place) =
-    omega (arith, sums_map stores place, sum_by-cons (λ (d : Dbd). d.roots) s.dbd (take place (map (λ (x : Stored). x.dbd) stores)), sum_by-cons (λ (x : Stored). x.dbd.roots) s (take place stores))
+    omega (arith, sums_map stores place, sum_by-cons (λ (d : Dbd). d.roots * d.sectors) s.dbd (take place (map (λ (x : Stored). x.dbd) stores)), sum_by-cons (λ (x : Stored). x.dbd.roots * x.dbd.sectors) s (take place stores))
 
 pub dbd_found : (stores : List Stored) (dbds : List Dbd) (place : ℕ) (store : Stored) → map (λ s. s.dbd) stores ≡ dbds → slice_get stores place ≡ Some store → slice_get dbds place ≡ Some store.dbd
 dbd_found stores dbds place store are found =
@@ -136,21 +190,21 @@ dbd_found stores dbds place store are found =
     (slice_get-map (λ (s : Stored). s.dbd) stores place ∙ ap (λ (o : Option Stored). option_map (λ (s : Stored). s.dbd) o) found)
 
 module _ (system : System) (stores : AllStores) (of_ : AreStoresOf system stores) where
-  place_is : (place : ℕ) → data_first system place ≡ data_first system 0 + 0 + slots_before stores.stores place
+  place_is : (place : ℕ) → data_first system place ≡ data_first system 0 + 0 + sectors_before stores.stores place
   place_is place =
-      omega (arith, sums_map stores.stores place, ap (λ (l : List Dbd). sum_by (λ (d : Dbd). d.roots) (take place l)) of_.databases)
+      omega (arith, sums_map stores.stores place, ap (λ (l : List Dbd). sum_by (λ (d : Dbd). d.roots * d.sectors) (take place l)) of_.databases)
 
-  pub slots_end : data_first system 0 + slot_count stores.stores ≡ data_first system (length system.databases)
+  pub slots_end : data_first system 0 + sector_count stores.stores ≡ data_first system (length system.databases)
   slots_end =
       omega (
         arith,
         place_is (length system.databases),
         ap (length {A = Dbd}) of_.databases,
         same_length stores.stores,
-        ap (λ (l : List Stored). slot_count l) (take_all (length system.databases) stores.stores (omega (arith, ap (length {A = Dbd}) of_.databases, same_length stores.stores))),
+        ap (λ (l : List Stored). sector_count l) (take_all (length system.databases) stores.stores (omega (arith, ap (length {A = Dbd}) of_.databases, same_length stores.stores))),
       )
 
-  -- a changed slot is one of the system
+  -- a changed slot is one of the system, with as many sectors as its database's have
   pub dirty_slot : (place number : ℕ) → DirtySlot stores place number → IsSlotOf system place number
   dirty_slot place number slot = record {
     dbd = slot.store.dbd;
@@ -158,8 +212,22 @@ module _ (system : System) (stores : AllStores) (of_ : AreStoresOf system stores
     below = of_.below place number slot;
   }
 
+  pub dirty_size : (place number : ℕ) (slot : DirtySlot stores place number) → slot_size system place ≡ slot.store.dbd.sectors
+  dirty_size place number slot = size_of system place slot.store.dbd (dbd_found stores.stores system.databases place slot.store of_.databases slot.found)
+
+  sector_is : (place number index at : ℕ) (slot : DirtySlot stores place number) → at ≡ data_first system 0 + 0 + sectors_before stores.stores place + (number * slot.store.dbd.sectors + index) → at ≡ slot_first system place number + index
+  sector_is place number index at slot is =
+      omega (arith, is, place_is place, ap (λ n. number * n) (dirty_size place number slot))
+
   gives_dirty : (at : ℕ) (sector : List ℕ) → Gives (data_first system 0) 0 stores.stores stores.changed at sector → DirtyAt system stores at
-  gives_dirty at sector w = record { place = w.place; number = w.number; slot = w.slot; sector = omega (arith, w.is, place_is w.place) }
+  gives_dirty at sector w = record {
+    place = w.place;
+    number = w.number;
+    slot = w.slot;
+    index = w.index;
+    within = omega (arith, w.within, dirty_size w.place w.number w.slot);
+    sector = sector_is w.place w.number w.index at w.slot w.is;
+  }
 
   pub may_dirty : (b c : Image) → MayPut (data_first system 0) (changed_bytes stores) b c → (k : ℕ) → (sector_at c k ≡ sector_at b k) ⊎ DirtyAt system stores k
   may_dirty b c may k =
@@ -176,24 +244,32 @@ module _ (system : System) (stores : AllStores) (of_ : AreStoresOf system stores
       let o = given_at (data_first system 0) (changed_bytes stores) k in
       ⊎_elim (λ same. inl (has.each k ∙ same)) (λ dirty. inr dirty) (given_cases b k o refl)
 
-  -- a list that gives a slot's place a sector gives it that of the slot
-  one_given : (place number : ℕ) (slot : DirtySlot stores place number) (s : List ℕ) → Gives (data_first system 0) 0 stores.stores stores.changed (data_first system place + number) s → s ≡ data_sector (rows_spelling (slice_index_or slot.store.slots number []))
-  one_given place number slot s w =
-      let one = one_slot system w.place w.number place number (dirty_slot w.place w.number w.slot) (dirty_slot place number slot) (omega (arith, w.is, place_is w.place)) in
+  -- a list that gives a place of a slot a sector gives it that of the slot
+  one_given : (place number index at : ℕ) (slot : DirtySlot stores place number) (s : List ℕ) → index < slot_size system place → at ≡ slot_first system place number + index
+      → Gives (data_first system 0) 0 stores.stores stores.changed at s → s ≡ sector_of (bytes_in slot.store.slots number) index
+  one_given place number index at slot s within is w =
+      let one = one_slot system w.place w.number w.index place number index (dirty_slot w.place w.number w.slot) (dirty_slot place number slot) (omega (arith, w.within, dirty_size w.place w.number w.slot)) within
+      (sym (sector_is w.place w.number w.index at w.slot w.is) ∙ is) in
       let same : Some w.slot.store ≡ Some slot.store = sym w.slot.found ∙ ap (λ p. slice_get stores.stores p) one.place ∙ slot.found in
       let store : w.slot.store ≡ slot.store = cc in
-      w.holds ∙ ap (λ (x : Stored). data_sector (rows_spelling (slice_index_or x.slots w.number []))) store
-      ∙ ap (λ n. data_sector (rows_spelling (slice_index_or slot.store.slots n []))) one.number
+      w.holds ∙ ap (λ (x : Stored). sector_of (bytes_in x.slots w.number) w.index) store
+      ∙ ap (λ n. sector_of (bytes_in slot.store.slots n) w.index) one.number
+      ∙ ap (λ n. sector_of (bytes_in slot.store.slots number) n) one.index
 
-  put_one : (b c : Image) (place number : ℕ) (slot : DirtySlot stores place number) (o : Option (List ℕ)) → given_at (data_first system 0) (changed_bytes stores) (data_first system place + number) ≡ o → unwrap_or o (sector_at b (data_first system place + number)) ≡ data_sector (rows_spelling (slice_index_or slot.store.slots number []))
-  put_one b c place number slot None is =
-      absurd (given_some (data_first system 0) (changed_bytes stores) (data_first system place + number) (data_sector (rows_spelling (slice_index_or slot.store.slots number [])))
-      (given (data_first system 0) 0 stores.stores stores.changed place number slot.index (data_first system place + number) slot.store slot.numbers slot.found slot.changed slot.listed (omega (arith, place_is place))) is)
-  put_one b c place number slot (Some s) is =
-      one_given place number slot s (gives (data_first system 0) 0 stores.stores stores.changed (data_first system place + number) s (given_is (data_first system 0) (changed_bytes stores) (data_first system place + number) s is))
+  put_one : (b : Image) (place number index at : ℕ) (slot : DirtySlot stores place number) (o : Option (List ℕ)) → index < slot_size system place → at ≡ slot_first system place number + index
+      → given_at (data_first system 0) (changed_bytes stores) at ≡ o → unwrap_or o (sector_at b at) ≡ sector_of (bytes_in slot.store.slots number) index
+  put_one b place number index at slot None within at_is is =
+      absurd (given_some (data_first system 0) (changed_bytes stores) at (sector_of (bytes_in slot.store.slots number) index)
+      (given (data_first system 0) 0 stores.stores stores.changed place number slot.index index at slot.store slot.numbers slot.found slot.changed slot.listed
+      (omega (arith, within, dirty_size place number slot))
+      (omega (arith, at_is, place_is place, ap (λ n. number * n) (dirty_size place number slot)))) is)
+  put_one b place number index at slot (Some s) within at_is is =
+      one_given place number index at slot s within at_is (gives (data_first system 0) 0 stores.stores stores.changed at s (given_is (data_first system 0) (changed_bytes stores) at s is))
 
-  -- each changed slot stands in its sector
-  pub put_holds : (b c : Image) → HasPut (data_first system 0) (changed_bytes stores) b c → (place number : ℕ) (slot : DirtySlot stores place number) → sector_at c (data_first system place + number) ≡ data_sector (rows_spelling (slice_index_or slot.store.slots number []))
+  -- each changed slot stands in its sectors
+  pub put_holds : (b c : Image) → HasPut (data_first system 0) (changed_bytes stores) b c → (place number : ℕ) (slot : DirtySlot stores place number)
+      → slot_at system c place number ≡ slot_spelling (slot_size system place) (rows_spelling (slice_index_or slot.store.slots number []))
   put_holds b c has place number slot =
-      let k = data_first system place + number in
-      has.each k ∙ put_one b c place number slot (given_at (data_first system 0) (changed_bytes stores) k) refl
+      slot_is (slot_size system place) c (slot_first system place number) (bytes_in slot.store.slots number) (λ index within.
+      let k = slot_first system place number + index in
+      has.each k ∙ put_one b place number index k slot (given_at (data_first system 0) (changed_bytes stores) k) within refl refl)

@@ -21,7 +21,7 @@ use Rattle.checkpointing.proofs.Texts.{prepares_text, written_text}
 use Rattle.checkpointing.specs.CheckpointSteps.{WritesSnapshot, WritesRestart, Prepares, Takes}
 use Rattle.checkpointing.proofs.Calls.{within_then}
 use Rattle.checkpointing.proofs.Preparing.{sectors_fit, snapshot_prepares}
-use Rattle.model_image.specs.Areas.{log_first, data_first}
+use Rattle.model_system.specs.Areas.{log_first, data_first}
 use Rattle.model_image.proofs.Places.{slot_above, both_logs}
 use Rattle.checkpointing.proofs.Keeping.{Stands, prepares_keep, is_checkpointed, next_restart_in, next_ahead, next_at_end}
 
@@ -122,7 +122,7 @@ module _ (parts : CheckpointParts) (log : Writer) (stores : AllStores) (old : Di
       let w = follows.from image left in next_restart_in parts log stores w.before (stands w.before w.left) image w.by
 
   small_logs : log_first parts.system 2 < 2 ^ 32
-  small_logs = omega (arith, asked.areas, disk.size_fits, slot_above parts.system (length parts.system.databases) 0)
+  small_logs = omega (arith, asked.areas, disk.size_fits, slot_above parts.system (length parts.system.databases) 0 0)
 
   pub taken_ahead : (new : DiskState) → Follows (IsCheckpointed parts log stores) old new → NoneIsAhead parts.system parts.now.epoch (sequence_behind log) new
   taken_ahead new follows image left =

@@ -6,7 +6,7 @@ use Rattle.restart_data.specs.Restart.{restart_of, restart_in}
 use Rattle.log_writer.specs.Writer.{Writer}
 use Rattle.log_writer.specs.ForcedLog.{AddsFront, AddsAll}
 use Rattle.seg_store.specs.ChangedSlots.{AllStores}
-use Rattle.model_image.specs.Areas.{is_single, snapshot_area}
+use Rattle.model_system.specs.Areas.{is_single, snapshot_area}
 use Rattle.model_image.specs.Text.{bytes_from, text_in}
 use Rattle.model_image.proofs.Places.{log_above, snapshot_below}
 use Rattle.checkpointing.specs.CheckpointParts.{CheckpointParts, next_restart}

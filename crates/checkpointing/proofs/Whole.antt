@@ -8,7 +8,7 @@ use Rattle.log_records.specs.declared.record.Record.{Record}
 use Rattle.log_records.specs.RecordSpelling.{record_spelling}
 use Rattle.restart_data.specs.declared.restart.RestartSector.{RestartSector}
 use Rattle.restart_data.specs.Snapshot.{snapshot_in}
-use Rattle.model_image.specs.Areas.{snapshot_area, snapshot_first}
+use Rattle.model_system.specs.Areas.{snapshot_area, snapshot_first, most_sectors}
 use Rattle.model_image.specs.RecoveredState.{snapshot_from}
 use Rattle.model_image.specs.States.{breaks_a_rule}
 use Rattle.system_types.specs.ValidSystem.{IsSystem}
@@ -33,7 +33,7 @@ pub record IsWhole (system : System) (checkpoint unit : ℕ) (state : LastingSta
 
 -- so for what `write` answers
 pub whole : (system : System) (checkpoint unit : ℕ) (state : LastingState) (changes : List Record) (bytes : List ℕ) → IsSystem system → IsOfSystem system state → AreCounts checkpoint unit → breaks_a_rule system state ≡ false → AreChanges system changes
-    → size changes ≤ 262144 * length system.regions → AddsSpelled (snapshot_records checkpoint unit state changes) [] bytes → IsWhole system checkpoint unit state changes bytes
+    → size changes ≤ 262144 * most_sectors system * length system.regions → AddsSpelled (snapshot_records checkpoint unit state changes) [] bytes → IsWhole system checkpoint unit state changes bytes
 whole system checkpoint unit state changes bytes defined is counts sound changed few adds =
     let apart = codes_apart system defined in
     record {

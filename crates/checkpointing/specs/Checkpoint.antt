@@ -11,8 +11,9 @@ use Rattle.model_image.specs.RecoveredState.{Recovers}
 use Rattle.checkpointing.specs.CheckpointParts.{CheckpointParts, next_restart}
 use Rattle.model_data.specs.Record.{rows_spelling}
 use Rattle.seg_store.specs.ChangedSlots.{AllStores}
-use Rattle.seg_store.specs.DataSectors.{data_sector}
-use Rattle.model_image.specs.Areas.{data_first}
+use Rattle.seg_store.specs.DataSectors.{slot_spelling}
+use Rattle.model_system.specs.Areas.{slot_size}
+use Rattle.model_image.specs.Slots.{slot_at}
 use Rattle.checkpointing.specs.DirtySlots.{DirtySlot, DirtyAt}
 
 -- What lasts by the image before, lasts by the one after.
@@ -33,13 +34,13 @@ IsCheckpointWritten parts log stores k =
     ⊎ (InArea (log.first + log.place) (log_sectors_of (length log.appended)) k ⊎ DirtyAt parts.system stores k))
 
 -- The image after a checkpoint, by the one before: the log has what was appended; each slot that was changed stands in
--- its sector; the new snapshot stands in the area that was free; and the restart sector names it and the other log
+-- its sectors; the new snapshot stands in the area that was free; and the restart sector names it and the other log
 -- area. All other sectors stay.
 pub record IsCheckpointed (parts : CheckpointParts) (log : Writer) (stores : AllStores) (before after : Image) : Type 0 where
   pub restart : (most : ℕ) (single : Bool) → (next_restart parts log).sectors ≤ most → restart_in most single after ≡ Ok (Some (next_restart parts log))
   pub snapshot : snapshot_in (next_restart parts log).sectors after parts.snapshot_at (next_restart parts log).checkpoint ≡ Ok parts.snapshot
   pub log_has : log_of_writer log after ≡ log_of_writer log before ++ log.appended
   pub log_each : (x : ℕ) → x < log.count → StaysOrLogs log before after x
-  pub slots : (place number : ℕ) (slot : DirtySlot stores place number) → sector_at after (data_first parts.system place + number) ≡ data_sector (rows_spelling (slice_index_or slot.store.slots number []))
+  pub slots : (place number : ℕ) (slot : DirtySlot stores place number) → slot_at parts.system after place number ≡ slot_spelling (slot_size parts.system place) (rows_spelling (slice_index_or slot.store.slots number []))
   pub size : length after ≡ length before
   pub elsewhere : (k : ℕ) → (sector_at after k ≡ sector_at before k) ⊎ IsCheckpointWritten parts log stores k

@@ -8,7 +8,7 @@ use Rattle.restart_data.specs.Restart.{restart_in}
 use Rattle.log_writer.specs.Writer.{Writer}
 use Rattle.log_writer.specs.ForcedLog.{log_of_writer, AddsFront}
 use Rattle.model_image.specs.SectorsAhead.{NoneAhead}
-use Rattle.model_image.specs.Areas.{is_single, snapshot_area}
+use Rattle.model_system.specs.Areas.{is_single, snapshot_area}
 use Rattle.model_image.specs.CutRecords.{cut_of}
 use Rattle.model_image.specs.Slots.{named_by}
 use Rattle.model_image.specs.RecoveredState.{snapshot_from}

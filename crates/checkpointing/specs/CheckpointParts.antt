@@ -5,7 +5,7 @@ use Rattle.restart_data.specs.declared.restart.RestartSector.{RestartSector}
 use Rattle.restart_data.specs.Snapshot as snapshot
 use Rattle.log_writer.specs.Writer.{Writer}
 use Rattle.log_writer.specs.ForcedLog.{log_sectors_of}
-use Rattle.model_image.specs.Areas.{snapshot_area, snapshot_first, log_first}
+use Rattle.model_system.specs.Areas.{snapshot_area, snapshot_first, log_first}
 use Rattle.checkpointing.specs.declared.checkpoint.PartsView.{PartsView}
 
 -- the system, the restart sector that holds, where the snapshot and the log behind it are to stand, and the snapshot's

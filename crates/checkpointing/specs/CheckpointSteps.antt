@@ -8,7 +8,7 @@ use Rattle.checkpointing.specs.CheckpointParts.{CheckpointParts, next_restart}
 use Rattle.seg_store.specs.ChangedSlots.{AllStores}
 use Rattle.seg_store.specs.DataSectors.{HasPut}
 use Rattle.seg_store.specs.WrittenSlots.{changed_bytes}
-use Rattle.model_image.specs.Areas.{data_first}
+use Rattle.model_system.specs.Areas.{data_first}
 use Rattle.checkpointing.specs.DirtySlots.{DirtyAt}
 use Rattle.checkpointing.specs.Checkpoint.{InArea}
 

@@ -14,7 +14,7 @@ pub use Rattle.image_law.specs.SegmentCounts
 pub use Rattle.log_records.specs.RecordSpelling
 pub use Rattle.log_writer.specs.ForcedLog
 pub use Rattle.model_data.specs.Record
-pub use Rattle.model_image.specs.Areas
+pub use Rattle.model_system.specs.Areas
 pub use Rattle.model_machine.specs.Machine
 pub use Rattle.model_messages.specs.Queue
 pub use Rattle.restart_data.specs.Restart

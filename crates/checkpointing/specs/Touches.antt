@@ -27,11 +27,11 @@ abbrev pub changes_of_units : List Stored → List OpenUnit → List Record
 changes_of_units stores [] = []
 changes_of_units stores (u ∷ units) = touch_records u.number stores u.work.now.slots ++ changes_of_units stores units
 
--- a record of the database has one sector
-abbrev pub HasOneSector : Stored → Type 0
-HasOneSector s = s.dbd.sectors ≤ 1
+-- a record of the database has at most 8 sectors
+abbrev pub HasFewSectors : Stored → Type 0
+HasFewSectors s = s.dbd.sectors ≤ 8
 
--- the database is there, and the record that stood in the slot has one sector
+-- the database is there, and the record that stood in the slot has at most 8 sectors
 pub record IsSpelled (stores : List Stored) (c : Change) : Type 0 where
   pub least : 1 ≤ c.db
   pub most : c.db ≤ length stores

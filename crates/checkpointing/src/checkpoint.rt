@@ -4,8 +4,8 @@ ghost use Rattle.tm_disk.specs.Disk.{Image, Stays, Within, Follows, Only, Writes
 ghost use Rattle.restart_data.specs.Restart.{IsRestart};
 ghost use Rattle.restart_data.specs.Snapshot as snapshot;
 ghost use Rattle.log_writer.specs.ForcedLog.{log_sectors_of, log_of_writer, IsWriterReady};
-ghost use Rattle.model_image.specs.Areas.{data_first};
-ghost use Rattle.seg_store.specs.WrittenSlots.{changed_count};
+ghost use Rattle.model_system.specs.Areas.{data_first};
+ghost use Rattle.seg_store.specs.WrittenSlots.{changed_sectors};
 ghost use Rattle.checkpointing.specs.CheckpointParts.{checkpoint_parts_of, other_area, restart_behind, sequence_behind, next_restart, next_writer, AreAreasFree, IsOver};
 ghost use Rattle.checkpointing.specs.DirtySlots.{AreStoresOf};
 ghost use Rattle.checkpointing.specs.Checkpoint.{KeepsRecovery, IsCheckpointed};
@@ -49,8 +49,8 @@ pub struct PartsView<'a> {
     pub snapshot: &'a [u8],
 }
 
-/// Forces the log, writes each slot that was changed, in ascending order, and syncs; writes the snapshot into the free area,
-/// and syncs; writes the restart sector, which names the snapshot and the other log area, and syncs. The answer is that
+/// Forces the log, writes all sectors of each slot that was changed, in ascending order, and syncs; writes the snapshot into
+/// the free area, and syncs; writes the restart sector, which names the snapshot and the other log area, and syncs. The answer is that
 /// restart sector, and the log's writer then stands at the start of that area.
 #[tactic(auto, using(tm_disk::proofs::Words::stays_on))]
 pub fn take<D: Disk>(
@@ -100,7 +100,7 @@ pub fn take<D: Disk>(
     ensures ahead { OnOk result (NoneIsAhead parts.entry.now.system.now parts.entry.now.now.now.epoch (sequence_behind log.old) (D.state disk.new)) }
     ensures empty { OnOk result ((image : Image) → (D.state disk.new).may_leave image → log_of_writer log.new image ≡ []) }
 
-    ensures writes { WritesAtMost (log_sectors_of (length log.old.appended) + changed_count stores.now.changed + snapshot.snapshot_sectors_of (length parts.entry.now.snapshot.now) + 1) (D.state disk.old) (D.state disk.new) }
+    ensures writes { WritesAtMost (log_sectors_of (length log.old.appended) + changed_sectors stores.now.stores stores.now.changed + snapshot.snapshot_sectors_of (length parts.entry.now.snapshot.now) + 1) (D.state disk.old) (D.state disk.new) }
     ensures no_fault { OnOk result ((D.state disk.new).faults ≡ (D.state disk.old).faults) }
     ensures cause { OnErr result (FailedSince (D.state disk.old) (D.state disk.new)) }
     ensures memory { IsErrOf result CheckFault.Memory → ⊥ }

@@ -12,8 +12,8 @@
 //! Proved of a checkpoint: whenever a crash comes while it is taken, the image recovers to what lasted before, and a
 //! front of its steps was done. Once it has answered, each image that a crash may leave has the restart sector that was
 //! answered, with the next checkpoint, the other areas and the sequence behind the log; the new snapshot; no log behind
-//! it; and each changed slot in its sector. It writes the log's sectors, each changed slot once, the snapshot's sectors
-//! and the restart sector, and takes no memory. What an image counts on, with bounds of it, is defined here
+//! it; and each changed slot in its sectors. It writes the log's sectors, each sector of a changed slot once, the snapshot's
+//! sectors and the restart sector, and takes no memory. What an image counts on, with bounds of it, is defined here
 //! (specs/Counts).
 #![tactic(auto)]
 

@@ -6,8 +6,8 @@ ghost use Rattle.restart_data.specs.Snapshot as snapshot;
 ghost use Rattle.restart_data.specs.WrittenSectors.{Saves};
 ghost use Rattle.log_writer.specs.ForcedLog.{log_sectors_of, IsWriterReady};
 ghost use Rattle.seg_store.specs.DataSectors.{MayPut, HasPut, PutsFront};
-ghost use Rattle.seg_store.specs.WrittenSlots.{slot_count, changed_count, changed_bytes};
-ghost use Rattle.model_image.specs.Areas.{data_first};
+ghost use Rattle.seg_store.specs.WrittenSlots.{sector_count, changed_sectors, changed_bytes};
+ghost use Rattle.model_system.specs.Areas.{data_first};
 ghost use Rattle.checkpointing.specs.CheckpointParts.{checkpoint_parts_of, forced_writer};
 ghost use Rattle.checkpointing.specs.DirtySlots.{AreStoresOf};
 ghost use Rattle.checkpointing.specs.CheckpointSteps.{WritesSnapshot, Prepares};
@@ -18,17 +18,17 @@ use restart_data::write_snapshot;
 use seg_store::Stores;
 use tm_disk::{Disk, DiskFault};
 
-// Writes the slots that were changed, where the slots stand from the sector `first` on.
+// Writes the slots that were changed, where the sectors of all slots stand from the sector `first` on.
 #[tactic(auto, using(tm_disk::proofs::Words::stays_on))]
 fn write_slots<D: Disk>(disk: &mut D, stores: &Stores, first: u32) -> Result<(), DiskFault>
-    requires area { first + slot_count stores.now.stores ≤ (D.state disk.old).size }
-    requires sectors { AllByRecursion (λ s. s.dbd.sectors ≤ 1) stores.now.stores }
+    requires area { first + sector_count stores.now.stores ≤ (D.state disk.old).size }
+    requires few_sectors { AllByRecursion (λ s. s.dbd.sectors ≤ 8) stores.now.stores }
     ensures stays { Stays (D.state disk.old) (D.state disk.new) }
     ensures any_moment { Within (MayPut first (changed_bytes stores.now)) (D.state disk.old) (D.state disk.new) }
     ensures done { OnOk result (Follows (HasPut first (changed_bytes stores.now)) (D.state disk.old) (D.state disk.new)) }
     // Where the disk fails, the slots in front are written, and none behind: so they are written in ascending order.
     ensures ascending { OnErr result (IsTrue (D.state disk.old).tells → PutsFront first (changed_bytes stores.now) (D.state disk.old).shown (D.state disk.new).shown) }
-    ensures writes { WritesAtMost (changed_count stores.now.changed) (D.state disk.old) (D.state disk.new) }
+    ensures writes { WritesAtMost (changed_sectors stores.now.stores stores.now.changed) (D.state disk.old) (D.state disk.new) }
     ensures no_fault { OnOk result ((D.state disk.new).faults ≡ (D.state disk.old).faults) }
     ensures cause { OnErr result (FailedSince (D.state disk.old) (D.state disk.new)) }
 {
@@ -78,7 +78,7 @@ pub(crate) fn prepare<D: Disk>(
     requires log_area { log.old.first + log.old.count ≤ (D.state disk.old).size }
     requires sequences { log.old.sequence + log.old.count < 2 ^ 64 }
     requires ready { IsWriterReady log.old (D.state disk.old) }
-    requires area { first + slot_count stores.now.stores ≤ (D.state disk.old).size }
+    requires area { first + sector_count stores.now.stores ≤ (D.state disk.old).size }
     requires first { first ≡ data_first parts.now.system.now 0 }
     requires stores { AreStoresOf parts.now.system.now stores.now }
     requires within { parts.now.snapshot_at + parts.now.snapshot_sectors ≤ (D.state disk.old).size }
@@ -90,7 +90,7 @@ pub(crate) fn prepare<D: Disk>(
     ensures done { OnOk result (Follows (WritesSnapshot (checkpoint_parts_of parts.entry.now) log.old stores.now) (D.state disk.old) (D.state disk.new)) }
     ensures sectors { IfOk result (λ n. n ≡ snapshot.snapshot_sectors_of (length parts.entry.now.snapshot.now)) }
     ensures forced { OnOk result (log.new ≡ forced_writer log.old) }
-    ensures writes { WritesAtMost (log_sectors_of (length log.old.appended) + changed_count stores.now.changed + snapshot.snapshot_sectors_of (length parts.entry.now.snapshot.now)) (D.state disk.old) (D.state disk.new) }
+    ensures writes { WritesAtMost (log_sectors_of (length log.old.appended) + changed_sectors stores.now.stores stores.now.changed + snapshot.snapshot_sectors_of (length parts.entry.now.snapshot.now)) (D.state disk.old) (D.state disk.new) }
     ensures no_fault { OnOk result ((D.state disk.new).faults ≡ (D.state disk.old).faults) }
     ensures cause { OnErr result (FailedSince (D.state disk.old) (D.state disk.new)) }
 {

@@ -5,7 +5,7 @@ ghost use Rattle.log_records.specs.declared.record.Record.TheVariants.{Checkpoin
 ghost use Rattle.model_machine.specs.Machine.{setting_of};
 ghost use Rattle.checkpointing.specs.SnapshotRecords.{terminal_records, code_record, snapshot_records};
 ghost use Rattle.checkpointing.specs.SpelledRecords.{AddsSpelled, HaveRoom, IsWritable};
-ghost use Rattle.checkpointing.specs.Touches.{changes_of_units, HasOneSector, AreAllSpelled};
+ghost use Rattle.checkpointing.specs.Touches.{changes_of_units, HasFewSectors, AreAllSpelled};
 ghost use Rattle.checkpointing.specs.SnapshotState.{snapshot_state_of};
 
 use crate::codes::append_codes;
@@ -51,7 +51,7 @@ pub struct SnapshotView<'a> {
 fn append_snapshot(out: &mut Vec<u8>, view: &SnapshotView) -> Result<(), Memory>
     requires state { IsWritable (snapshot_state_of view.now) }
     requires units { AreAllSpelled view.now.stores.now.stores view.now.units.now }
-    requires one_sector { AllByRecursion HasOneSector view.now.stores.now.stores }
+    requires few_sectors { AllByRecursion HasFewSectors view.now.stores.now.stores }
     ensures { OnOk result (AddsSpelled (snapshot_records view.entry.now.checkpoint view.entry.now.next_unit (snapshot_state_of view.entry.now) (changes_of_units view.entry.now.stores.now.stores view.entry.now.units.now)) out.old.items out.new.items) }
 {
     append_checkpoint(
@@ -78,7 +78,7 @@ fn append_snapshot(out: &mut Vec<u8>, view: &SnapshotView) -> Result<(), Memory>
 pub fn write(alloc: Global, view: &SnapshotView) -> Result<Vec<u8>, Memory>
     requires state { IsWritable (snapshot_state_of view.now) }
     requires units { AreAllSpelled view.now.stores.now.stores view.now.units.now }
-    requires one_sector { AllByRecursion HasOneSector view.now.stores.now.stores }
+    requires few_sectors { AllByRecursion HasFewSectors view.now.stores.now.stores }
     ensures { IfOk result (λ bytes. AddsSpelled (snapshot_records view.entry.now.checkpoint view.entry.now.next_unit (snapshot_state_of view.entry.now) (changes_of_units view.entry.now.stores.now.stores view.entry.now.units.now)) [] bytes.items) }
 {
     let mut bytes = Vec::new(alloc);

@@ -1,9 +1,10 @@
 -- A checkpoint of a life: its images have what it asks for, and the image behind it is one of the life behind it.
-use Rattle.std.proofs.Common.{◌≡◌, ℕ, ◌+◌, ◌-◌, ◌<◌, ◌≤◌, Bool, true, false, List, [], ◌∷◌, ◌++◌, length, get_or, refl, sym, ◌∙◌, ap, subst, ⊎_elim, arith, Some, Ok, IsSome}
+use Rattle.std.proofs.Common.{◌≡◌, ℕ, ◌+◌, ◌-◌, ◌*◌, ◌<◌, ◌≤◌, Bool, true, false, List, [], ◌∷◌, ◌++◌, length, get_or, refl, sym, ◌∙◌, ap, subst, ⊎_elim, arith, Some, Ok, IsSome}
 use Rattle.std.specs.Prelude.{Option, Result, slice_index_or}
 use Rattle.std.specs.List.{flat_map}
 use Rattle.std.proofs.lemmas.Grind.{flat_map-append}
 use Rattle.tm_disk.specs.Disk.{Image, sector_at}
+use Rattle.tm_types.specs.declared.dbd.Dbd.{Dbd}
 use Rattle.model_data.specs.Record as rows
 use Rattle.model_machine.specs.Machine.{LastingState}
 use Rattle.log_records.specs.declared.record.Record.{Record}
@@ -15,20 +16,20 @@ use Rattle.log_writer.specs.ForcedLog.{log_of_writer, log_sectors_of, AddsFront}
 use Rattle.restart_data.specs.Rules.{unless_rule_broken}
 use Rattle.seg_store.specs.Slots.{Stored, AreSlots}
 use Rattle.seg_store.specs.ChangedSlots.{AllStores}
-use Rattle.seg_store.specs.DataSectors.{data_sector}
+use Rattle.seg_store.specs.DataSectors.{slot_spelling}
 use Rattle.model_image.specs.SectorsAhead.{NoneAhead}
-use Rattle.model_image.specs.Areas.{is_single, snapshot_area, snapshot_first, log_first, data_first}
+use Rattle.model_system.specs.Areas.{is_single, snapshot_area, snapshot_first, log_first, slot_size, slot_first}
 use Rattle.model_image.specs.CutRecords.{Cut, cut_of, where_none_left, records_cut}
 use Rattle.model_image.specs.Faults.{Fault, in_sector, unless_any, or_fault}
 use Rattle.model_image.specs.HeldStores.{HoldsBytes}
-use Rattle.model_image.specs.Slots.{named_by}
+use Rattle.model_image.specs.Slots.{named_by, slot_at}
 use Rattle.model_image.specs.Snapshot.{snapshot_rules}
 use Rattle.model_image.specs.RecoveredState.{snapshot_from, Recovers}
 use Rattle.model_image.proofs.Ahead.{ahead_more, ahead_empty}
 use Rattle.model_image.proofs.Alike.{IsSlotOf}
 use Rattle.model_image.proofs.Answers.{one_answer_of}
 use Rattle.model_image.proofs.Cutting.{records_whole}
-use Rattle.model_image.proofs.Places.{snapshot_below, log_above, log_below, slot_above, one_slot}
+use Rattle.model_image.proofs.Places.{snapshot_below, log_above, log_below, slot_above, one_slot, size_of, slot_same}
 use Rattle.model_image.proofs.Readings as readings
 use Rattle.disk_law.specs.CommittedBytes.{Touches}
 use Rattle.checkpointing.specs.CheckpointParts.{CheckpointParts, AreAreasFree, IsOver, sequence_behind, next_restart}
@@ -126,17 +127,18 @@ module _ (bytes : List ℕ) (stores : AllStores) (touches : Touches) (told : Lis
           ⊎_elim (λ (in_ : InArea parts.snapshot_at parts.snapshot_sectors i). absurd (omega (arith, in_.low, high)))
           (λ more.
           ⊎_elim (λ (in_ : InArea (life.log.first + life.log.place) (log_sectors_of (length life.log.appended)) i). absurd (omega (arith, in_.low, high, l.writer.first)))
-          (λ (dirty : DirtyAt life.system stores i). absurd (omega (arith, dirty.sector, high, slot_above life.system dirty.place dirty.number)))
+          (λ (dirty : DirtyAt life.system stores i). absurd (omega (arith, dirty.sector, high, slot_above life.system dirty.place dirty.number dirty.index)))
           more)
           others)
           written)
           (done.elsewhere i)
 
-      -- a slot that wasn't changed stands as it did
-      unchanged_stays : (place number : ℕ) → IsSlotOf life.system place number → is_slot_changed stores.changed place number ≡ false → sector_at e (data_first life.system place + number) ≡ sector_at a (data_first life.system place + number)
-      unchanged_stays place number slot unchanged =
-          let at : ℕ = data_first life.system place + number in
-          let above : log_first life.system 2 ≤ at = slot_above life.system place number in
+      -- each sector of a slot that wasn't changed stands as it did
+      sector_stays : (place number : ℕ) → IsSlotOf life.system place number → is_slot_changed stores.changed place number ≡ false → (k : ℕ) → k < slot_size life.system place
+          → sector_at e (slot_first life.system place number + k) ≡ sector_at a (slot_first life.system place number + k)
+      sector_stays place number slot unchanged k inside =
+          let at : ℕ = slot_first life.system place number + k in
+          let above : log_first life.system 2 ≤ at = slot_above life.system place number k in
           ⊎_elim (λ same. same)
           (λ written.
           ⊎_elim (λ (first : at ≡ 0). absurd (omega (arith, first, above)))
@@ -145,7 +147,8 @@ module _ (bytes : List ℕ) (stores : AllStores) (touches : Touches) (told : Lis
           (λ more.
           ⊎_elim (λ (in_ : InArea (life.log.first + life.log.place) (log_sectors_of (length life.log.appended)) at). absurd (omega (arith, in_.high, above, log_end)))
           (λ (dirty : DirtyAt life.system stores at).
-          let one = one_slot life.system dirty.place dirty.number place number (dirty_slot life.system stores may.slots.are_of dirty.place dirty.number dirty.slot) slot (sym dirty.sector) in
+          let one =
+          one_slot life.system dirty.place dirty.number dirty.index place number k (dirty_slot life.system stores may.slots.are_of dirty.place dirty.number dirty.slot) slot dirty.within inside (sym dirty.sector) in
           let is : is_slot_changed stores.changed place number ≡ true =
           ap (λ p. is_slot_changed stores.changed p number) (sym one.place) ∙ ap (is_slot_changed stores.changed dirty.place) (sym one.number) ∙ dirty_changed stores dirty.place dirty.number dirty.slot in
           absurd (let clash : true ≡ false = sym is ∙ unchanged in cc))
@@ -154,7 +157,12 @@ module _ (bytes : List ℕ) (stores : AllStores) (touches : Touches) (told : Lis
           written)
           (done.elsewhere at)
 
-      -- each slot stands in its sector as in the stores
+      -- and so the slot does
+      unchanged_stays : (place number : ℕ) → IsSlotOf life.system place number → is_slot_changed stores.changed place number ≡ false → slot_at life.system e place number ≡ slot_at life.system a place number
+      unchanged_stays place number slot unchanged =
+          slot_same (slot_size life.system place) a e (slot_first life.system place number) (sector_stays place number slot unchanged)
+
+      -- each slot stands in its sectors as in the stores
       all_stand : EachSlot life.system (λ place number. StandsAt life.system e place number (life.present (place + 1) number))
       all_stand place number dbd found below = by_changed (is_slot_changed stores.changed place number) refl where
         by_changed : (b : Bool) → is_slot_changed stores.changed place number ≡ b → StandsAt life.system e place number (life.present (place + 1) number)
@@ -164,12 +172,17 @@ module _ (bytes : List ℕ) (stores : AllStores) (touches : Touches) (told : Lis
             let same : Some dirty.store ≡ Some of_.store = sym dirty.found ∙ of_.found in
             let store : dirty.store ≡ of_.store = cc in
             let image = slice_index_or of_.store.slots number [] in
-            let short = slot_short of_.store number (all_at (λ (s : Stored). AreSlots s.dbd s.slots) stores.stores place of_.store may.slots.valid of_.found) (all_at (λ (s : Stored). s.dbd.sectors ≤ 1) stores.stores place of_.store may.slots.are_of.one_sector of_.found) in
+            let size : ℕ = slot_size life.system place in
+            let sectors : of_.store.dbd.sectors ≡ size = ap (λ (d : Dbd). d.sectors) of_.is ∙ sym (size_of life.system place dbd found) in
+            let short : length (rows.rows_spelling image) ≤ 4000 * size =
+            subst (λ n. length (rows.rows_spelling image) ≤ 4000 * n) sectors
+            (slot_short of_.store number (all_at (λ (s : Stored). AreSlots s.dbd s.slots) stores.stores place of_.store may.slots.valid of_.found)) in
             subst (λ (v : List ℕ). StandsAt life.system e place number v) (sym (may.slots.present place number dbd found below ∙ bytes_of_store stores.stores place number of_.store of_.found))
-            (subst (λ (sector : List ℕ). HoldsBytes (rows.rows_spelling image) sector) (sym (done.slots place number dirty ∙ ap (λ (s : Stored). data_sector (rows.rows_spelling (slice_index_or s.slots number []))) store))
-            (data_holds (rows.rows_spelling image) short))
+            (subst (λ (written : List (List ℕ)). HoldsBytes (rows.rows_spelling image) written)
+            (sym (done.slots place number dirty ∙ ap (λ (s : Stored). slot_spelling size (rows.rows_spelling (slice_index_or s.slots number []))) store))
+            (data_holds size (rows.rows_spelling image) short))
         by_changed false is =
-            subst (λ (sector : List ℕ). HoldsBytes (life.present (place + 1) number) sector) (sym (unchanged_stays place number (record { dbd = dbd; found = found; below = below }) is))
+            subst (λ (sectors : List (List ℕ)). HoldsBytes (life.present (place + 1) number) sectors) (sym (unchanged_stays place number (record { dbd = dbd; found = found; below = below }) is))
             (k.written place number dbd found below (may.slots.changed place number dbd found below ∙ is))
 
       pub has_snapshot : snapshot_from life.system e now_after ≡ Ok told

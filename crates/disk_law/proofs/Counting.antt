@@ -13,7 +13,7 @@ use Rattle.log_writer.specs.ForcedLog.{log_of_writer, log_sectors_of, AddsFront,
 use Rattle.restart_data.specs.declared.restart.RestartSector.{RestartSector}
 use Rattle.restart_data.specs.Restart.{IsRestart, restart_in}
 use Rattle.model_image.specs.SectorsAhead.{NoneAhead}
-use Rattle.model_image.specs.Areas.{is_single, snapshot_area, log_first}
+use Rattle.model_system.specs.Areas.{is_single, snapshot_area, log_first}
 use Rattle.model_image.specs.Counters.{unit_of_record, told_unit, greatest_unit}
 use Rattle.model_image.specs.CutRecords.{cut_of, where_none_left}
 use Rattle.model_image.specs.RecoveredState.{snapshot_from, log_in}

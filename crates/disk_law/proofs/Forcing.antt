@@ -15,13 +15,14 @@ use Rattle.log_writer.specs.Writer.{Writer}
 use Rattle.log_writer.specs.ForcedLog.{log_of_writer, log_sectors_of, StaysOrLogs}
 use Rattle.restart_data.specs.declared.restart.RestartSector.{RestartSector}
 use Rattle.restart_data.specs.Restart.{IsRestart, restart_of, restart_in}
-use Rattle.model_image.specs.Areas.{is_single, snapshot_area, log_first, data_first}
+use Rattle.model_system.specs.Areas.{is_single, snapshot_area, log_first, slot_size, slot_first}
 use Rattle.model_image.specs.CutRecords.{Cut, cut_of, IsRecordCutOff}
+use Rattle.model_image.specs.Slots.{slot_at}
 use Rattle.model_image.specs.RecoveredState.{snapshot_from, log_in, is_later, first_later}
 use Rattle.model_image.proofs.Alike.{snapshot_same}
 use Rattle.model_image.proofs.Cutting.{CutsFront, cuts_front}
 use Rattle.model_image.proofs.Later.{none_later, each_not_later}
-use Rattle.model_image.proofs.Places.{snapshot_below, log_above, log_below, slot_above}
+use Rattle.model_image.proofs.Places.{snapshot_below, log_above, log_below, slot_above, slot_same}
 use Rattle.model_image.proofs.Readings as readings
 use Rattle.disk_law.specs.Life.{EachSlot, IsWriterOf}
 use Rattle.model_image.specs.Text.{bytes_from, text_in}
@@ -89,8 +90,9 @@ module _ (system : System) (now : RestartSector) (w : Writer) (over : IsWriterOf
   pub text_stays : text_in b now.text ≡ text_in a now.text
   text_stays = text_same a b now.text (λ k low high. below_stays k (omega (arith, high)))
 
-  pub slots_stay : EachSlot system (λ place number. sector_at b (data_first system place + number) ≡ sector_at a (data_first system place + number))
-  slots_stay place number dbd found below = behind_stays (data_first system place + number) (slot_above system place number)
+  pub slots_stay : EachSlot system (λ place number. slot_at system b place number ≡ slot_at system a place number)
+  slots_stay place number dbd found below =
+      slot_same (slot_size system place) a b (slot_first system place number) (λ k inside. behind_stays (slot_first system place number + k) (slot_above system place number k))
 
   later_stays : (k : ℕ) → is_later now.epoch (sector_at a k) ≡ false → is_later now.epoch (sector_at b k) ≡ false
   later_stays k before =

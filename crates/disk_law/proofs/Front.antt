@@ -93,7 +93,7 @@ module _ (life : LifeOnDisk) (l : IsLifeOnDisk life) (a : Image) (k : IsImageKep
         lasts = lasts;
         named = named;
         unnamed = λ place number dbd found below none.
-            subst (λ (s : List ℕ). HoldsBytes (committed (place + 1) number) s) (sym (slots_stay life.system life.now w over l.in_range room a b front.changes front.each k.restart place number dbd found below))
+            subst (λ (s : List (List ℕ)). HoldsBytes (committed (place + 1) number) s) (sym (slots_stay life.system life.now w over l.in_range room a b front.changes front.each k.restart place number dbd found below))
             (subst (λ (v : List ℕ). StandsAt life.system a place number v) (sym (others (place + 1) number none))
             (k.unnamed place number dbd found below (unnamed_before k.snapshot k.log (take cut.count more) (place + 1) number none)));
         slots = rows;

@@ -12,7 +12,7 @@ use Rattle.log_sectors.specs.Chain.{chain, joined_payloads}
 use Rattle.restart_data.specs.declared.restart.RestartSector.{RestartSector}
 use Rattle.seg_store.specs.Slots.{Stored, rows_of_slots}
 use Rattle.model_image.specs.SectorsAhead.{NoneAhead}
-use Rattle.model_image.specs.Areas.{log_first}
+use Rattle.model_system.specs.Areas.{log_first}
 use Rattle.model_image.specs.CutRecords.{Cut, cut_of, IsRecordCutOff}
 use Rattle.model_image.specs.Faults.{Fault}
 use Rattle.model_image.specs.Slots.{named_by}
@@ -75,7 +75,6 @@ module _ (system : System) (text : List ℕ) (now : RestartSector) (stores : Lis
     stores = stores;
     databases = may.databases;
     valid = may.valid;
-    one_sector = may.one_sector;
     bytes = λ place number dbd found below. bytes_are place number;
     are = refl;
   }

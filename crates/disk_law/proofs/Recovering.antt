@@ -5,7 +5,7 @@ use Rattle.std.specs.Option.{option_map, option_map_or}
 use Rattle.std.specs.List.{AllByRecursion}
 use Rattle.std.proofs.lemmas.Option.{slice_get_within, slice_get-map}
 use Rattle.tm_types.specs.declared.dbd.Dbd.{Dbd}
-use Rattle.tm_disk.specs.Disk.{Image, sector_at}
+use Rattle.tm_disk.specs.Disk.{Image}
 use Rattle.model_data.specs.declared.row.Row.{Row}
 use Rattle.model_data.specs.Record as rows
 use Rattle.model_system.specs.System.{System}
@@ -15,12 +15,14 @@ use Rattle.log_records.specs.RecordReader.{◌>>=◌}
 use Rattle.restart_data.specs.declared.restart.RestartSector.{RestartSector}
 use Rattle.restart_data.specs.Restart.{restart_in}
 use Rattle.seg_store.specs.Slots.{Stored, AreSlots, IsSlot}
-use Rattle.model_image.specs.Areas.{is_single, snapshot_area, log_first, data_first}
+use Rattle.model_system.specs.Areas.{is_single, snapshot_area, log_first, data_first}
 use Rattle.model_image.specs.CutRecords.{IsRecordCutOff}
+use Rattle.model_image.specs.HeldStores.{HoldsBytes}
 use Rattle.model_image.specs.Faults.{Fault, in_sector, or_fault, unless_fault}
-use Rattle.model_image.specs.Slots.{image_slot_in, slots_by, named_by, image_rows_from}
+use Rattle.model_image.specs.Slots.{image_slot_in, slots_by, sectors_from, named_by, image_rows_from}
 use Rattle.model_image.specs.Replay.{Replay, replay_all}
 use Rattle.model_image.specs.RecoveredState.{snapshot_from, log_in, log_from, state_from, first_later, later_sector, state_with, state_by_restart, rest_by, log_rest, Recovers}
+use Rattle.model_image.proofs.Places.{size_of}
 use Rattle.disk_law.specs.CommittedBytes.{Bytes}
 use Rattle.disk_law.specs.Life.{EachSlot, SpellRows, but_rows}
 use Rattle.disk_law.specs.KeptImages.{StandsAt, beginning}
@@ -74,8 +76,10 @@ module _ (system : System) (image : Image) (snapshot records : List Record) (com
       spell.bytes place number s.dbd dbd below
       ∙ ap (λ (o : Option Stored). rows.rows_spelling (slice_index_or (option_map_or (λ (s : Stored). s.slots) o []) number [])) found
       ∙ ap rows.rows_spelling (index_found s.slots number slot_image [] there) in
-      slot_right s.dbd (data_first system place + number) valid.types slot_image (all_at (IsSlot s.dbd) s.slots number slot_image valid.each there) (committed (place + 1) number) spells
-      (named_by snapshot records (place + 1) number) (sector_at image (data_first system place + number)) (named (place + 1) number) (unnamed place number s.dbd dbd below)
+      let first : ℕ = data_first system place in
+      slot_right s.dbd (first + number * s.dbd.sectors) valid.types slot_image (all_at (IsSlot s.dbd) s.slots number slot_image valid.each there) (committed (place + 1) number) spells
+      (named_by snapshot records (place + 1) number) (sectors_from image (first + number * s.dbd.sectors) s.dbd.sectors) (named (place + 1) number)
+      (λ none. subst (λ n. HoldsBytes (committed (place + 1) number) (sectors_from image (first + number * n) n)) (size_of system place s.dbd dbd) (unnamed place number s.dbd dbd below none))
 
   good : (place : ℕ) (s : Stored) → slice_get spell.stores place ≡ Some s → IsGood system image snapshot records place s
   good place s found =

@@ -1,5 +1,5 @@
 -- Slots whose bytes spell the records of a store: they break no rule, and are read as these records.
-use Rattle.std.proofs.Common.{◌≡◌, ℕ, suc, ◌+◌, ◌≤◌, Bool, true, false, not, ◌&&◌, ◌||◌, List, [], ◌∷◌, length, map, refl, sym, ◌∙◌, ap, subst, ⊎_elim, arith, Some, None, Ok, IsTrue}
+use Rattle.std.proofs.Common.{◌≡◌, ℕ, suc, ◌+◌, ◌*◌, ◌≤◌, Bool, true, false, not, ◌&&◌, ◌||◌, List, [], ◌∷◌, length, map, refl, sym, ◌∙◌, ap, subst, ⊎_elim, arith, Some, None, Ok, IsTrue}
 use Rattle.std.specs.Prelude.{Option, if◌then◌else◌, find, slice_get}
 use Rattle.std.specs.Option.{option_map, option_or, unwrap_or, is_some}
 use Rattle.std.specs.List.{list_any}
@@ -16,9 +16,9 @@ use Rattle.model_system.specs.System.{System}
 use Rattle.log_records.specs.declared.record.Record.{Record}
 use Rattle.seg_store.specs.Slots.{Stored, IsSlot, AtMostOne, is_slot_free, image_root, has_root, place_of, rows_of_slots}
 use Rattle.image_loading.proofs.Spelled.{spells_rows, no_bytes}
-use Rattle.model_image.specs.Areas.{data_first}
+use Rattle.model_system.specs.Areas.{data_first}
 use Rattle.model_image.specs.Faults.{Fault, unless_fault}
-use Rattle.model_image.specs.Slots.{SlotOnImage, Source, source_of, slots_by, image_slot_in, all_slots, slot_fault, rows_of_databases, image_rows_from, rows_of_bytes, is_image, has_wrong_length, has_no_record, slot_rows, have_one_root, first_shared, first_in}
+use Rattle.model_image.specs.Slots.{SlotOnImage, Source, source_of, slots_by, image_slot_in, all_slots, slot_fault, rows_of_databases, image_rows_from, rows_of_bytes, is_image, wrong_sector, has_no_record, slot_rows, have_one_root, first_shared, place_in, first_wrong, first_no_record, first_doubled, first_in}
 use Rattle.model_image.specs.Slots.Source.{Named, Spelled}
 use Rattle.model_image.specs.HeldStores.{HoldsBytes}
 use Rattle.disk_law.proofs.Naming.{NamedAs}
@@ -27,7 +27,7 @@ use Rattle.disk_law.proofs.Naming.{NamedAs}
 
 -- a slot that breaks no rule by itself, and is read as this image
 pub record IsRight (slot : SlotOnImage) (image : List Row) : Type 0 where
-  pub right : has_wrong_length slot ≡ false
+  pub right : wrong_sector slot ≡ None
   pub spells : has_no_record slot ≡ false
   pub is : slot_rows slot ≡ image
 
@@ -38,11 +38,11 @@ image_read dbd types image is =
     (λ (whole : IsRecord dbd (image_root image) image). spells_rows dbd types (rows_spelling image) image (record { root = image_root image; valid = whole; spelled = refl }))
     is
 
-pub image_fits : (dbd : Dbd) → dbd.sectors ≤ 1 → (image : List Row) → IsSlot dbd image → length (rows_spelling image) ≤ 4000
-image_fits dbd one image is =
+pub image_fits : (dbd : Dbd) → (image : List Row) → IsSlot dbd image → length (rows_spelling image) ≤ 4000 * dbd.sectors
+image_fits dbd image is =
     ⊎_elim
     (λ (none : image ≡ []). omega (arith, ap (λ (rows : List Row). length (rows_spelling rows)) none))
-    (λ (whole : IsRecord dbd (image_root image) image). omega (arith, whole.within, one))
+    (λ (whole : IsRecord dbd (image_root image) image). omega (arith, whole.within))
     is
 
 -- what is read of bytes that spell an image
@@ -53,7 +53,7 @@ module _ (dbd : Dbd) (image : List Row) (bytes : List ℕ) (read : rows_of_bytes
   spelled_rows : unwrap_or (rows_of_bytes dbd bytes) [] ≡ image
   spelled_rows = ap (λ (o : Option (List Row)). unwrap_or o []) read
 
--- by its source: named with the bytes, or spelled by its sector
+-- by its source: named with the bytes, or spelled by its sectors
 module _ (dbd : Dbd) (place : ℕ) (types : IsHierarchy dbd.types) (image : List Row) (is : IsSlot dbd image) (v : List ℕ) (spells : v ≡ rows_spelling image) where
   abbrev with_source : Source → SlotOnImage
   with_source source = record { dbd = dbd; place = place; source = source }
@@ -64,16 +64,16 @@ module _ (dbd : Dbd) (place : ℕ) (types : IsHierarchy dbd.types) (image : List
   named_right : IsRight (with_source (Named v)) image
   named_right = record { right = refl; spells = refl; is = spelled_rows dbd image v read_is }
 
-  sector_right : (sector : List ℕ) → HoldsBytes v sector → IsRight (with_source (Spelled sector)) image
-  sector_right sector holds = record {
-    right = holds.right;
+  sectors_right : (sectors : List (List ℕ)) → HoldsBytes v sectors → IsRight (with_source (Spelled sectors)) image
+  sectors_right sectors holds = record {
+    right = holds.right place;
     spells = ap (λ (b : List ℕ). not (is_image dbd b)) holds.spelled ∙ spelled_image dbd image v read_is;
     is = ap (λ (b : List ℕ). unwrap_or (rows_of_bytes dbd b) []) holds.spelled ∙ spelled_rows dbd image v read_is;
   }
 
-  pub slot_right : (named : Option (List ℕ)) (sector : List ℕ) → NamedAs v named → (named ≡ None → HoldsBytes v sector) → IsRight (with_source (source_of named sector)) image
-  slot_right (Some bytes) sector same spelled = subst (λ (b : List ℕ). IsRight (with_source (Named b)) image) (sym same) named_right
-  slot_right None sector same spelled = sector_right sector (spelled refl)
+  pub slot_right : (named : Option (List ℕ)) (sectors : List (List ℕ)) → NamedAs v named → (named ≡ None → HoldsBytes v sectors) → IsRight (with_source (source_of named sectors)) image
+  slot_right (Some bytes) sectors same spelled = subst (λ (b : List ℕ). IsRight (with_source (Named b)) image) (sym same) named_right
+  slot_right None sectors same spelled = sectors_right sectors (spelled refl)
 
 -- ---- the slots of a database
 
@@ -90,9 +90,9 @@ right_by slot (image ∷ images) number each = (
   right_by slot images (number + 1) (λ k other found. subst (λ j. IsRight (slot j) other) (omega arith) (each (suc k) other found)),
 )
 
-none_wrong : (slots : List SlotOnImage) (images : List (List Row)) → AreRight slots images → find has_wrong_length slots ≡ None
+none_wrong : (slots : List SlotOnImage) (images : List (List Row)) → AreRight slots images → first_wrong slots ≡ None
 none_wrong [] [] right = refl
-none_wrong (s ∷ slots) (image ∷ images) right = ap (λ (b : Bool). if b then Some s else find has_wrong_length slots) right.0.right ∙ none_wrong slots images right.1
+none_wrong (s ∷ slots) (image ∷ images) right = ap (λ (o : Option ℕ). option_or o (first_wrong slots)) right.0.right ∙ none_wrong slots images right.1
 none_wrong [] (image ∷ images) right = absurd right
 none_wrong (s ∷ slots) [] right = absurd right
 
@@ -164,21 +164,21 @@ AllRight (slots ∷ databases) (s ∷ stores) = (AreRight slots s.slots × ((roo
 AllRight [] (s ∷ stores) = ⊥
 AllRight (slots ∷ databases) [] = ⊥
 
-wrong_none : (databases : List (List SlotOnImage)) (stores : List Stored) → AllRight databases stores → first_in (find has_wrong_length) databases ≡ None
+wrong_none : (databases : List (List SlotOnImage)) (stores : List Stored) → AllRight databases stores → first_in first_wrong databases ≡ None
 wrong_none [] [] right = refl
-wrong_none (slots ∷ databases) (s ∷ stores) right = ap (λ (o : Option SlotOnImage). option_or o (first_in (find has_wrong_length) databases)) (none_wrong slots s.slots right.0.0) ∙ wrong_none databases stores right.1
+wrong_none (slots ∷ databases) (s ∷ stores) right = ap (λ (o : Option ℕ). option_or o (first_in first_wrong databases)) (none_wrong slots s.slots right.0.0) ∙ wrong_none databases stores right.1
 wrong_none [] (s ∷ stores) right = absurd right
 wrong_none (slots ∷ databases) [] right = absurd right
 
-other_none : (databases : List (List SlotOnImage)) (stores : List Stored) → AllRight databases stores → first_in (find has_no_record) databases ≡ None
+other_none : (databases : List (List SlotOnImage)) (stores : List Stored) → AllRight databases stores → first_in first_no_record databases ≡ None
 other_none [] [] right = refl
-other_none (slots ∷ databases) (s ∷ stores) right = ap (λ (o : Option SlotOnImage). option_or o (first_in (find has_no_record) databases)) (none_other slots s.slots right.0.0) ∙ other_none databases stores right.1
+other_none (slots ∷ databases) (s ∷ stores) right = ap (λ (o : Option SlotOnImage). option_or (place_in o) (first_in first_no_record databases)) (none_other slots s.slots right.0.0) ∙ other_none databases stores right.1
 other_none [] (s ∷ stores) right = absurd right
 other_none (slots ∷ databases) [] right = absurd right
 
-shared_none : (databases : List (List SlotOnImage)) (stores : List Stored) → AllRight databases stores → first_in first_shared databases ≡ None
+shared_none : (databases : List (List SlotOnImage)) (stores : List Stored) → AllRight databases stores → first_in first_doubled databases ≡ None
 shared_none [] [] right = refl
-shared_none (slots ∷ databases) (s ∷ stores) right = ap (λ (o : Option SlotOnImage). option_or o (first_in first_shared databases)) (none_shared slots s.slots right.0.0 right.0.1) ∙ shared_none databases stores right.1
+shared_none (slots ∷ databases) (s ∷ stores) right = ap (λ (o : Option SlotOnImage). option_or (place_in o) (first_in first_doubled databases)) (none_shared slots s.slots right.0.0 right.0.1) ∙ shared_none databases stores right.1
 shared_none [] (s ∷ stores) right = absurd right
 shared_none (slots ∷ databases) [] right = absurd right
 

@@ -19,9 +19,9 @@ use Rattle.log_sectors.specs.SealedSector.{opened_payload}
 use Rattle.log_writer.specs.Writer.{Writer}
 use Rattle.log_writer.specs.ForcedLog.{log_of_writer, log_sectors_of, AddsFront, AddsAll}
 use Rattle.model_image.specs.SectorsAhead.{NoneAhead}
-use Rattle.model_image.specs.Areas.{log_first}
+use Rattle.model_system.specs.Areas.{log_first}
 use Rattle.model_image.specs.HeldStores.{HoldsBytes}
-use Rattle.model_image.specs.Slots.{is_image_of, named_by}
+use Rattle.model_image.specs.Slots.{is_image_of, named_by, slot_at}
 use Rattle.model_image.specs.States.{breaks_a_rule}
 use Rattle.model_image.specs.Replay.{Replay, replay_one, replay_all}
 use Rattle.model_image.specs.RecoveredState.{Recovers}
@@ -165,13 +165,13 @@ module _ (life : LifeOnDisk) (l : IsLifeOnDisk life) (step : StepOnDisk) (s : Is
 
   -- ---- all of it was forced
   module _ (b : Image) (all : AddsAll w a b) where
-    same_sector : EachSlot life.system (λ place number. sector_at b (Rattle.model_image.specs.Areas.data_first life.system place + number) ≡ sector_at a (Rattle.model_image.specs.Areas.data_first life.system place + number))
-    same_sector = slots_stay life.system life.now w over l.in_range s.room.fits a b all.changes all.each k.restart
+    same_slot : EachSlot life.system (λ place number. slot_at life.system b place number ≡ slot_at life.system a place number)
+    same_slot = slots_stay life.system life.now w over l.in_range s.room.fits a b all.changes all.each k.restart
 
     stands_still : EachSlot life.system (λ place number. (v u : List ℕ) → u ≡ v → StandsAt life.system a place number v → StandsAt life.system b place number u)
     stands_still place number dbd found below v u is stands =
-        subst (λ (x : List ℕ). HoldsBytes x (sector_at b (Rattle.model_image.specs.Areas.data_first life.system place + number))) (sym is)
-        (subst (λ (sector : List ℕ). HoldsBytes v sector) (sym (same_sector place number dbd found below)) stands)
+        subst (λ (x : List ℕ). HoldsBytes x (slot_at life.system b place number)) (sym is)
+        (subst (λ (sectors : List (List ℕ)). HoldsBytes v sectors) (sym (same_slot place number dbd found below)) stands)
 
     log_after : log_of_writer w b ≡ flat_map record_spelling (k.log ++ more)
     log_after = all.log ∙ ap (λ (old : List ℕ). old ++ w.appended) k.has_log ∙ ap (λ (new : List ℕ). flat_map record_spelling k.log ++ new) spelled ∙ sym (flat_map-append record_spelling k.log more)

@@ -1,5 +1,5 @@
 -- Slots of stores: which are changed, and how long what they spell is.
-use Rattle.std.proofs.Common.{◌≡◌, ℕ, zero, suc, ◌≤◌, Bool, true, false, ◌||◌, List, [], ◌∷◌, length, map, refl, sym, ◌∙◌, ap, subst, inl, Some, None}
+use Rattle.std.proofs.Common.{◌≡◌, ℕ, zero, suc, ◌*◌, ◌≤◌, Bool, true, false, ◌||◌, List, [], ◌∷◌, length, map, refl, sym, ◌∙◌, ap, subst, inl, Some, None}
 use Rattle.std.specs.Prelude.{Option, ◌==◌, slice_get, slice_index_or}
 use Rattle.std.specs.List.{list_any}
 use Rattle.std.specs.Option.{option_map, option_map_or}
@@ -41,13 +41,13 @@ nothing_there [] number none = refl
 nothing_there (x ∷ slots) zero none = cc
 nothing_there (x ∷ slots) (suc number) none = nothing_there slots number none
 
--- it has no more bytes than a sector
-pub slot_short : (s : Stored) (number : ℕ) → AreSlots s.dbd s.slots → s.dbd.sectors ≤ 1 → length (rows_spelling (slice_index_or s.slots number [])) ≤ 4000
-slot_short s number valid one = by_image (slice_get s.slots number) refl where
-  by_image : (o : Option (List Row)) → slice_get s.slots number ≡ o → length (rows_spelling (slice_index_or s.slots number [])) ≤ 4000
-  by_image None none = image_fits s.dbd one (slice_index_or s.slots number []) (inl (nothing_there s.slots number none))
+-- it has no more bytes than its sectors hold
+pub slot_short : (s : Stored) (number : ℕ) → AreSlots s.dbd s.slots → length (rows_spelling (slice_index_or s.slots number [])) ≤ 4000 * s.dbd.sectors
+slot_short s number valid = by_image (slice_get s.slots number) refl where
+  by_image : (o : Option (List Row)) → slice_get s.slots number ≡ o → length (rows_spelling (slice_index_or s.slots number [])) ≤ 4000 * s.dbd.sectors
+  by_image None none = image_fits s.dbd (slice_index_or s.slots number []) (inl (nothing_there s.slots number none))
   by_image (Some image) there =
-      image_fits s.dbd one (slice_index_or s.slots number [])
+      image_fits s.dbd (slice_index_or s.slots number [])
       (subst (IsSlot s.dbd) (sym (index_found s.slots number image [] there)) (all_at (IsSlot s.dbd) s.slots number image valid.each there))
 
 -- ---- changed slots

@@ -1,5 +1,5 @@
 -- The slots that open units touched are changes of a snapshot, and there is room for them.
-use Rattle.std.proofs.Common.{◌≡◌, ◌⊎◌, ⊎_elim, ℕ, ◌+◌, ◌-◌, ◌*◌, ◌≤◌, ◌<◌, Bool, true, false, ◌&&◌, ◌||◌, List, [], ◌∷◌, ◌++◌, length, map, refl, sym, ◌∙◌, ap, subst, arith, Some, None, nat_lt}
+use Rattle.std.proofs.Common.{◌≡◌, ◌⊎◌, ⊎_elim, ℕ, ◌+◌, ◌-◌, ◌*◌, ◌≤◌, ◌<◌, Bool, true, false, ◌&&◌, ◌||◌, List, [], ◌∷◌, ◌++◌, length, map, refl, sym, ◌∙◌, ap, subst, arith, Some, None, nat_lt, mul-add, mul-suc, mul-le-mul_left}
 use Rattle.std.specs.Prelude.{Option, ◌==◌, sum_by, slice_get, slice_index_or, if◌then◌else◌}
 use Rattle.std.specs.Option.{option_map_or, is_some, option_map}
 use Rattle.std.specs.List.{list_all, AllByRecursion}
@@ -21,9 +21,10 @@ use Rattle.model_image.specs.Slots.{is_image, are_images, dbd_at, is_image_of}
 use Rattle.model_image.specs.Snapshot.{is_record_before, ascend}
 use Rattle.checkpointing.specs.declared.touches.OpenUnit.{OpenUnit}
 use Rattle.checkpointing.specs.Changes.{IsChange, AreChanges}
-use Rattle.checkpointing.specs.Touches.{image_in, touch_record, touch_records, changes_of_units, HasOneSector, IsSpelled, AreAllSpelled, IsSlotTouched, IsSlotBefore, SlotsAscend, touched_records_in, AreSlotsTouched, UnitsAscend, AreOpen}
-use Rattle.checkpointing.proofs.Present.{one_sector, slot_at}
+use Rattle.checkpointing.specs.Touches.{image_in, touch_record, touch_records, changes_of_units, HasFewSectors, IsSpelled, AreAllSpelled, IsSlotTouched, IsSlotBefore, SlotsAscend, touched_records_in, AreSlotsTouched, UnitsAscend, AreOpen}
+use Rattle.checkpointing.proofs.Present.{slot_at}
 use Rattle.checkpointing.proofs.Sizes.{size, size_both, size_more, change_size}
+use Rattle.disk_law.proofs.Recovering.{all_at}
 
 -- ---- tests
 
@@ -153,70 +154,90 @@ open_changes system stores units databases are = record {
 
 -- ---- their bytes
 
-short_image : (dbd : Dbd) (rows : List Row) → dbd.sectors ≤ 1 → IsSlot dbd rows → length (rows_spelling rows) ≤ 4000 * touched_records_in rows
-short_image dbd [] one is = omega arith
-short_image dbd (row ∷ rows) one is =
-    ⊎_elim (λ (none : row ∷ rows ≡ []). absurd cc) (λ valid. omega (arith, valid.within, one)) is
+-- a database whose slots have at most so many sectors
+abbrev HasUpTo : ℕ → Stored → Type 0
+HasUpTo most s = s.dbd.sectors ≤ most
+
+short_image : (most : ℕ) (dbd : Dbd) (rows : List Row) → dbd.sectors ≤ most → IsSlot dbd rows → length (rows_spelling rows) ≤ 4000 * (most * touched_records_in rows)
+short_image most dbd [] few is = omega arith
+short_image most dbd (row ∷ rows) few is =
+    ⊎_elim (λ (none : row ∷ rows ≡ []). absurd cc) (λ valid. omega (arith, valid.within, few)) is
 
 one_record : (rows : List Row) → touched_records_in rows ≤ 1
 one_record [] = omega arith
 one_record (row ∷ rows) = omega arith
 
-touched_spelled : (stores : List Stored) (slots : List Change) → AllByRecursion HasOneSector stores → AllByRecursion (IsSlotTouched stores) slots → AllByRecursion (IsSpelled stores) slots
-touched_spelled stores [] one each = tt
-touched_spelled stores (c ∷ slots) one each =
+touched_spelled : (stores : List Stored) (slots : List Change) → AllByRecursion HasFewSectors stores → AllByRecursion (IsSlotTouched stores) slots → AllByRecursion (IsSpelled stores) slots
+touched_spelled stores [] few each = tt
+touched_spelled stores (c ∷ slots) few each =
     let is = each.0 in
     let place = slice_get_within stores (c.db - 1) is.store is.found in
     let least = is.least in (
       record {
         least = is.least;
         most = omega (arith, place, least);
-        short = omega (arith, short_image is.store.dbd c.before (one_sector stores (c.db - 1) is.store one is.found) is.before, one_record c.before);
+        short = omega (arith, short_image 8 is.store.dbd c.before (all_at HasFewSectors stores (c.db - 1) is.store few is.found) is.before, one_record c.before);
       },
-      touched_spelled stores slots one each.1,
+      touched_spelled stores slots few each.1,
     )
 
 -- what open units touched can be spelled
-pub open_spelled : (stores : List Stored) (units : List OpenUnit) → AllByRecursion HasOneSector stores → AllByRecursion (λ u. AreSlotsTouched stores u.work.now.slots) units → AreAllSpelled stores units
-open_spelled stores [] one each = tt
-open_spelled stores (u ∷ units) one each =
-    (record { each = touched_spelled stores u.work.now.slots one each.0.each; few = each.0.few }, open_spelled stores units one each.1)
+pub open_spelled : (stores : List Stored) (units : List OpenUnit) → AllByRecursion HasFewSectors stores → AllByRecursion (λ u. AreSlotsTouched stores u.work.now.slots) units → AreAllSpelled stores units
+open_spelled stores [] few each = tt
+open_spelled stores (u ∷ units) few each =
+    (record { each = touched_spelled stores u.work.now.slots few each.0.each; few = each.0.few }, open_spelled stores units few each.1)
 
-touch_size : (stores : List Stored) (unit : ℕ) (c : Change) → AllByRecursion HasOneSector stores → IsSlotTouched stores c → record_length (touch_record unit stores c) ≤ 18 + 4000 * touched_records_in c.before + 4000 * touched_records_in (image_in stores c.db c.slot)
-touch_size stores unit c one is =
-    let sectors = one_sector stores (c.db - 1) is.store one is.found in
+touch_size : (most : ℕ) (stores : List Stored) (unit : ℕ) (c : Change) → AllByRecursion (HasUpTo most) stores → IsSlotTouched stores c
+    → record_length (touch_record unit stores c) ≤ 18 + 4000 * (most * touched_records_in c.before) + 4000 * (most * touched_records_in (image_in stores c.db c.slot))
+touch_size most stores unit c few is =
+    let sectors = all_at (HasUpTo most) stores (c.db - 1) is.store few is.found in
     let present : image_in stores c.db c.slot ≡ slice_index_or is.store.slots c.slot [] = ap (λ (o : Option Stored). option_map_or (λ s. slice_index_or s.slots c.slot []) o []) is.found in
     omega (
       arith,
       change_size unit c.db c.slot (rows_spelling c.before) (rows_spelling (image_in stores c.db c.slot)),
-      short_image is.store.dbd c.before sectors is.before,
-      short_image is.store.dbd (image_in stores c.db c.slot) sectors (subst (λ (rows : List Row). IsSlot is.store.dbd rows) (sym present) (slot_at is.store.dbd is.store.slots c.slot is.slots.each)),
+      short_image most is.store.dbd c.before sectors is.before,
+      short_image most is.store.dbd (image_in stores c.db c.slot) sectors (subst (λ (rows : List Row). IsSlot is.store.dbd rows) (sym present) (slot_at is.store.dbd is.store.slots c.slot is.slots.each)),
     )
 
-unit_size : (stores : List Stored) (unit : ℕ) (slots : List Change) → AllByRecursion HasOneSector stores → AllByRecursion (IsSlotTouched stores) slots
-    → size (touch_records unit stores slots) ≤ 18 * length slots + 4000 * sum_by (λ c. touched_records_in c.before) slots + 4000 * sum_by (λ c. touched_records_in (image_in stores c.db c.slot)) slots
-unit_size stores unit [] one each = omega arith
-unit_size stores unit (c ∷ slots) one each =
+-- of one more the weights are one more than of the rest, also times a number
+weighed : (most : ℕ) (f : Change → ℕ) (c : Change) (slots : List Change) → most * sum_by f (c ∷ slots) ≡ most * f c + most * sum_by f slots
+weighed most f c slots = ap (λ n. most * n) (sum_by-cons f c slots) ∙ mul-add most (f c) (sum_by f slots)
+
+unit_size : (most : ℕ) (stores : List Stored) (unit : ℕ) (slots : List Change) → AllByRecursion (HasUpTo most) stores → AllByRecursion (IsSlotTouched stores) slots
+    → size (touch_records unit stores slots) ≤ 18 * length slots + 4000 * (most * sum_by (λ c. touched_records_in c.before) slots) + 4000 * (most * sum_by (λ c. touched_records_in (image_in stores c.db c.slot)) slots)
+unit_size most stores unit [] few each = omega arith
+unit_size most stores unit (c ∷ slots) few each =
     omega (
       arith,
       size_more (touch_record unit stores c) (touch_records unit stores slots),
-      touch_size stores unit c one each.0,
-      unit_size stores unit slots one each.1,
-      sum_by-cons (λ (d : Change). touched_records_in d.before) c slots,
-      sum_by-cons (λ (d : Change). touched_records_in (image_in stores d.db d.slot)) c slots,
+      touch_size most stores unit c few each.0,
+      unit_size most stores unit slots few each.1,
+      weighed most (λ (d : Change). touched_records_in d.before) c slots,
+      weighed most (λ (d : Change). touched_records_in (image_in stores d.db d.slot)) c slots,
     )
 
--- at most 262,144 bytes a unit
-pub open_size : (stores : List Stored) (units : List OpenUnit) → AllByRecursion HasOneSector stores → AllByRecursion (λ u. AreSlotsTouched stores u.work.now.slots) units → size (changes_of_units stores units) ≤ 262144 * length units
-open_size stores [] one each = omega arith
-open_size stores (u ∷ units) one each =
-    let here = each.0 in
+-- a unit's 32 records before and 32 now
+unit_short : (most : ℕ) (stores : List Stored) (unit : ℕ) (slots : List Change) → AllByRecursion (HasUpTo most) stores → 1 ≤ most → AreSlotsTouched stores slots
+    → size (touch_records unit stores slots) ≤ 262144 * most
+unit_short most stores unit slots few some are =
+    omega (
+      arith,
+      some,
+      unit_size most stores unit slots few are.each,
+      are.few,
+      mul-le-mul_left most are.few_before,
+      mul-le-mul_left most are.few_now,
+    )
+
+-- at most 262,144 bytes a unit, for each sector that a record has at most
+pub open_size : (most : ℕ) (stores : List Stored) (units : List OpenUnit) → AllByRecursion (λ s. s.dbd.sectors ≤ most) stores → 1 ≤ most → AllByRecursion (λ u. AreSlotsTouched stores u.work.now.slots) units
+    → size (changes_of_units stores units) ≤ 262144 * most * length units
+open_size most stores [] few some each = omega arith
+open_size most stores (u ∷ units) few some each =
     omega (
       arith,
       size_both (touch_records u.number stores u.work.now.slots) (changes_of_units stores units),
-      unit_size stores u.number u.work.now.slots one here.each,
-      here.few,
-      here.few_before,
-      here.few_now,
-      open_size stores units one each.1,
+      unit_short most stores u.number u.work.now.slots few some each.0,
+      open_size most stores units few some each.1,
+      mul-suc (262144 * most) (length units),
     )

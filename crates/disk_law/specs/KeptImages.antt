@@ -1,7 +1,7 @@
 -- What each image that a stop may leave has of a life.
 use Rattle.std.specs.Prelude.{◌≡◌, ◌⊎◌, ℕ, ◌+◌, ◌*◌, true, false, List, [], ◌++◌, IsSome, Some, None, Ok}
 use Rattle.std.specs.List.{list_any, flat_map, AllByRecursion}
-use Rattle.tm_disk.specs.Disk.{Image, DiskState, sector_at}
+use Rattle.tm_disk.specs.Disk.{Image, DiskState}
 use Rattle.model_system.specs.System.{System}
 use Rattle.model_machine.specs.Machine.{LastingState}
 use Rattle.log_records.specs.declared.record.Record.{Record}
@@ -11,18 +11,18 @@ use Rattle.log_writer.specs.ForcedLog.{log_of_writer}
 use Rattle.restart_data.specs.Restart.{restart_in}
 use Rattle.model_image.specs.SectorsAhead.{NoneAhead}
 use Rattle.model_image.specs.HeldStores.{HoldsBytes}
-use Rattle.model_image.specs.Areas.{is_single, snapshot_area, log_first, data_first}
+use Rattle.model_system.specs.Areas.{is_single, snapshot_area, log_first}
 use Rattle.model_image.specs.Snapshot.{snapshot_state}
-use Rattle.model_image.specs.Slots.{named_by, is_synced}
+use Rattle.model_image.specs.Slots.{named_by, is_synced, slot_at}
 use Rattle.model_image.specs.Replay.{Replay, replay_all}
 use Rattle.model_image.specs.RecoveredState.{snapshot_from, first_later, Recovers}
 use Rattle.disk_law.specs.CommittedBytes.{AreCommitted}
 use Rattle.disk_law.specs.Life.{LifeOnDisk, EachSlot, but_rows}
 use Rattle.model_image.specs.Text.{text_in}
 
--- these bytes stand in the sector of a slot
+-- these bytes stand in the sectors of a slot
 abbrev pub StandsAt : System → Image → ℕ → ℕ → List ℕ → Type 0
-StandsAt system image place number bytes = HoldsBytes bytes (sector_at image (data_first system place + number))
+StandsAt system image place number bytes = HoldsBytes bytes (slot_at system image place number)
 
 -- the state of a snapshot, from which its log is done again
 abbrev pub beginning : System → List Record → Replay
@@ -31,9 +31,9 @@ beginning system snapshot = record { lasting = snapshot_state system snapshot; w
 -- The image has the life's restart sector and text. Its log is records with no rest. These, done again behind the
 -- records of its snapshot, leave what lasts but for the rows, and nothing that waits. The rows come from the slots: each
 -- slot that these records or those appended name, they name with its committed bytes; one that no record on the disk
--- names has its committed bytes in its sector. No sector of the logs is of a later epoch, or ahead of the writer.
+-- names has its committed bytes in its sectors. No sector of the logs is of a later epoch, or ahead of the writer.
 --
--- For the checkpoint to come, each slot that was not changed since its sector was written stands there as in the stores,
+-- For the checkpoint to come, each slot that was not changed since its sectors were written stands there as in the stores,
 -- and each one that was is named by a record.
 pub record IsImageKept (life : LifeOnDisk) (image : Image) : Type 0 where
   pub restart : restart_in (snapshot_area life.system) (is_single life.system) image ≡ Ok (Some life.now)

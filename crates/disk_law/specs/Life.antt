@@ -14,7 +14,7 @@ use Rattle.log_writer.specs.ForcedLog.{log_sectors_of}
 use Rattle.restart_data.specs.declared.restart.RestartSector.{RestartSector}
 use Rattle.restart_data.specs.Restart.{IsRestart}
 use Rattle.seg_store.specs.Slots.{Stored, AreSlots, rows_of_slots}
-use Rattle.model_image.specs.Areas.{log_first}
+use Rattle.model_system.specs.Areas.{log_first}
 use Rattle.model_image.specs.Slots.{is_image_of}
 use Rattle.model_image.specs.States.{breaks_a_rule}
 use Rattle.image_law.specs.Records.{without_changes}
@@ -31,7 +31,7 @@ pub record LifeOnDisk : Type 0 where
   -- what lasts
   pub lasting : LastingState
   -- of each slot, by database from 1 on and number: its committed bytes, those that it has in the stores, with what
-  -- open units did, and whether it was changed since its sector was written
+  -- open units did, and whether it was changed since its sectors were written
   pub committed : Bytes
   pub present : Bytes
   pub changed : ℕ → ℕ → Bool
@@ -56,7 +56,6 @@ pub record SpellRows (system : System) (committed : Bytes) (lines : List (List R
   pub stores : List Stored
   pub databases : map (λ s. s.dbd) stores ≡ system.databases
   pub valid : AllByRecursion (λ s. AreSlots s.dbd s.slots) stores
-  pub one_sector : AllByRecursion (λ s. s.dbd.sectors ≤ 1) stores
   pub bytes : EachSlot system (λ place number. committed (place + 1) number ≡ store_bytes_at stores place number)
   pub are : map (λ s. rows_of_slots s.slots) stores ≡ lines
 

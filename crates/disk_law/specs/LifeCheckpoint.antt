@@ -9,7 +9,7 @@ use Rattle.restart_data.specs.Rules.{first_broken}
 use Rattle.restart_data.specs.Snapshot as snapshot
 use Rattle.seg_store.specs.Slots.{AreSlots}
 use Rattle.seg_store.specs.ChangedSlots.{AllStores}
-use Rattle.model_image.specs.Areas.{snapshot_area, snapshot_first, log_first}
+use Rattle.model_system.specs.Areas.{snapshot_area, snapshot_first, log_first}
 use Rattle.model_image.specs.CutRecords.{records_cut}
 use Rattle.model_image.specs.Snapshot.{snapshot_state, snapshot_rules}
 use Rattle.disk_law.specs.CommittedBytes.{Touches, Touch, TellsTouches}

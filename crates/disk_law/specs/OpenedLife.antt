@@ -1,5 +1,5 @@
 -- A life as it is opened.
-use Rattle.std.specs.Prelude.{◌≡◌, ℕ, ◌-◌, ◌^◌, ◌<◌, ◌≤◌, true, false, List, [], map, Some, None, Ok}
+use Rattle.std.specs.Prelude.{◌≡◌, ℕ, ◌-◌, ◌^◌, ◌<◌, true, false, List, [], map, Some, None, Ok}
 use Rattle.std.specs.List.{AllByRecursion}
 use Rattle.tm_disk.specs.Disk.{Image}
 use Rattle.model_system.specs.System.{System}
@@ -9,7 +9,7 @@ use Rattle.restart_data.specs.declared.restart.RestartSector.{RestartSector}
 use Rattle.restart_data.specs.Restart.{IsRestart, restart_in}
 use Rattle.seg_store.specs.Slots.{Stored, AreSlots}
 use Rattle.model_image.specs.SectorsAhead.{NoneAhead}
-use Rattle.model_image.specs.Areas.{is_single, snapshot_area, log_first}
+use Rattle.model_system.specs.Areas.{is_single, snapshot_area, log_first}
 use Rattle.model_image.specs.HeldStores.{HoldsStores}
 use Rattle.model_image.specs.RecoveredState.{snapshot_from, Recovers}
 use Rattle.model_image.specs.States.{breaks_a_rule}
@@ -49,11 +49,10 @@ pub record MayOpenLife (system : System) (now : RestartSector) (stores : List St
   pub sound : breaks_a_rule system state ≡ false
   pub databases : map (λ s. s.dbd) stores ≡ system.databases
   pub valid : AllByRecursion (λ s. AreSlots s.dbd s.slots) stores
-  pub one_sector : AllByRecursion (λ s. s.dbd.sectors ≤ 1) stores
   pub plain : (database slot : ℕ) → changes_of_slot told database slot ≡ []
 
 -- The image has the restart sector, the text and a snapshot of these records, recovers to the state, has no log behind it, and
--- each slot of the stores in its sector.
+-- each slot of the stores in its sectors.
 pub record IsOpened (system : System) (text : List ℕ) (now : RestartSector) (stores : List Stored) (state : LastingState) (told : List Record) (image : Image) : Type 0 where
   pub restart : restart_in (snapshot_area system) (is_single system) image ≡ Ok (Some now)
   pub has_text : text_in image now.text ≡ text

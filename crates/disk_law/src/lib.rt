@@ -5,7 +5,7 @@
 //!   never do, and a checkpoint keeps all (proofs/Slots).
 //! - `specs/Life` says what a life has beside its disk, and `specs/KeptImages` (`IsImageKept`) what each image has of
 //!   it: its restart sector and text; a snapshot and a log whose records, done again, leave what lasts; of each slot
-//!   its committed bytes, named by a record or in its sector. Such an image recovers to what lasts, also with a front
+//!   its committed bytes, named by a record or in its sectors. Such an image recovers to what lasts, also with a front
 //!   of what was appended (proofs/Front). A change of a slot and the end of a unit keep it (specs/SlotChanges,
 //!   proofs/Changing).
 //! - `specs/LifeSteps` (`IsStep`) and `specs/LastingSteps`: whichever of its sectors a stop kept, a lasting step leaves

@@ -4,7 +4,7 @@ use Rattle.std.specs.Prelude.{Option, Result, Ok, Err, OnOk, slice_get}
 use Rattle.tm_types.specs.declared.dbd.Dbd.{Dbd}
 use Rattle.tm_disk.specs.Disk.{Image}
 use Rattle.model_system.specs.System.{System}
-use Rattle.model_image.specs.Areas.{data_first}
+use Rattle.model_system.specs.Areas.{data_first}
 use Rattle.model_image.specs.Faults.{Fault}
 use Rattle.model_image.specs.Slots.{SlotOnImage, slot_fault, slot_rows}
 use Rattle.seg_store.specs.ChangedSlots.{Kept}

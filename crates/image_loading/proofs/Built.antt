@@ -1,5 +1,5 @@
 -- A store that is built from the last slot to the first.
-use Rattle.std.proofs.Common.{◌≡◌, ℕ, ◌+◌, ◌++◌, ◌∷◌, [], List, length, drop, zero, suc, refl, sym, ◌∙◌, ap, subst, arith, Bool, true, false, cond, not, Option, None, Some, append_assoc, ⊎_elim, set}
+use Rattle.std.proofs.Common.{◌≡◌, ℕ, ◌+◌, ◌*◌, ◌++◌, ◌∷◌, [], List, length, drop, zero, suc, refl, sym, ◌∙◌, ap, subst, arith, Bool, true, false, cond, not, Option, None, Some, append_assoc, ⊎_elim, set}
 use Rattle.std.specs.Prelude.{◌||◌, ◌&&◌}
 use Rattle.std.specs.List.{slice_get, list_any}
 use Rattle.std.specs.Option.{option_map, is_some}
@@ -97,18 +97,18 @@ slots_more k image later =
     by true = free_last k (apart later)
     by false = ap (λ ys. set ys k image) (free_last k (apart later)) ∙ set_last k [] image (apart later)
 
-pub found_more : (first k : ℕ) (image : List Row) (later : List (List Row)) → cond (is_root_there image (free_slots (suc k) ++ apart later)) (Some (first + k)) (shared_at (first + suc k) later) ≡ shared_at (first + k) (image ∷ later)
-found_more first k image later =
-    let next : first + suc k ≡ first + k + 1 = omega arith in
-    ap (λ b. cond b (Some (first + k)) (shared_at (first + suc k) later)) (there_is image (suc k) later)
-    ∙ ap (λ n. cond (list_any (has_same_root image) later) (Some (first + k)) (shared_at n later)) next
+pub found_more : (sectors first k : ℕ) (image : List Row) (later : List (List Row)) → cond (is_root_there image (free_slots (suc k) ++ apart later)) (Some (first + k * sectors)) (shared_at sectors (first + suc k * sectors) later) ≡ shared_at sectors (first + k * sectors) (image ∷ later)
+found_more sectors first k image later =
+    let next : first + suc k * sectors ≡ first + k * sectors + sectors = omega arith in
+    ap (λ b. cond b (Some (first + k * sectors)) (shared_at sectors (first + suc k * sectors) later)) (there_is image (suc k) later)
+    ∙ ap (λ n. cond (list_any (has_same_root image) later) (Some (first + k * sectors)) (shared_at sectors n later)) next
 
 -- with none shared all are apart
-pub all_apart : (at : ℕ) (images : List (List Row)) → shared_at at images ≡ None → apart images ≡ images
-all_apart at [] e = refl
-all_apart at (image ∷ images) e = by (list_any (has_same_root image) images) refl e (all_apart (at + 1) images)
+pub all_apart : (sectors at : ℕ) (images : List (List Row)) → shared_at sectors at images ≡ None → apart images ≡ images
+all_apart sectors at [] e = refl
+all_apart sectors at (image ∷ images) e = by (list_any (has_same_root image) images) refl e (all_apart sectors (at + sectors) images)
   where
-    by : (b : Bool) → list_any (has_same_root image) images ≡ b → cond b (Some at) (shared_at (at + 1) images) ≡ None → (shared_at (at + 1) images ≡ None → apart images ≡ images)
+    by : (b : Bool) → list_any (has_same_root image) images ≡ b → cond b (Some at) (shared_at sectors (at + sectors) images) ≡ None → (shared_at sectors (at + sectors) images ≡ None → apart images ≡ images)
         → cond (list_any (has_same_root image) images) [] image ∷ apart images ≡ image ∷ images
     by true q f rec = let clash : Some at ≡ None = f in absurd (cc)
     by false q f rec = (λ i. cond (q i) [] image ∷ rec f i)

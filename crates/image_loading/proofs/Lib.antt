@@ -1,7 +1,8 @@
-pub mod Single
+pub mod MostSectors
 pub mod Following
 pub mod Spelled
 mod Slotted
+mod SectorsRead
 mod SlotsRead
 mod Built
 mod StoreLoaded

@@ -1,12 +1,12 @@
 -- Where the slots that are given are those that records name, the databases are those of an image.
-use Rattle.std.proofs.Common.{◌≡◌, ℕ, zero, suc, ◌+◌, List, [], ◌∷◌, length, refl, ◌∙◌, ap, arith, Some}
+use Rattle.std.proofs.Common.{◌≡◌, ℕ, zero, suc, ◌+◌, ◌*◌, List, [], ◌∷◌, length, refl, ◌∙◌, ap, arith, Some}
 use Rattle.std.specs.Prelude.{Option, slice_get}
 use Rattle.tm_types.specs.declared.dbd.Dbd.{Dbd}
-use Rattle.tm_disk.specs.Disk.{Image, sector_at}
+use Rattle.tm_disk.specs.Disk.{Image}
 use Rattle.model_system.specs.System.{System}
 use Rattle.log_records.specs.declared.record.Record.{Record}
-use Rattle.model_image.specs.Areas.{data_first}
-use Rattle.model_image.specs.Slots.{SlotOnImage, source_of, slots_by, image_slot_in, named_by, all_slots}
+use Rattle.model_system.specs.Areas.{data_first}
+use Rattle.model_image.specs.Slots.{SlotOnImage, source_of, sectors_from, slots_by, image_slot_in, named_by, all_slots}
 use Rattle.image_loading.specs.LoadedStore.{given_to, slot_from, image_slots_in}
 use Rattle.image_loading.specs.Databases.{slots_of_databases}
 
@@ -20,7 +20,7 @@ module _ (system : System) (image : Image) (snapshot log : List Record) where
   unfolding image_slots_in
   slots_named dbd place slots named =
       slots_alike dbd.roots 0 (slot_from image dbd (data_first system place) slots) (image_slot_in image snapshot log dbd (data_first system place) (place + 1))
-      (λ k. ap (λ (o : Option (List ℕ)). record { dbd = dbd; place = data_first system place + k; source = source_of o (sector_at image (data_first system place + k)) }) (named k))
+      (λ k. ap (λ (o : Option (List ℕ)). record { dbd = dbd; place = data_first system place + k * dbd.sectors; source = source_of o (sectors_from image (data_first system place + k * dbd.sectors) dbd.sectors) }) (named k))
 
   named_from : (from : ℕ) (given : List (List (ℕ × List ℕ))) (dbds : List Dbd) → length given ≡ length dbds
       → ((i number : ℕ) (slots : List (ℕ × List ℕ)) → slice_get given i ≡ Some slots → given_to number slots ≡ named_by snapshot log (from + i + 1) number)

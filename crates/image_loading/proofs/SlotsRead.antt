@@ -1,5 +1,5 @@
 -- All slots of a database, and those still to be read.
-use Rattle.std.proofs.Common.{◌≡◌, ℕ, ◌+◌, ◌-◌, ◌<◌, ◌≤◌, ◌++◌, ◌∷◌, [], List, suc, refl, sym, ◌∙◌, ap, subst, arith, Bool, true, false, cond, not, eqb, Option, None, Some, Err, inl, inr, append_assoc, IsTrue}
+use Rattle.std.proofs.Common.{◌≡◌, ℕ, ◌+◌, ◌-◌, ◌*◌, ◌<◌, ◌≤◌, ◌++◌, ◌∷◌, [], List, suc, refl, sym, ◌∙◌, ap, subst, arith, Bool, true, false, cond, not, eqb, Option, None, Some, Err, inl, inr, append_assoc}
 use Rattle.std.specs.Prelude.{map, find}
 use Rattle.std.specs.List.{AllByRecursion}
 use Rattle.std.specs.List.Sorted.{IsStrictlySortedBy}
@@ -7,19 +7,19 @@ use Rattle.std.specs.Option.{option_map, option_or, is_some, unwrap_or}
 use Rattle.std.specs.Ordering.{nat_cmp}
 use Rattle.std.specs.declared.cmp.Ordering.TheVariants.{Less}
 use Rattle.std.specs.Map.{keys_of}
-use Rattle.std.proofs.lemmas.Bool.{eqb-true, eqb-false, ne_eqb, false≢true}
+use Rattle.std.proofs.lemmas.Bool.{eqb-true, eqb-false, ne_eqb}
 use Rattle.std.proofs.lemmas.Cmp.{ranked}
 use Rattle.tm_types.specs.declared.dbd.Dbd.{Dbd}
 use Rattle.tm_types.specs.SegTypes.{IsHierarchy}
 use Rattle.model_data.specs.declared.row.Row.{Row}
-use Rattle.model_image.specs.Slots.{SlotOnImage, Source, Named, Spelled, source_of, slots_by, rows_of_bytes, is_image, is_wrong_length, has_wrong_length, has_no_record, slot_rows}
+use Rattle.model_image.specs.Slots.{SlotOnImage, Source, source_of, slots_by, rows_of_bytes, sectors_from, wrong_in, place_in, has_no_record, first_wrong, first_no_record, slot_rows}
 use Rattle.seg_store.specs.Slots.{IsSlot}
 use Rattle.seg_store.proofs.SlotRows.{record_image_root}
-use Rattle.tm_disk.specs.Disk.{Image, sector_at}
+use Rattle.tm_disk.specs.Disk.{Image}
 use Rattle.image_loading.specs.LoadedStore.{given_to, slot_from, image_slots_in}
 use Rattle.image_loading.specs.declared.fault.LoadFault.{LoadFault}
 use Rattle.image_loading.specs.declared.fault.LoadFault.TheVariants as faults
-use Rattle.image_loading.specs.ReadSlots.{IsSlotRows, MaySlot, TellsSlot, TellsRead, head_given, given_behind, slot_place_of}
+use Rattle.image_loading.specs.ReadSlots.{IsSlotRows, MaySlot, TellsSlot, TellsRead, head_given, given_behind}
 use Rattle.image_loading.proofs.Slotted.{Ascends}
 use Rattle.image_loading.proofs.Spelled.{rows_spell}
 
@@ -137,48 +137,32 @@ left_none f roots number le = ap (λ n. slots_by f n number) count
 
 -- what is read so far, and what the slots still to come add
 pub record IsReadTo (all left : List SlotOnImage) (images : List (List Row)) (broken : Option ℕ) : Type 0 where
-  pub right : find has_wrong_length all ≡ find has_wrong_length left
-  pub no_record : slot_place_of (find has_no_record all) ≡ option_or broken (slot_place_of (find has_no_record left))
+  pub right : first_wrong all ≡ first_wrong left
+  pub no_record : first_no_record all ≡ option_or broken (first_no_record left)
   pub each : map slot_rows all ≡ images ++ map slot_rows left
 
 pub read_begins : (all : List SlotOnImage) → IsReadTo all all [] None
 read_begins all = record { right = refl; no_record = refl; each = refl }
 
 pub read_more : (all left : List SlotOnImage) (slot : SlotOnImage) (images : List (List Row)) (broken : Option ℕ) (rows : Option (List Row)) → IsReadTo all (slot ∷ left) images broken
-    → IsSlotRows slot.dbd slot.source rows → IsReadTo all left (images ++ unwrap_or rows [] ∷ []) (option_or broken (cond (is_some rows) None (Some slot.place)))
+    → IsSlotRows slot.dbd slot.source slot.place rows → IsReadTo all left (images ++ unwrap_or rows [] ∷ []) (option_or broken (cond (is_some rows) None (Some slot.place)))
 read_more all left slot images broken rows h s = record {
-  right = h.right ∙ ap (λ b. cond b (Some slot) (find has_wrong_length left)) s.right;
-  no_record = h.no_record ∙ (ap (λ b. option_or broken (slot_place_of (cond b (Some slot) (find has_no_record left)))) s.none ∙ by broken rows);
+  right = h.right ∙ ap (λ o. option_or o (first_wrong left)) s.right;
+  no_record = h.no_record ∙ (ap (λ b. option_or broken (place_in (cond b (Some slot) (find has_no_record left)))) s.none ∙ by broken rows);
   each = h.each ∙ (ap (λ o. images ++ unwrap_or o [] ∷ map slot_rows left) s.spelled ∙ sym (append_assoc images (unwrap_or rows [] ∷ []) (map slot_rows left)));
 }
   where
-    by : (b : Option ℕ) (r : Option (List Row)) → option_or b (slot_place_of (cond (not (is_some r)) (Some slot) (find has_no_record left)))
-        ≡ option_or (option_or b (cond (is_some r) None (Some slot.place))) (slot_place_of (find has_no_record left))
+    by : (b : Option ℕ) (r : Option (List Row)) → option_or b (place_in (cond (not (is_some r)) (Some slot) (find has_no_record left)))
+        ≡ option_or (option_or b (cond (is_some r) None (Some slot.place))) (place_in (find has_no_record left))
     by None None = refl
     by None (Some rs) = refl
     by (Some p) None = refl
     by (Some p) (Some rs) = refl
 
--- a slot of the wrong length is the first
-pub read_wrong : (all left : List SlotOnImage) (slot : SlotOnImage) (images : List (List Row)) (broken : Option ℕ) → IsReadTo all (slot ∷ left) images broken → has_wrong_length slot ≡ true
-    → slot_place_of (find has_wrong_length all) ≡ Some slot.place
-read_wrong all left slot images broken h e = ap slot_place_of (h.right ∙ ap (λ b. cond b (Some slot) (find has_wrong_length left)) e)
-
--- what is given is of the right length, and a record or none
-pub named_rows : (dbd : Dbd) (bytes : List ℕ) (rows : Option (List Row)) → rows ≡ rows_of_bytes dbd bytes → IsTrue (is_image dbd bytes) → IsSlotRows dbd (Named bytes) rows
-named_rows dbd bytes rows e image = record { right = refl; none = by rows (ap is_some e ∙ image); spelled = sym e }
-  where
-    by : (o : Option (List Row)) → is_some o ≡ true → false ≡ not (is_some o)
-    by None f = absurd (false≢true f)
-    by (Some rs) f = refl
-
-pub spelled_rows : (dbd : Dbd) (sector : List ℕ) (bytes : List ℕ) (rows : Option (List Row)) → rows ≡ rows_of_bytes dbd bytes → bytes ≡ Rattle.model_image.specs.Slots.slot_bytes_in sector
-    → is_wrong_length (Spelled sector) ≡ false → IsSlotRows dbd (Spelled sector) rows
-spelled_rows dbd sector bytes rows e b right = record {
-  right = right;
-  none = ap (λ o. not (is_some o)) (sym (e ∙ ap (rows_of_bytes dbd) b));
-  spelled = sym (e ∙ ap (rows_of_bytes dbd) b);
-}
+-- a wrong sector of a slot is the first
+pub read_wrong : (all left : List SlotOnImage) (slot : SlotOnImage) (images : List (List Row)) (broken : Option ℕ) → IsReadTo all (slot ∷ left) images broken → (sector : ℕ) → wrong_in slot.place slot.source ≡ Some sector
+    → first_wrong all ≡ Some sector
+read_wrong all left slot images broken h sector e = h.right ∙ ap (λ o. option_or o (first_wrong left)) e
 
 -- before the first slot
 pub read_starts : (image : Image) (dbd : Dbd) (first : ℕ) (given : List (ℕ × List ℕ)) → IsReadTo (image_slots_in image dbd first given) (slots_by (slot_from image dbd first given) (dbd.roots - 0) 0) [] None
@@ -195,17 +179,19 @@ pub read_ends : (all : List SlotOnImage) (f : ℕ → SlotOnImage) (roots number
 read_ends all f roots number images broken le h = subst (λ left. IsReadTo all left images broken) (left_none f roots number le) h
 
 -- the source of a slot that is read
-module _ (old mid : Image) (dbd : Dbd) (first number at : ℕ) (given rest : List (ℕ × List ℕ)) (bytes : Option (List ℕ)) (head : bytes ≡ head_given number rest) (ahead : IsAhead number given rest) (same : mid ≡ old) (place : at ≡ first + number) where
-  source_is : source_of bytes (sector_at mid at) ≡ (slot_from old dbd first given number).source
-  source_is = λ i. source_of ((head ∙ sym (ahead_head number given rest ahead)) i) (sector_at (same i) (place i))
+module _ (old mid : Image) (dbd : Dbd) (first number at : ℕ) (given rest : List (ℕ × List ℕ)) (bytes : Option (List ℕ)) (head : bytes ≡ head_given number rest) (ahead : IsAhead number given rest) (same : mid ≡ old) (place : at ≡ first + number * dbd.sectors) where
+  source_is : source_of bytes (sectors_from mid at dbd.sectors) ≡ (slot_from old dbd first given number).source
+  source_is = λ i. source_of ((head ∙ sym (ahead_head number given rest ahead)) i) (sectors_from (same i) (place i) dbd.sectors)
 
-  pub rows_here : (rows : Option (List Row)) → IsSlotRows dbd (source_of bytes (sector_at mid at)) rows → IsSlotRows dbd (slot_from old dbd first given number).source rows
-  rows_here rows h = subst (λ (s : Source). IsSlotRows dbd s rows) source_is h
+  pub rows_here : (rows : Option (List Row)) → IsSlotRows dbd (source_of bytes (sectors_from mid at dbd.sectors)) at rows → IsSlotRows dbd (slot_from old dbd first given number).source (first + number * dbd.sectors) rows
+  rows_here rows h =
+      subst (λ p. IsSlotRows dbd (slot_from old dbd first given number).source p rows) place
+      (subst (λ (s : Source). IsSlotRows dbd s at rows) source_is h)
 
-  pub wrong_here : (fault : LoadFault) (all left : List SlotOnImage) (images : List (List Row)) (broken : Option ℕ) → TellsSlot (Err fault) dbd (source_of bytes (sector_at mid at)) at
+  pub wrong_here : (fault : LoadFault) (all left : List SlotOnImage) (images : List (List Row)) (broken : Option ℕ) → TellsSlot (Err fault) dbd (source_of bytes (sectors_from mid at dbd.sectors)) at
       → IsReadTo all (slot_from old dbd first given number ∷ left) images broken → TellsRead (Err fault) all
   wrong_here (faults.Bad rule sector) all left images broken t h =
-      (read_wrong all left (slot_from old dbd first given number) images broken h (ap is_wrong_length (sym source_is) ∙ t.0) ∙ ap Some (sym (t.2 ∙ place)), t.1)
+      (read_wrong all left (slot_from old dbd first given number) images broken h sector ((λ i. wrong_in (sym place i) (sym source_is i)) ∙ t.0), t.1)
   wrong_here faults.Disk all left images broken t h = tt
   wrong_here faults.Memory all left images broken t h = tt
 
@@ -213,7 +199,7 @@ pub slot_or : (dbd : Dbd) (rows : Option (List Row)) → MaySlot dbd rows → Is
 slot_or dbd None h = inl refl
 slot_or dbd (Some rows) h = h
 
-pub read_next : (all left : List SlotOnImage) (slot : SlotOnImage) (images : List (List Row)) (broken : Option ℕ) (rows : Option (List Row)) → IsReadTo all (slot ∷ left) images broken → IsSlotRows slot.dbd slot.source rows
+pub read_next : (all left : List SlotOnImage) (slot : SlotOnImage) (images : List (List Row)) (broken : Option ℕ) (rows : Option (List Row)) → IsReadTo all (slot ∷ left) images broken → IsSlotRows slot.dbd slot.source slot.place rows
     → (image : List Row) (images' : List (List Row)) (broken' : Option ℕ) → images' ≡ images ++ image ∷ [] → image ≡ unwrap_or rows [] → broken' ≡ option_or broken (cond (is_some rows) None (Some slot.place))
     → IsReadTo all left images' broken'
 read_next all left slot images broken rows h s image images' broken' pushed image_is broken_is =

@@ -1,37 +1,15 @@
 -- Slots with bytes, in their order.
-use Rattle.std.proofs.Common.{◌≡◌, ℕ, ◌<◌, ◌≤◌, ◌+◌, ◌++◌, ◌∷◌, [], List, length, get_or, take, drop, zero, suc, sym, ⊎_elim, ◌∙◌, ap, subst, arith, Some}
+use Rattle.std.proofs.Common.{◌≡◌, ℕ, ◌<◌, ◌≤◌, ◌++◌, ◌∷◌, [], List, length, get_or, zero, suc, sym, ◌∙◌, ap, subst, arith, Some}
 use Rattle.std.specs.List.{AllByRecursion, slice_get}
 use Rattle.std.specs.List.Sorted.{IsStrictlySortedBy}
 use Rattle.std.specs.Map.{keys_of}
 use Rattle.std.specs.Ordering.{nat_cmp}
 use Rattle.std.specs.Cmp.{nat_cmp_is}
 use Rattle.std.specs.declared.cmp.Ordering.TheVariants.{Less}
-use Rattle.std.proofs.lemmas.List.{length-map, take-append-drop}
-use Rattle.tm_disk.specs.Disk.{Image, MayWrite}
-use Rattle.seg_store.specs.DataSectors.{data_sector, HasPut, PutsFront}
-use Rattle.seg_store.proofs.Putting.{has_step}
+use Rattle.std.proofs.lemmas.List.{length-map}
 use Rattle.std.proofs.lemmas.Option.{slice_get-get_or}
 use Rattle.std.proofs.lemmas.Map.Views.{length-le_from_below}
 use Rattle.std.proofs.lemmas.List.Elements.{All-from_recursion}
-
--- A slot's sector was written or not, behind those in front of it.
-pub puts_front : (first : ℕ) (slots : List (ℕ × List ℕ)) (i at : ℕ) (slot : ℕ × List ℕ) (sector : List ℕ) (before mid after : Image) → take (i + 1) slots ≡ take i slots ++ slot ∷ [] → first + slot.0 ≡ at → at < length mid → sector ≡ data_sector slot.1
-    → HasPut first (take i slots) before mid → MayWrite at sector mid after → PutsFront first slots before after
-puts_front first slots i at slot sector before mid after next is inside sealed has may =
-    ⊎_elim
-    (λ same. record {
-      front = take i slots;
-      rest = drop i slots;
-      all = sym (take-append-drop i slots);
-      put = subst (λ (image : Image). HasPut first (take i slots) before image) (sym same) has;
-    })
-    (λ new. record {
-      front = take (i + 1) slots;
-      rest = drop (i + 1) slots;
-      all = sym (take-append-drop (i + 1) slots);
-      put = subst (λ (xs : List (ℕ × List ℕ)). HasPut first xs before after) (sym next) (has_step first (take i slots) slot at sector before mid after is inside sealed has new);
-    })
-    may
 
 abbrev pub Ascends : List (ℕ × List ℕ) → Type 0
 Ascends slots = IsStrictlySortedBy nat_cmp (keys_of slots)

@@ -1,10 +1,10 @@
 -- What loading a database answers.
-use Rattle.std.specs.Prelude.{◌≡◌, ℕ, ◌+◌, ◌==◌, List, [], ◌∷◌, map, find, Option, Some, None, Result, Ok, Err}
+use Rattle.std.specs.Prelude.{◌≡◌, ℕ, ◌+◌, ◌*◌, ◌==◌, List, [], ◌∷◌, map, find, Option, Some, None, Result, Ok, Err}
 use Rattle.std.specs.Option.{option_map}
 use Rattle.tm_types.specs.declared.dbd.Dbd.{Dbd}
-use Rattle.tm_disk.specs.Disk.{Image, DiskState, FailedSince, sector_at}
+use Rattle.tm_disk.specs.Disk.{Image, DiskState, FailedSince}
 use Rattle.model_data.specs.Rows.{Database}
-use Rattle.model_image.specs.Slots.{SlotOnImage, source_of, slots_by, slot_fault, slot_rows}
+use Rattle.model_image.specs.Slots.{SlotOnImage, source_of, sectors_from, slots_by, slot_fault, slot_rows}
 use Rattle.seg_store.specs.Slots.{AreSlots}
 use Rattle.seg_store.specs.ChangedSlots.{Kept}
 use Rattle.image_loading.specs.declared.fault.LoadFault.{LoadFault}
@@ -14,12 +14,12 @@ use Rattle.image_loading.specs.declared.fault.LoadFault.TheVariants as faults
 abbrev pub given_to : ℕ → List (ℕ × List ℕ) → Option (List ℕ)
 given_to number given = option_map (λ s. s.1) (find (λ s. s.0 == number) given)
 
--- a slot of a database: what it is given, or its sector
+-- a slot of a database: what it is given, or its sectors
 abbrev pub slot_from : Image → Dbd → ℕ → List (ℕ × List ℕ) → ℕ → SlotOnImage
 slot_from image dbd first given number = record {
   dbd = dbd;
-  place = first + number;
-  source = source_of (given_to number given) (sector_at image (first + number));
+  place = first + number * dbd.sectors;
+  source = source_of (given_to number given) (sectors_from image (first + number * dbd.sectors) dbd.sectors);
 }
 
 -- all slots of a database

@@ -11,10 +11,10 @@ use Rattle.image_loading.specs.declared.fault.LoadFault.TheVariants as faults
 abbrev pub has_same_root : List Row → List Row → Bool
 has_same_root image other = not (is_slot_free image) && has_root (image_root image) other
 
--- the place of the first image whose root a later one has, the first of all having this place
-abbrev pub shared_at : ℕ → List (List Row) → Option ℕ
-shared_at at [] = None
-shared_at at (image ∷ images) = if list_any (has_same_root image) images then Some at else shared_at (at + 1) images
+-- the place of the first image whose root a later one has, where each has so many sectors and the first of all this place
+abbrev pub shared_at : ℕ → ℕ → List (List Row) → Option ℕ
+shared_at sectors at [] = None
+shared_at sectors at (image ∷ images) = if list_any (has_same_root image) images then Some at else shared_at sectors (at + sectors) images
 
 -- the images but those whose root a later one has
 abbrev pub apart : List (List Row) → List (List Row)
@@ -30,7 +30,7 @@ abbrev pub with_new : ℕ → List Row → List (List Row) → List (List Row)
 with_new number image slots = if is_root_there image slots then slots else slice_set slots number image
 
 -- a record's root is that of another one, whose place is told
-abbrev pub SharesRoot : ℕ → List (List Row) → LoadFault → Type 0
-SharesRoot first images (faults.Bad rule sector) = (rule ≡ 22) × (shared_at first images ≡ Some sector)
-SharesRoot first images faults.Disk = ⊥
-SharesRoot first images faults.Memory = Unit {0}
+abbrev pub SharesRoot : ℕ → ℕ → List (List Row) → LoadFault → Type 0
+SharesRoot sectors first images (faults.Bad rule sector) = (rule ≡ 22) × (shared_at sectors first images ≡ Some sector)
+SharesRoot sectors first images faults.Disk = ⊥
+SharesRoot sectors first images faults.Memory = Unit {0}

@@ -1,5 +1,5 @@
 //! The store of a database is built from the records of its slots.
-ghost use Rattle.std.specs.Prelude.{◌≡◌, ◌+◌, ◌<◌, ◌^◌, [], IfOk, IfErr, OnOk, None, Some, length, if◌then◌else◌, slice_get};
+ghost use Rattle.std.specs.Prelude.{◌≡◌, ◌+◌, ◌*◌, ◌<◌, ◌^◌, [], IfOk, IfErr, OnOk, None, Some, length, if◌then◌else◌, slice_get};
 ghost use Rattle.std.specs.List.{AllByRecursion};
 ghost use Rattle.seg_store.specs.Slots.{AreSlots, IsSlot};
 ghost use Rattle.image_loading.specs.LoadedStore.{IsStoreMade};
@@ -11,7 +11,8 @@ use seg_store::Store;
 use std::alloc::Global;
 use tm_types::Dbd;
 
-/// The store with these records in its slots. Where a later slot has the root of a record, the first such sector is told.
+/// The store with these records in its slots. Where a later slot has the root of a record, the first sector of the first
+/// such slot is told.
 pub fn build(
     alloc: Global,
     dbd: &Dbd,
@@ -20,11 +21,11 @@ pub fn build(
 ) -> Result<Store, LoadFault>
     requires count { length images.items ≡ dbd.now.roots }
     requires each { AllByRecursion (IsSlot dbd.now) images.items }
-    requires fits { first + dbd.now.roots < 2 ^ 32 }
+    requires fits { first + dbd.now.roots * dbd.now.sectors < 2 ^ 32 }
     ensures made { IfOk result (IsStoreMade dbd.now) }
     ensures slots { IfOk result (λ store. store.slots ≡ images.items) }
-    ensures alone { OnOk result (shared_at first images.items ≡ None) }
-    ensures shared { IfErr result (SharesRoot first images.items) }
+    ensures alone { OnOk result (shared_at dbd.now.sectors first images.items ≡ None) }
+    ensures shared { IfErr result (SharesRoot dbd.now.sectors first images.items) }
 {
     let _types = dbd.types.as_slice();
     let Ok(mut store) = Store::empty(alloc, dbd) else {
@@ -34,7 +35,8 @@ pub fn build(
     let mut found = None;
     while let Some(image) = images.pop() {
         let number = images.len() as u16;
-        found = add(first, number, image, &mut store, found);
+        let at = first + u32::from(number) * u32::from(dbd.sectors);
+        found = add(at, number, image, &mut store, found);
     }
     match found {
         Some(at) => Err(LoadFault::Bad(22, at)),
@@ -45,20 +47,20 @@ pub fn build(
     }
 }
 
-// Puts an image into its slot, or tells its sector where its root is there; else what was found before is told.
+// Puts an image into its slot, or tells the slot's first sector where its root is there; else what was found before is
+// told.
 fn add(
-    first: u32,
+    at: u32,
     number: u16,
     image: RecordImage,
     store: &mut Store,
     found: Option<u32>,
 ) -> Option<u32>
-    requires fits { first + number < 2 ^ 32 }
     requires slot { IsSlot store.old.dbd image }
     requires free { slice_get store.old.slots number ≡ Some [] }
     requires valid { AreSlots store.old.dbd store.old.slots }
     ensures slots { store.new.slots ≡ with_new number image store.old.slots }
-    ensures found { result ≡ (if is_root_there image store.old.slots then Some (first + number) else found) }
+    ensures found { result ≡ (if is_root_there image store.old.slots then Some at else found) }
     ensures valid { AreSlots store.new.dbd store.new.slots }
     ensures database { store.new.dbd ≡ store.old.dbd }
 {
@@ -66,7 +68,7 @@ fn add(
         return found;
     };
     if store.has_record(&root) {
-        return Some(first + number as u32);
+        return Some(at);
     }
     store.put_back(number, image);
     found

@@ -1,9 +1,9 @@
 //! All databases are loaded.
-ghost use Rattle.std.specs.Prelude.{◌≡◌, ◌+◌, ◌<◌, ◌≤◌, [], ◌∷◌, ◌++◌, List, None, Some, IsTrue, IfOk, OnOk, OnErr, IsErrOf, length};
+ghost use Rattle.std.specs.Prelude.{◌≡◌, ◌+◌, ◌*◌, ◌≤◌, [], ◌∷◌, ◌++◌, List, None, Some, IsTrue, IfOk, OnOk, OnErr, IsErrOf, length};
 ghost use Rattle.std.specs.List.{AllByRecursion};
 ghost use Rattle.tm_types.specs.declared.dbd.Dbd.{Dbd as OneDatabase};
 ghost use Rattle.tm_disk.specs.Disk.{Keeps};
-ghost use Rattle.model_image.specs.Areas.{data_first};
+ghost use Rattle.model_system.specs.Areas.{sectors_needed};
 ghost use Rattle.model_image.specs.Slots.{SlotOnImage as ImageSlot, is_image, slot_fault};
 ghost use Rattle.image_loading.specs.LoadedStore.{image_slots_in, LoadCause};
 ghost use Rattle.image_loading.specs.Databases.{slots_of_databases, lowest_fault, AreImages};
@@ -93,7 +93,8 @@ fn add<D: Disk>(
     given: &Slots,
     loaded: &mut Loaded,
 ) -> Result<(), Stopped>
-    requires area { first + dbd.now.roots ≤ (D.state disk.old).size }
+    requires area { first + dbd.now.roots * dbd.now.sectors ≤ (D.state disk.old).size }
+    requires few { dbd.now.sectors ≤ 8 }
     requires given { AllByRecursion (λ s. IsTrue (is_image dbd.now s.1)) given.now }
     ensures made { OnOk result ((dbds : List OneDatabase) → (loaded.old.broken ≡ None → AreAllMade dbds loaded.old.stores) → loaded.new.broken ≡ None → AreAllMade (dbds ++ dbd.now ∷ []) loaded.new.stores) }
     ensures value { OnOk result (IsTrue (D.state disk.old).tells → (databases : List (List ImageSlot)) → loaded.old.broken ≡ slot_fault databases → loaded.new.broken ≡ slot_fault (databases ++ image_slots_in (D.state disk.old).shown dbd.now first given.now ∷ [])) }
@@ -120,7 +121,7 @@ pub fn load_all<D: Disk>(
     system: &System,
     given: &[Slots],
 ) -> Result<Loaded, LoadFault>
-    requires areas { data_first system.now (length system.now.databases) ≤ (D.state disk.old).size }
+    requires areas { sectors_needed system.now ≤ (D.state disk.old).size }
     requires count { length given.now ≡ length system.now.databases }
     requires images { AreImages system.now given.now }
     ensures made { IfOk result (λ loaded. AreAllMade system.now.databases loaded.stores) }
@@ -141,7 +142,7 @@ pub fn load_all<D: Disk>(
             Err(Stopped::Disk) => return Err(LoadFault::Disk),
             Err(Stopped::Memory) => return Err(LoadFault::Memory),
         }
-        first += u32::from(dbd.roots);
+        first += u32::from(dbd.roots) * u32::from(dbd.sectors);
     }
     match broken_in(&loaded) {
         Some(broken) => Err(LoadFault::Bad(broken.0, broken.1)),

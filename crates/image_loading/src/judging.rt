@@ -1,6 +1,6 @@
 //! What a slot's bytes and a data sector spell.
-ghost use Rattle.std.specs.Prelude.{◌≡◌, true, false, length, IfOk, MatchOption};
-ghost use Rattle.model_image.specs.Slots.{Spelled, slot_bytes_in, is_wrong_length, rows_of_bytes, used_in};
+ghost use Rattle.std.specs.Prelude.{◌≡◌, ◌≤◌, true, false, length, IfOk, MatchOption};
+ghost use Rattle.model_image.specs.Slots.{payload_in, is_wrong_sector, rows_of_bytes, used_in};
 
 use restart_data::all_zero;
 use seg_rows::{DecodeFault, RecordImage, decode_record};
@@ -25,14 +25,17 @@ pub fn image_of(alloc: Global, dbd: &Dbd, bytes: &[u8]) -> Result<Option<RecordI
     }
 }
 
-/// The bytes of a record in a data sector; None exactly where it says that there are more than 4,000, or where other bytes
-/// than zeros stand behind them.
-pub fn bytes_in(sector: &Sector) -> Option<&[u8]>
-    ensures { MatchOption result (is_wrong_length (Spelled sector.now) ≡ true) (λ bytes. (bytes.now ≡ slot_bytes_in sector.now) × (is_wrong_length (Spelled sector.now) ≡ false)) }
+/// The bytes of a record in a data sector; None exactly where it says that there are more than 4,000, where other bytes
+/// than zeros stand behind them, or where there are some and not all sectors of the slot before it are full.
+pub fn bytes_in(sector: &Sector, full: bool) -> Option<&[u8]>
+    ensures { MatchOption result (is_wrong_sector full sector.now ≡ true) (λ bytes. (bytes.now ≡ payload_in sector.now) × (length bytes.now ≡ used_in sector.now) × (is_wrong_sector full sector.now ≡ false)) }
 {
     let bytes = sector.bytes();
     let used = used(bytes);
     if used > 4000 {
+        return None;
+    }
+    if used > 0 && !full {
         return None;
     }
     if all_zero(&bytes[HEADER_BYTES + used..]) {

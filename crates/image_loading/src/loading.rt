@@ -1,5 +1,5 @@
 //! A database is loaded.
-ghost use Rattle.std.specs.Prelude.{◌≡◌, ◌+◌, ◌≤◌, IsTrue, IfOk};
+ghost use Rattle.std.specs.Prelude.{◌≡◌, ◌+◌, ◌*◌, ◌≤◌, IsTrue, IfOk};
 ghost use Rattle.std.specs.List.{AllByRecursion};
 ghost use Rattle.tm_disk.specs.Disk.{Keeps};
 ghost use Rattle.model_image.specs.Slots.{is_image};
@@ -16,8 +16,8 @@ use std::alloc::Global;
 use tm_disk::Disk;
 use tm_types::Dbd;
 
-/// Loads a database whose slot 0 has the sector `first`: the store with each record in its slot. The slots that are given
-/// are taken from there, and their sectors aren't looked at. Nothing is written.
+/// Loads a database whose slot 0 begins at the sector `first`: the store with each record in its slot. The slots that are
+/// given are taken from there, and their sectors aren't looked at. Nothing is written.
 pub fn load_store<D: Disk>(
     alloc: Global,
     disk: &mut D,
@@ -25,7 +25,8 @@ pub fn load_store<D: Disk>(
     first: u32,
     given: &Slots,
 ) -> Result<Store, LoadFault>
-    requires area { first + dbd.now.roots ≤ (D.state disk.old).size }
+    requires area { first + dbd.now.roots * dbd.now.sectors ≤ (D.state disk.old).size }
+    requires few { dbd.now.sectors ≤ 8 }
     requires given { AllByRecursion (λ s. IsTrue (is_image dbd.now s.1)) given.now }
     // A store of the database.
     ensures made { IfOk result (IsStoreMade dbd.now) }
@@ -53,7 +54,8 @@ pub fn load<D: Disk>(
     first: u32,
     given: &Slots,
 ) -> Result<(Store, PlainRows), LoadFault>
-    requires area { first + dbd.now.roots ≤ (D.state disk.old).size }
+    requires area { first + dbd.now.roots * dbd.now.sectors ≤ (D.state disk.old).size }
+    requires few { dbd.now.sectors ≤ 8 }
     requires given { AllByRecursion (λ s. IsTrue (is_image dbd.now s.1)) given.now }
     ensures made { IfOk result (λ loaded. IsStoreMade dbd.now loaded.0) }
     ensures rows_database { IfOk result (λ loaded. loaded.1.dbd ≡ dbd.now) }

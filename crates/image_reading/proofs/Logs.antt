@@ -4,7 +4,7 @@ use Rattle.tm_disk.specs.Disk.{Image}
 use Rattle.model_system.specs.System.{System}
 use Rattle.log_sectors.specs.Chain.{chain, joined_payloads}
 use Rattle.restart_data.specs.declared.restart.RestartSector.{RestartSector}
-use Rattle.model_image.specs.Areas.{log_first}
+use Rattle.model_system.specs.Areas.{log_first}
 use Rattle.model_image.specs.RecoveredState.{first_later}
 use Rattle.image_reading.specs.declared.area.LogArea.{LogArea}
 use Rattle.image_reading.specs.declared.reading.ReadLog.{ReadLog}

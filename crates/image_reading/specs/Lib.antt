@@ -5,7 +5,7 @@ pub mod ReadSnapshot
 pub mod NamedBytes
 pub use Rattle.image_records.specs.NamedSlots
 pub use Rattle.image_records.specs.RecordAnswers
-pub use Rattle.model_image.specs.Areas
+pub use Rattle.model_system.specs.Areas
 pub use Rattle.model_image.specs.CutRecords
 pub use Rattle.model_image.specs.RecoveredState
 pub use Rattle.model_image.specs.Text

@@ -6,7 +6,7 @@ use Rattle.log_records.specs.declared.record.Record.{Record}
 use Rattle.log_records.proofs.Takes.{IsBytes}
 use Rattle.log_sectors.specs.Chain.{chain, joined_payloads}
 use Rattle.restart_data.specs.declared.restart.RestartSector.{RestartSector}
-use Rattle.model_image.specs.Areas.{log_first}
+use Rattle.model_system.specs.Areas.{log_first}
 use Rattle.model_image.specs.Counters.{next_sequence}
 use Rattle.model_image.specs.CutRecords.{cut_of, IsRecordCutOff}
 use Rattle.model_image.specs.RecoveredState.{first_later}

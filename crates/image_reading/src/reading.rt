@@ -3,7 +3,7 @@ ghost use Rattle.std.specs.Prelude.{◌≡◌, ◌+◌, ◌≤◌, length, Decid
 ghost use Rattle.log_records.proofs.Takes.{IsBytes};
 ghost use Rattle.tm_disk.specs.Disk.{Keeps};
 ghost use Rattle.restart_data.specs.WrittenSectors.{IsValid};
-ghost use Rattle.model_image.specs.Areas.{snapshot_area, data_first};
+ghost use Rattle.model_system.specs.Areas.{snapshot_area, data_first};
 ghost use Rattle.model_image.specs.CutRecords.{cut_of, IsRecordCutOff};
 ghost use Rattle.image_reading.specs.ReadLog.{ComesFromBytes, IsLogOf, LogCause};
 

@@ -2,7 +2,7 @@
 ghost use Rattle.std.specs.Prelude.{◌≡◌, ◌≤◌, length, IsTrue, IfOk};
 ghost use Rattle.tm_disk.specs.Disk.{Keeps};
 ghost use Rattle.restart_data.specs.WrittenSectors.{IsValid};
-ghost use Rattle.model_image.specs.Areas.{snapshot_area, data_first};
+ghost use Rattle.model_system.specs.Areas.{snapshot_area, data_first};
 ghost use Rattle.image_records.specs.RecordAnswers.{TellsRecords};
 ghost use Rattle.image_reading.specs.ReadSnapshot.{ComesFromRecords, TellsSnapshotOf, ReadCause};
 

@@ -9,7 +9,7 @@ use Rattle.restart_data.specs.declared.restart.RestartSector.{RestartSector}
 use Rattle.tm_disk.specs.Disk.{Image}
 use Rattle.restart_data.specs.Snapshot.{snapshot_in}
 use Rattle.log_sectors.specs.Chain.{chain, joined_payloads}
-use Rattle.model_image.specs.Areas.{snapshot_first, log_first}
+use Rattle.model_system.specs.Areas.{snapshot_first, log_first}
 use Rattle.model_image.specs.CutRecords.{cut_of, records_cut}
 use Rattle.model_image.specs.Faults.{Fault, in_sector, unless_any, or_fault}
 use Rattle.model_image.specs.Snapshot.{snapshot_rules, snapshot_state}

@@ -99,7 +99,7 @@ told_back unit old new (c ∷ cs) all =
     ∙ ap (λ (rs : List Record). move_record unit old new c ∷ rs) (told_back unit old new cs all.1)
 
 module _ (system : System) (n : ℕ) (lasting : LastingState) (before after : List (Option Slot)) (was table : EnqueueTable) (old new : SlotsState) (units : List ℕ) (next : ℕ) (life : LifeOnDisk)
-    (l : IsLifeOf system lasting before was old units next life) (have : HaveSlots system.databases n old) (had : HaveSlots system.databases n new) (one_sector : AllByRecursion (λ dbd. dbd.sectors ≤ 1) system.databases)
+    (l : IsLifeOf system lasting before was old units next life) (have : HaveSlots system.databases n old) (had : HaveSlots system.databases n new) (few_sectors : AllByRecursion (λ dbd. dbd.sectors ≤ 8) system.databases)
     (held : HoldTouched was old) (holds : HoldTouched table new) (leave : (other d : ℕ) (image : List Row) → HoldsAlone was other (resource_of d image) → HoldsAlone table other (resource_of d image)) (numbers : AreUnitsNumbered after units next)
     (unit region : ℕ) (least : 1 ≤ region) (most : region ≤ n) (found : slice_get units (region - 1) ≡ Some unit) (some : 0 < unit)
     (records : List Record) (calls : CallsSo unit region old new records) where
@@ -179,7 +179,7 @@ module _ (system : System) (n : ℕ) (lasting : LastingState) (before after : Li
 
     moved : (cs : List Change) → Moves unit region table old new records life.touches cs → Continues (flat_map record_spelling records) (IsLifeOf system lasting after table new units next) life
     moved cs m =
-        moves_on system n lasting before after was table old new units next life l have had one_sector holds leave numbers unit region least found some records cs m room.valid room.fits room.bytes
+        moves_on system n lasting before after was table old new units next life l have had few_sectors holds leave numbers unit region least found some records cs m room.valid room.fits room.bytes
 
     by : ChangesNone old new records ⊎ (ChangesOne unit region old new records ⊎ TakesBack unit region old new records) → Continues (flat_map record_spelling records) (IsLifeOf system lasting after table new units next) life
     by (inl none) = nothing none

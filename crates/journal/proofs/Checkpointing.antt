@@ -2,7 +2,7 @@
 use Rattle.std.proofs.Common.{◌≡◌, ◌≤◌, ◌+◌, ◌*◌, ◌/◌, ℕ, List, length, refl, sym, subst, arith}
 use Rattle.tm_disk.specs.Disk.{DiskState, Follows}
 use Rattle.model_system.specs.System.{System}
-use Rattle.model_image.specs.Areas.{snapshot_area, snapshot_first, log_first, data_first}
+use Rattle.model_system.specs.Areas.{snapshot_area, snapshot_first, log_first, data_first}
 use Rattle.model_image.proofs.Places.{log_below, slot_above}
 use Rattle.log_records.specs.declared.record.Record.{Record}
 use Rattle.log_writer.specs.Writer.{Writer}
@@ -47,7 +47,7 @@ of_life bytes stores disk life touches told is areas =
       stores_of = is.may.slots.are_of;
       named = changed_are_named bytes stores touches told life is.is_life is.may disk is.kept;
       over = record { first = w.first; count = w.count; sequence = w.sequence; epoch = w.epoch };
-      log_area = omega (arith, w.first, w.count, areas, log_below life.system life.now.log is.is_life.in_range.log, slot_above life.system (length life.system.databases) 0);
+      log_area = omega (arith, w.first, w.count, areas, log_below life.system life.now.log is.is_life.in_range.log, slot_above life.system (length life.system.databases) 0 0);
       ahead = none_is_ahead bytes stores touches told life is.is_life is.may disk is.kept;
       force_keeps = forces_keep bytes stores touches told life is.is_life is.may disk is.kept;
       snapshot_keeps = snapshots_keep bytes stores touches told life is.is_life is.may disk is.kept;

@@ -1,5 +1,5 @@
 -- A checkpoint of a life that goes with the machine.
-use Rattle.std.proofs.Common.{◌≡◌, inl, inr, ℕ, zero, suc, ◌+◌, ◌-◌, ◌≤◌, ◌<◌, nat_lt, Bool, true, false, ◌||◌, ◌&&◌, List, [], ◌∷◌, length, map, Option, Some, None, IsSome, refl, sym, ◌∙◌, ap, subst, arith}
+use Rattle.std.proofs.Common.{◌≡◌, inl, inr, ℕ, zero, suc, ◌+◌, ◌-◌, ◌*◌, ◌≤◌, ◌<◌, nat_lt, Bool, true, false, ◌||◌, ◌&&◌, List, [], ◌∷◌, length, map, Option, Some, None, IsSome, refl, sym, ◌∙◌, ap, subst, arith, mul-le-mul_left}
 use Rattle.std.specs.Prelude.{slice_get, slice_index_or, sum_by, find, ◌==◌, if◌then◌else◌}
 use Rattle.std.specs.List.{list_any, flat_map, AllByRecursion}
 use Rattle.std.specs.Option.{option_map, option_map_or}
@@ -10,7 +10,8 @@ use Rattle.model_data.specs.declared.row.Row.{Row}
 use Rattle.model_data.specs.Record as rows
 use Rattle.model_system.specs.System.{System}
 use Rattle.model_machine.specs.Machine.{LastingState, Moment}
-use Rattle.model_image.specs.Areas.{snapshot_area}
+use Rattle.model_system.specs.Areas.{most_sectors, snapshot_area}
+use Rattle.model_image.proofs.Places.{most_one}
 use Rattle.model_image.specs.States.{breaks_a_rule}
 use Rattle.log_records.specs.declared.record.Record.{Record}
 use Rattle.log_records.specs.RecordSpelling.{record_spelling}
@@ -51,7 +52,7 @@ use Rattle.journal.proofs.Calls.{ascend_own}
 use Rattle.journal.proofs.Ended.{committed_so, get_of_index, stands_committed}
 use Rattle.journal.proofs.Moves.{AreOwn}
 use Rattle.journal.proofs.Places.{is_among}
-use Rattle.journal.proofs.Stores.{has_stores, known_slot_of, stands_so, stores_one}
+use Rattle.journal.proofs.Stores.{has_stores, known_slot_of, stands_so, few_sectors_of, stores_most}
 
 -- ---- kept slots, as a snapshot takes them
 
@@ -158,7 +159,7 @@ none_marked changed d s = by changed (d - 1) where
   by (x ∷ some) (suc k) = by some k
 
 module _ (system : System) (valid : IsSystem system) (n : ℕ) (moment : Moment) (slots : SlotsState) (units : List ℕ) (next : ℕ) (life : LifeOnDisk) (c : IsCarriedBy system moment slots units next life)
-    (have : HaveSlots system.databases n slots) (one_sector : AllByRecursion (λ dbd. dbd.sectors ≤ 1) system.databases) (holds : HoldTouched moment.enqueues slots) (opens : List OpenUnit) (o : AreUnitsOf slots units opens) where
+    (have : HaveSlots system.databases n slots) (holds : HoldTouched moment.enqueues slots) (opens : List OpenUnit) (o : AreUnitsOf slots units opens) where
   abbrev kept_units : List KeptUnit
   kept_units = map unit_kept opens
 
@@ -297,7 +298,7 @@ module _ (system : System) (valid : IsSystem system) (n : ℕ) (moment : Moment)
     whole_is =
         whole system (life.now.checkpoint + 1) next moment.lasting (touching.changes_of_units slots.stores opens) bytes valid c.is.names counts unbroken
         (open_changes system slots.stores opens have.stores are_open)
-        (omega (arith, open_size slots.stores opens (stores_one system n slots have one_sector) are_open.each, few)) adds
+        (omega (arith, open_size (most_sectors system) slots.stores opens (stores_most system n slots have) (most_one system) are_open.each, mul-le-mul_left (262144 * most_sectors system) few)) adds
 
     restart_next : IsRestart (next_restart (parts_with bytes life) life.log)
     restart_next = record {
@@ -406,7 +407,7 @@ module _ (system : System) (valid : IsSystem system) (n : ℕ) (moment : Moment)
           names = c.is.names;
           counted = c.is.counted;
           is_life = checkpoint_life bytes (slots_stores slots) kept_now told_records life c.is.is_life may_checkpoint;
-          stores = has_stores system n (written slots) had one_sector life_checked c.is.of_system
+          stores = has_stores system n (written slots) had (few_sectors_of system valid) life_checked c.is.of_system
               (λ place number dbd found below. stands_so system slots life c.is.of_system c.is.stores (place + 1) number (record { place = place; is = refl; dbd = dbd; found = found; below = below }))
               (λ place number dbd found below. sym (none_marked slots.changed (place + 1) number));
           committed = c.is.committed;

@@ -1,7 +1,7 @@
 -- The work on a message ends: it is completed or discarded, and the life takes the step.
 use Rattle.std.proofs.Common.{◌≡◌, ◌⊎◌, ℕ, ◌+◌, ◌-◌, ◌≤◌, ◌<◌, Bool, true, false, List, [], ◌∷◌, map, Option, Some, refl, sym, ◌∙◌, ap, subst, arith}
 use Rattle.std.specs.Prelude.{slice_get}
-use Rattle.std.specs.List.{list_all, list_any, flat_map, AllByRecursion}
+use Rattle.std.specs.List.{list_all, list_any, flat_map}
 use Rattle.std.specs.Option.{is_some}
 use Rattle.std.specs.Str.{bytes_eq}
 use Rattle.tm_types.specs.declared.abend.AbendCode.{AbendCode}
@@ -52,11 +52,11 @@ use Rattle.journal.proofs.Ended.{put_so, marks_back, synced_so, held_committed, 
 use Rattle.journal.proofs.Inputs.{HasRoom, has_terminals, room_for, lasting_fits, keeps_rules, life_behind, unbroken_by}
 use Rattle.journal.proofs.Names.{of_system_behind, step_counted}
 use Rattle.journal.proofs.Places.{bytes_of_place}
-use Rattle.journal.proofs.Stores.{has_stores, committed_one, stands_so, marked_so, stays_there}
+use Rattle.journal.proofs.Stores.{has_stores, few_sectors_of, stands_so, marked_so, stays_there}
 
 module _ (system : System) (valid : IsSystem system) (n : ℕ) (moment after : Moment) (old new : SlotsState) (units : List ℕ) (next : ℕ) (life : LifeOnDisk)
     (c : IsCarriedBy system moment old units next life) (sound : StaysSound system after) (unspent : AreUnspent moment.lasting)
-    (have : HaveSlots system.databases n old) (had : HaveSlots system.databases n new) (one_sector : AllByRecursion (λ dbd. dbd.sectors ≤ 1) system.databases) (holds : HoldTouched moment.enqueues old)
+    (have : HaveSlots system.databases n old) (had : HaveSlots system.databases n new) (holds : HoldTouched moment.enqueues old)
     (unit region : ℕ) (least : 1 ≤ region) (found : slice_get units (region - 1) ≡ Some unit) (some : 0 < unit)
     (leave : (other d : ℕ) (image : List Row) → (other ≡ region → ⊥) → HoldsAlone moment.enqueues other (resource_of d image) → HoldsAlone after.enqueues other (resource_of d image))
     (number later : ℕ) (fresh : (number ≡ 0) ⊎ (next ≤ number)) (low : number < later) (more : next ≤ later) (numbers : AreUnitsNumbered after.slots (with_unit region number units) later)
@@ -106,7 +106,6 @@ module _ (system : System) (valid : IsSystem system) (n : ℕ) (moment after : M
       stores = new.committed;
       databases = rw (c.is.of_system) had.committed;
       valid = had.valid_committed;
-      one_sector = committed_one system n new had one_sector;
       bytes = λ place number dbd found_there below.
           synced_so system n moment.lasting moment.slots moment.enqueues after.enqueues old units next life c.is have holds unit region least found some new commits (place + 1) number
           (known_there place number dbd (of_system place dbd found_there) below)
@@ -159,7 +158,7 @@ module _ (system : System) (valid : IsSystem system) (n : ℕ) (moment after : M
               names = subst (λ (l : LastingState). IsOfSystem system l) (sym behind_is) (of_system_behind system (Completes id lines outputs pad) moment.lasting c.is.names);
               counted = subst (λ (l : LastingState). AreSegmentsCounted l) lasts_so (step_counted life step is (subst (λ (l : LastingState). AreSegmentsCounted l) (sym c.is.lasts) c.is.counted));
               is_life = life_behind life c.is.is_life step is unbroken;
-              stores = has_stores system n new had one_sector (after_step step life) c.is.of_system
+              stores = has_stores system n new had (few_sectors_of system valid) (after_step step life) c.is.of_system
                   (λ place number dbd found_there below.
                   stands_so system old life c.is.of_system c.is.stores (place + 1) number (known_there place number dbd found_there below)
                   ∙ ap (λ (stores : List Stored). image_bytes_at (place + 1) number stores) (sym commits.stores))
@@ -242,7 +241,7 @@ module _ (system : System) (valid : IsSystem system) (n : ℕ) (moment after : M
               names = subst (λ (l : LastingState). IsOfSystem system l) (sym behind_is) (of_system_behind system (Discards id abend) moment.lasting c.is.names);
               counted = subst (λ (l : LastingState). AreSegmentsCounted l) discard_lasts (step_counted life step is (subst (λ (l : LastingState). AreSegmentsCounted l) (sym c.is.lasts) c.is.counted));
               is_life = life_behind life c.is.is_life step is discard_unbroken;
-              stores = has_stores system n new had one_sector (after_step step life) c.is.of_system
+              stores = has_stores system n new had (few_sectors_of system valid) (after_step step life) c.is.of_system
                   (λ place number dbd found_there below.
                   put_so system n moment.lasting moment.slots moment.enqueues after.enqueues old units next life c.is have holds unit region least found some new up (place + 1) number
                   (known_there place number dbd found_there below))

@@ -142,7 +142,7 @@ some_of None t e = absurd cc
 some_of (Some x) t e = refl
 
 module _ (system : System) (n : ℕ) (lasting : LastingState) (before after : List (Option Slot)) (was table : EnqueueTable) (old new : SlotsState) (units : List ℕ) (next : ℕ) (life : LifeOnDisk)
-    (l : IsLifeOf system lasting before was old units next life) (have : HaveSlots system.databases n old) (had : HaveSlots system.databases n new) (one_sector : AllByRecursion (λ dbd. dbd.sectors ≤ 1) system.databases)
+    (l : IsLifeOf system lasting before was old units next life) (have : HaveSlots system.databases n old) (had : HaveSlots system.databases n new) (few_sectors : AllByRecursion (λ dbd. dbd.sectors ≤ 8) system.databases)
     (holds : HoldTouched table new) (leave : (other d : ℕ) (image : List Row) → HoldsAlone was other (resource_of d image) → HoldsAlone table other (resource_of d image)) (numbers : AreUnitsNumbered after units next)
     (unit region : ℕ) (least : 1 ≤ region) (found : slice_get units (region - 1) ≡ Some unit) (some : 0 < unit)
     (records : List Record) (cs : List Change) (m : Moves unit region table old new records life.touches cs) (valid : AllByRecursion IsLogRecord records)
@@ -377,7 +377,7 @@ module _ (system : System) (n : ℕ) (lasting : LastingState) (before after : Li
     names = l.names;
     counted = l.counted;
     is_life = is_life_behind;
-    stores = has_stores system n new had one_sector life_behind (stays.system ∙ l.of_system)
+    stores = has_stores system n new had few_sectors life_behind (stays.system ∙ l.of_system)
         (λ place number dbd found below. present_so (place + 1) number (known_there place number dbd found below))
         (λ place number dbd found below. refl);
     committed = λ place number dbd found below.

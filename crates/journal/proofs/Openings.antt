@@ -30,7 +30,7 @@ use Rattle.program_rows.specs.SlotsState.{SlotsState, HaveSlots, touched_in}
 use Rattle.journal.specs.UnitNumbers.{AreUnitsNumbered, unit_of_region}
 use Rattle.journal.specs.CarriedLife.{IsCarriedBy}
 use Rattle.journal.proofs.Places.{bytes_of_place}
-use Rattle.journal.proofs.Stores.{has_stores, stores_one}
+use Rattle.journal.proofs.Stores.{has_stores, few_sectors_of}
 
 -- no region has a number
 abbrev pub no_units : ℕ → List ℕ
@@ -75,7 +75,7 @@ not_over_by : (limit need : ℕ) → nat_lt limit need ≡ false → need ≤ li
 not_over_by limit need e = ltb-false limit need e
 
 module _ (system : System) (valid : IsSystem system) (n : ℕ) (text : List ℕ) (now : RestartSector) (state : LastingState) (slots : SlotsState) (next : ℕ)
-    (in_range : IsRestart now) (unbroken : breaks_a_rule system state ≡ false) (names : IsOfSystem system state) (counted : AreSegmentsCounted state) (have : HaveSlots system.databases n slots) (one_sector : AllByRecursion (λ dbd. dbd.sectors ≤ 1) system.databases)
+    (in_range : IsRestart now) (unbroken : breaks_a_rule system state ≡ false) (names : IsOfSystem system state) (counted : AreSegmentsCounted state) (have : HaveSlots system.databases n slots)
     (rows_are : map (λ s. rows_of_slots s.slots) slots.stores ≡ state.rows) (clean : (region : ℕ) → touched_in region slots ≡ []) (unmarked : (d s : ℕ) → is_marked slots.changed d s ≡ false) (some : 0 < next) where
   abbrev pub life_opened : LifeOnDisk
   life_opened = opened_life system text now slots.stores state
@@ -91,7 +91,6 @@ module _ (system : System) (valid : IsSystem system) (n : ℕ) (text : List ℕ)
     sound = unbroken;
     databases = have.stores;
     valid = have.valid;
-    one_sector = stores_one system n slots have one_sector;
     plain = λ d s. only_changes d s now.checkpoint next state [];
   }
 
@@ -109,7 +108,6 @@ module _ (system : System) (valid : IsSystem system) (n : ℕ) (text : List ℕ)
     stores = slots.stores;
     databases = have.stores;
     valid = have.valid;
-    one_sector = stores_one system n slots have one_sector;
     bytes = λ place number dbd found below. bytes_are place number ∙ bytes_of_place slots.stores place number;
     are = rows_are;
   }
@@ -147,7 +145,7 @@ module _ (system : System) (valid : IsSystem system) (n : ℕ) (text : List ℕ)
       names = names;
       counted = counted;
       is_life = opened_is;
-      stores = has_stores system n slots have one_sector life_opened refl
+      stores = has_stores system n slots have (few_sectors_of system valid) life_opened refl
           (λ place number dbd found below. bytes_are place number)
           (λ place number dbd found below. sym (unmarked (place + 1) number));
       committed = λ place number dbd found below. bytes_are place number ∙ as_committed (place + 1) number (omega arith);

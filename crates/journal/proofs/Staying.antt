@@ -125,7 +125,7 @@ module _ (system : System) (lasting : LastingState) (before after : List (Option
 -- ---- a victim gives up
 
 module _ (system : System) (n : ℕ) (lasting : LastingState) (before after : List (Option Slot)) (was table : EnqueueTable) (old new : SlotsState) (units : List ℕ) (next : ℕ) (life : LifeOnDisk)
-    (l : IsLifeOf system lasting before was old units next life) (have : HaveSlots system.databases n old) (had : HaveSlots system.databases n new) (one_sector : AllByRecursion (λ dbd. dbd.sectors ≤ 1) system.databases)
+    (l : IsLifeOf system lasting before was old units next life) (have : HaveSlots system.databases n old) (had : HaveSlots system.databases n new) (few_sectors : AllByRecursion (λ dbd. dbd.sectors ≤ 8) system.databases)
     (holds : HoldTouched was old) (unit region : ℕ) (least : 1 ≤ region) (found : slice_get units (region - 1) ≡ Some unit) (some : 0 < unit)
     (leave : (other d : ℕ) (image : List Row) → (other ≡ region → ⊥) → HoldsAlone was other (resource_of d image) → HoldsAlone table other (resource_of d image))
     (numbers : AreUnitsNumbered after (with_unit region 0 units) next) (up : GivesUpSo region old new) where
@@ -161,7 +161,7 @@ module _ (system : System) (n : ℕ) (lasting : LastingState) (before after : Li
       names = l.names;
       counted = l.counted;
       is_life = without_life unit marks life l.is_life back;
-      stores = has_stores system n new had one_sector life_up l.of_system
+      stores = has_stores system n new had few_sectors life_up l.of_system
           (λ place number dbd found_there below. put_so system n lasting before was table old units next life l have holds unit region least found some new up (place + 1) number (known_so place number dbd found_there below))
           (λ place number dbd found_there below. refl);
       committed = λ place number dbd found_there below. l.committed place number dbd found_there below ∙ ap (λ (stores : List Stored). image_bytes_at (place + 1) number stores) (sym up.committed);

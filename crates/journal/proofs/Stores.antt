@@ -1,14 +1,18 @@
 -- The slots of a life are those of stores whose slots these are.
 use Rattle.std.proofs.Common.{◌≡◌, ℕ, zero, suc, ◌+◌, ◌<◌, ◌≤◌, Bool, true, false, ◌||◌, List, [], ◌∷◌, length, refl, sym, ◌∙◌, ap, subst, arith, Some}
 use Rattle.std.specs.Prelude.{Option, ◌==◌, slice_get, slice_index_or}
-use Rattle.std.specs.List.{list_any, AllByRecursion}
+use Rattle.std.specs.List.{list_any, All, AllByRecursion}
 use Rattle.std.specs.Option.{option_map_or}
 use Rattle.std.proofs.lemmas.Bool.{eq-eqb}
+use Rattle.std.proofs.lemmas.List.Elements.{All-head, All-tail}
 use Rattle.tm_types.specs.declared.dbd.Dbd.{Dbd}
 use Rattle.model_data.specs.declared.row.Row.{Row}
 use Rattle.model_data.proofs.Entries.{all_map}
 use Rattle.model_system.specs.System.{System}
+use Rattle.model_system.specs.Areas.{most_sectors}
+use Rattle.model_image.proofs.Places.{most_has}
 use Rattle.seg_store.specs.Slots.{Stored, AreSlots}
+use Rattle.system_types.specs.ValidSystem.{IsDatabase, IsSystem}
 use Rattle.unit_work.specs.Images.{slots_of_database, image_bytes_at, IsSlotOf}
 use Rattle.checkpointing.specs.DirtySlots.{AreStoresOf, DirtySlot}
 use Rattle.disk_law.specs.LifeCheckpoint.{is_slot_changed, HasStores}
@@ -32,17 +36,29 @@ listed (n ∷ numbers) (suc index) number found = by (n == number) (listed numbe
 pub marked_of_place : (changed : List (List ℕ)) (place number : ℕ) → is_marked changed (place + 1) number ≡ is_slot_changed changed place number
 marked_of_place changed place number = ap (λ k. list_any (λ n. n == number) (slice_index_or changed k [])) (omega arith)
 
-module _ (system : System) (regions : ℕ) (slots : SlotsState) (have : HaveSlots system.databases regions slots) (one_sector : AllByRecursion (λ dbd. dbd.sectors ≤ 1) system.databases) where
-  pub stores_one : AllByRecursion (λ s. s.dbd.sectors ≤ 1) slots.stores
-  stores_one =
-      all_map (λ (s : Stored). s.dbd) (λ (dbd : Dbd). dbd.sectors ≤ 1) slots.stores
-      (subst (λ (dbds : List Dbd). AllByRecursion (λ dbd. dbd.sectors ≤ 1) dbds) (sym have.stores) one_sector)
+-- ---- how many sectors their slots have
 
-  pub committed_one : AllByRecursion (λ s. s.dbd.sectors ≤ 1) slots.committed
-  committed_one =
-      all_map (λ (s : Stored). s.dbd) (λ (dbd : Dbd). dbd.sectors ≤ 1) slots.committed
-      (subst (λ (dbds : List Dbd). AllByRecursion (λ dbd. dbd.sectors ≤ 1) dbds) (sym have.committed) one_sector)
+few_each : (dbds : List Dbd) → All IsDatabase dbds → AllByRecursion (λ dbd. dbd.sectors ≤ 8) dbds
+few_each [] all = tt
+few_each (dbd ∷ dbds) all = ((All-head IsDatabase dbd dbds all).few_sectors, few_each dbds (All-tail IsDatabase dbd dbds all))
 
+-- at most eight in a system that a definition defines
+pub few_sectors_of : (system : System) → IsSystem system → AllByRecursion (λ dbd. dbd.sectors ≤ 8) system.databases
+few_sectors_of system valid = few_each system.databases valid.databases
+
+module _ (system : System) (regions : ℕ) (slots : SlotsState) (have : HaveSlots system.databases regions slots) where
+  -- what holds of each database holds of its slots
+  stores_up_to : (most : ℕ) → AllByRecursion (λ dbd. dbd.sectors ≤ most) system.databases → AllByRecursion (λ s. s.dbd.sectors ≤ most) slots.stores
+  stores_up_to most few =
+      all_map (λ (s : Stored). s.dbd) (λ (dbd : Dbd). dbd.sectors ≤ most) slots.stores
+      (subst (λ (dbds : List Dbd). AllByRecursion (λ dbd. dbd.sectors ≤ most) dbds) (sym have.stores) few)
+
+  pub stores_most : AllByRecursion (λ s. s.dbd.sectors ≤ most_sectors system) slots.stores
+  stores_most = stores_up_to (most_sectors system) (most_has system)
+
+-- ---- which slots these are
+
+module _ (system : System) (regions : ℕ) (slots : SlotsState) (have : HaveSlots system.databases regions slots) (few_sectors : AllByRecursion (λ dbd. dbd.sectors ≤ 8) system.databases) where
   dirty_below : (place number : ℕ) (slot : DirtySlot (slots_stores slots) place number) → number < slot.store.dbd.roots
   dirty_below place number slot =
       let marked : is_marked slots.changed (place + 1) number ≡ true =
@@ -55,7 +71,7 @@ module _ (system : System) (regions : ℕ) (slots : SlotsState) (have : HaveSlot
       omega (arith, have.marks (place + 1) number (omega arith) marked, ap (λ (l : List (List Row)). length l) here, valid.count)
 
   pub are_of : AreStoresOf system (slots_stores slots)
-  are_of = record { databases = have.stores; one_sector = stores_one; below = dirty_below }
+  are_of = record { databases = have.stores; few_sectors = stores_up_to system regions slots have 8 few_sectors; below = dirty_below }
 
   -- A life whose slots stand so, and are marked so, has these stores.
   pub has_stores : (l : life.LifeOnDisk) → l.system ≡ system

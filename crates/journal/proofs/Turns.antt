@@ -1,7 +1,7 @@
 -- A turn of a region: the life goes on with what it tells.
 use Rattle.std.proofs.Common.{◌≡◌, ◌⊎◌, inl, inr, ℕ, zero, suc, ◌+◌, ◌-◌, ◌≤◌, ◌<◌, Bool, true, false, List, [], ◌∷◌, ◌++◌, length, map, Option, Some, None, refl, sym, ◌∙◌, ap, subst, arith, append-nil}
 use Rattle.std.specs.Prelude.{slice_get, slice_index_or, slice_set, nat_lt, ◌==◌, if◌then◌else◌}
-use Rattle.std.specs.List.{list_all, flat_map, AllByRecursion}
+use Rattle.std.specs.List.{list_all, flat_map}
 use Rattle.std.specs.Option.{is_some, option_and_then, option_map_or, unwrap_or}
 use Rattle.std.proofs.lemmas.Bool.{eqb-true, ltb-false, ne_eqb}
 use Rattle.std.proofs.lemmas.Option.{slice_get_within}
@@ -60,6 +60,7 @@ use Rattle.journal.proofs.Holding.{asks_leave, release_leaves}
 use Rattle.journal.proofs.Inputs.{HasRoom, has_terminals}
 use Rattle.journal.proofs.Numbers.{numbered_ended, numbered_kept, numbered_taken}
 use Rattle.journal.proofs.Staying.{stays_as, takes_on}
+use Rattle.journal.proofs.Stores.{few_sectors_of}
 use Rattle.journal.proofs.Victims.{continues_then, some_unit, victims_go}
 
 -- the records of a lasting step, where there is one
@@ -127,7 +128,7 @@ completed_rows id lines outputs pad lasting = sym (ap (λ (x : LastingState). x.
 
 module _ (system : System) (valid : IsSystem system) (n : ℕ) (moment : Moment) (old new : SlotsState) (units : List ℕ) (next : ℕ) (life : LifeOnDisk)
     (c : IsCarriedBy system moment old units next life) (unspent : AreUnspent moment.lasting)
-    (have : HaveSlots system.databases n old) (had : HaveSlots system.databases n new) (one_sector : AllByRecursion (λ dbd. dbd.sectors ≤ 1) system.databases) (holds : HoldTouched moment.enqueues old)
+    (have : HaveSlots system.databases n old) (had : HaveSlots system.databases n new) (holds : HoldTouched moment.enqueues old)
     (region : ℕ) (least : 1 ≤ region) (most : region ≤ n) (victims : List Victim) (right_victims : BreaksRingsAt system moment region victims (slot_at moment region))
     (right : list_all (has_right_pad system) (After system moment (Turn region) victims).lasting.conversations ≡ true)
     (holds_then : HoldTouched (After system moment (Turn region) victims).enqueues new) (rows_are : map (λ s. rows_of_slots s.slots) new.committed ≡ (After system moment (Turn region) victims).lasting.rows)
@@ -259,7 +260,7 @@ module _ (system : System) (valid : IsSystem system) (n : ℕ) (moment : Moment)
     backed v others are a b d quiet does room =
         let regions : List (Option Slot) = slice_set moment.slots (region - 1) (Some slot) in
         let same : regions ≡ moment.slots = set_itself moment.slots (region - 1) (Some slot) slot_there in
-        let up = victims_go system n moment.lasting next one_sector (v ∷ others) moment.slots moment.enqueues old new units life c.is have holds does in
+        let up = victims_go system n moment.lasting next (few_sectors_of system valid) (v ∷ others) moment.slots moment.enqueues old new units life c.is have holds does in
         let slots_are : after.slots ≡ without_victims (v ∷ others) moment.slots =
         b ∙ ap (λ (vs : List Victim). without_victims vs regions) are ∙ ap (λ (rs : List (Option Slot)). without_victims (v ∷ others) rs) same in
         let asking =
@@ -288,7 +289,7 @@ module _ (system : System) (valid : IsSystem system) (n : ℕ) (moment : Moment)
         let same_bytes : flat_map record_spelling records ≡ flat_map record_spelling (records ++ []) = ap (λ (rs : List Record). flat_map record_spelling rs) (sym (append-nil records)) in
         no_step (flat_map record_spelling records) units next same_bytes
         (carried (flat_map record_spelling records) moment.lasting regions asked units next a (b ∙ without_none regions none) d
-        (call_goes system n moment.lasting moment.slots regions moment.enqueues asked old new units next life c.is have had one_sector holds
+        (call_goes system n moment.lasting moment.slots regions moment.enqueues asked old new units next life c.is have had (few_sectors_of system valid) holds
         (subst (λ (t : EnqueueTable). HoldTouched t new) d holds_then) (asked_leave (Some slot))
         (numbered_kept moment.slots units next c.is.numbers (region - 1) (Some slot_then) (λ u is. number_fits (Some slot) here u is))
         unit region least most found_unit some records does (room_of (records ++ []) records life (append-nil records) room)))
@@ -323,7 +324,7 @@ module _ (system : System) (valid : IsSystem system) (n : ℕ) (moment : Moment)
       completed turned slot_then number later fresh low more numbers none table a b d quiet commits room =
           let same : records ++ step_records unit completion moment.lasting ≡ step_records unit completion moment.lasting = ap (λ (rs : List Record). rs ++ step_records unit completion moment.lasting) quiet in
           subst (λ (rs : List Record). LifeStepsOn (flat_map record_spelling rs) system after new (with_unit region number units) later life) (sym same)
-          (complete_goes system valid n moment after old new units next life c sound unspent have had one_sector holds unit region least found_unit some (leaves turned table d) number later fresh low more
+          (complete_goes system valid n moment after old new units next life c sound unspent have had holds unit region least found_unit some (leaves turned table d) number later fresh low more
           (subst (λ (rs : List (Option Slot)). AreUnitsNumbered rs (with_unit region number units) later) (sym (b ∙ without_none (slice_set moment.slots (region - 1) slot_then) none)) numbers)
           slot.id its_message.message its_message.at its_message.its trial.databases.rows (outputs_of trial) (pad_of trial) a sends.bytes sends.receivers (sends.flagged its_message.message its_message.at) commits
           (rows_are ∙ ap (λ (l : LastingState). l.rows) a ∙ completed_rows slot.id trial.databases.rows (outputs_of trial) (pad_of trial) moment.lasting)
@@ -346,7 +347,7 @@ module _ (system : System) (valid : IsSystem system) (n : ℕ) (moment : Moment)
           let step : LastingStep = Discards slot.id abend in
           let same : records ++ step_records unit step moment.lasting ≡ step_records unit step moment.lasting = ap (λ (rs : List Record). rs ++ step_records unit step moment.lasting) quiet in
           subst (λ (rs : List Record). LifeStepsOn (flat_map record_spelling rs) system after new (with_unit region 0 units) next life) (sym same)
-          (discard_goes system valid n moment after old new units next life c sound unspent have had one_sector holds unit region least found_unit some (leaves (Abended slot.code slot.id abend) refl d)
+          (discard_goes system valid n moment after old new units next life c sound unspent have had holds unit region least found_unit some (leaves (Abended slot.code slot.id abend) refl d)
           0 next (inl refl) c.is.numbers.some (omega arith)
           (subst (λ (rs : List (Option Slot)). AreUnitsNumbered rs (with_unit region 0 units) next) (sym (b ∙ without_none (slice_set moment.slots (region - 1) None) none)) (numbered_ended moment.slots units next (region - 1) c.is.numbers))
           slot.id its_message.message its_message.at its_message.its abend a does

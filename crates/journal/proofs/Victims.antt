@@ -75,7 +75,7 @@ some_unit regions units next region n busy = by (slice_get regions (region - 1))
       let positive : nat_lt 0 unit ≡ true = n.busy (region - 1) unit slot f e ∙ h in
       subst (λ u. 0 < u) (sym (index_found units (region - 1) unit 0 f)) (ltb-true 0 unit positive)
 
-module _ (system : System) (n : ℕ) (lasting : LastingState) (next : ℕ) (one_sector : AllByRecursion (λ dbd. dbd.sectors ≤ 1) system.databases) where
+module _ (system : System) (n : ℕ) (lasting : LastingState) (next : ℕ) (few_sectors : AllByRecursion (λ dbd. dbd.sectors ≤ 8) system.databases) where
   -- All of them give up.
   pub victims_go : (victims : List Victim) (regions : List (Option Slot)) (table : EnqueueTable) (old new : SlotsState) (units : List ℕ) (life : LifeOnDisk) → IsLifeOf system lasting regions table old units next life
       → HaveSlots system.databases n old → HoldTouched table old → GiveUpInOrder system.databases n regions victims old new
@@ -88,7 +88,7 @@ module _ (system : System) (n : ℕ) (lasting : LastingState) (next : ℕ) (one_
       let some : 0 < unit = some_unit regions units next v.region l.numbers up.busy in
       let found : slice_get units (v.region - 1) ≡ Some unit = get_of_index units (v.region - 1) unit refl some in
       let first =
-      gives_up system n lasting regions (slice_set regions (v.region - 1) None) table (released v.region table) old up.middle units next life l have up.have one_sector holds unit v.region up.least found some
+      gives_up system n lasting regions (slice_set regions (v.region - 1) None) table (released v.region table) old up.middle units next life l have up.have few_sectors holds unit v.region up.least found some
       (λ other d image apart alone. release_leaves v.region other table (resource_of d image) (ne_eqb other v.region apart) alone)
       (numbered_ended regions units next (v.region - 1) l.numbers) up.gives_up in
       let more =

@@ -6,7 +6,7 @@ use Rattle.log_records.specs.declared.record.Record.{Record}
 use Rattle.log_writer.specs.ForcedLog.{IsWriterReady}
 use Rattle.restart_data.specs.declared.restart.RestartSector.{RestartSector}
 use Rattle.seg_store.specs.ChangedSlots.{AllStores}
-use Rattle.model_image.specs.Areas.{snapshot_area, snapshot_first, log_first, data_first}
+use Rattle.model_system.specs.Areas.{snapshot_area, snapshot_first, log_first, data_first}
 use Rattle.disk_law.specs.CommittedBytes.{Touches}
 use Rattle.checkpointing.specs.CheckpointParts.{CheckpointParts, other_area}
 use Rattle.disk_law.specs.Life.{LifeOnDisk, IsLifeOnDisk}

@@ -20,7 +20,7 @@ pub use Rattle.disk_law.specs.Life
 pub use Rattle.disk_law.specs.LifeCheckpoint
 pub use Rattle.disk_law.specs.LifeSteps
 pub use Rattle.log_writer.specs.ForcedLog
-pub use Rattle.model_image.specs.Areas
+pub use Rattle.model_system.specs.Areas
 pub use Rattle.restart_data.specs.Restart
 pub use Rattle.restart_data.specs.Snapshot
 pub use Rattle.seg_store.specs.WrittenSlots

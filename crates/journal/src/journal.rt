@@ -3,8 +3,8 @@ ghost use Rattle.std.specs.Prelude.{◌≡◌, ℕ, List, map, ◌+◌, ◌*◌,
 ghost use Rattle.tm_disk.specs.Disk.{Stays, Within, Follows, Only, WritesAtMost, FailedSince};
 ghost use Rattle.restart_data.specs.Restart.{IsRestart};
 ghost use Rattle.restart_data.specs.Snapshot as sectors;
-ghost use Rattle.model_image.specs.Areas.{data_first};
-ghost use Rattle.seg_store.specs.WrittenSlots.{changed_count};
+ghost use Rattle.model_system.specs.Areas.{data_first};
+ghost use Rattle.seg_store.specs.WrittenSlots.{changed_sectors};
 ghost use Rattle.checkpointing.specs.CheckpointParts.{checkpoint_parts_of, sequence_behind, next_restart, next_writer, AreAreasFree, IsOver};
 ghost use Rattle.checkpointing.specs.DirtySlots.{AreStoresOf};
 ghost use Rattle.checkpointing.specs.Checkpoint.{KeepsRecovery, IsCheckpointed};
@@ -180,7 +180,7 @@ impl Journal {
         ensures ready { OnOk result (IsWriterReady self.new.log (D.state disk.new)) }
         ensures synced { OnOk result (Only (D.state disk.new).shown (D.state disk.new)) }
 
-        ensures writes { WritesAtMost (log_sectors_of (length self.old.log.appended) + changed_count stores.now.changed + sectors.snapshot_sectors_of (length snapshot.entry.now) + 1) (D.state disk.old) (D.state disk.new) }
+        ensures writes { WritesAtMost (log_sectors_of (length self.old.log.appended) + changed_sectors stores.now.stores stores.now.changed + sectors.snapshot_sectors_of (length snapshot.entry.now) + 1) (D.state disk.old) (D.state disk.new) }
         ensures no_fault { OnOk result ((D.state disk.new).faults ≡ (D.state disk.old).faults) }
         ensures cause { OnErr result (FailedSince (D.state disk.old) (D.state disk.new)) }
     {
@@ -230,7 +230,7 @@ impl Journal {
         ensures ready { OnOk result (IsWriterReady self.new.log (D.state disk.new)) }
         ensures synced { OnOk result (Only (D.state disk.new).shown (D.state disk.new)) }
 
-        ensures writes { WritesAtMost (log_sectors_of (length self.old.log.appended) + changed_count stores.now.changed + sectors.snapshot_sectors_of (length parts.entry.now.snapshot.now) + 1) (D.state disk.old) (D.state disk.new) }
+        ensures writes { WritesAtMost (log_sectors_of (length self.old.log.appended) + changed_sectors stores.now.stores stores.now.changed + sectors.snapshot_sectors_of (length parts.entry.now.snapshot.now) + 1) (D.state disk.old) (D.state disk.new) }
         ensures no_fault { OnOk result ((D.state disk.new).faults ≡ (D.state disk.old).faults) }
         ensures cause { OnErr result (FailedSince (D.state disk.old) (D.state disk.new)) }
     {

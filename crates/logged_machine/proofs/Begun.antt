@@ -5,7 +5,7 @@ use Rattle.tm_disk.specs.Disk.{DiskState, Image}
 use Rattle.model_system.specs.System.{System}
 use Rattle.model_machine.specs.Machine.{LastingState, start_of}
 use Rattle.model_image.specs.HeldStores.{HoldsStores}
-use Rattle.openings.specs.FirstImage.{sectors_needed}
+use Rattle.model_system.specs.Areas.{sectors_needed}
 use Rattle.log_writer.specs.ForcedLog.{IsWriterReady}
 use Rattle.log_writer.specs.Writer.{Writer}
 use Rattle.restart_data.specs.declared.restart.RestartSector.{RestartSector}

@@ -32,7 +32,6 @@ use Rattle.logged_machine.specs.ToldCheckpoint.{HasBehindDue, Checkpointed, Coun
 pub has_settled : (parts : PartsState) → HasSlots parts → HasSlots (settled_parts parts)
 has_settled parts has = record {
   have = have_written parts.system.databases (length parts.system.regions) (slots_now parts) has.have;
-  one_sector = has.one_sector;
   held = has.held;
   compatible = has.compatible;
   table_is = has.table_is;
@@ -71,10 +70,10 @@ module _ (begun told : JournalState) (records : List Record) (count : ℕ) (empt
 
 -- so much is written with the system and the stores that the parts had
 pub written : (parts : PartsState) (journal : JournalState) (old new : DiskState) {system : System} → system ≡ parts.system → {stores : AllStores} → stores ≡ slots_stores (slots_now parts)
-    → WritesAtMost (checkpoint_sectors system stores.changed journal) old new → WritesAtMost (checkpoint_sectors parts.system parts.databases.changed journal) old new
+    → WritesAtMost (checkpoint_sectors system stores.stores stores.changed journal) old new → WritesAtMost (checkpoint_sectors parts.system parts.databases.stores parts.databases.changed journal) old new
 written parts journal old new {system = system} same {stores = stores} are writes =
-    subst (λ (a : AllStores). WritesAtMost (checkpoint_sectors parts.system a.changed journal) old new) are
-    (subst (λ (y : System). WritesAtMost (checkpoint_sectors y stores.changed journal) old new) same writes)
+    subst (λ (a : AllStores). WritesAtMost (checkpoint_sectors parts.system a.stores a.changed journal) old new) are
+    (subst (λ (y : System). WritesAtMost (checkpoint_sectors y stores.stores stores.changed journal) old new) same writes)
 
 -- With the system and the stores that the parts had, and the bytes of their snapshot.
 module _ {D : Type 0} (state : D → DiskState) {parts : PartsState} {units : List ℕ} {next : ℕ} {journal : JournalState} {disk : D} (logged : (text : List ℕ) × IsLogged parts units next journal text (state disk))

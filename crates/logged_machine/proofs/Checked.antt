@@ -15,7 +15,8 @@ use Rattle.log_writer.specs.Writer.{Writer}
 use Rattle.log_writer.proofs.Gaining.{chain-ended}
 use Rattle.restart_data.specs.declared.restart.RestartSector.{RestartSector}
 use Rattle.restart_data.specs.Restart.{restart_in}
-use Rattle.model_image.specs.Areas.{is_single, snapshot_area, log_first}
+use Rattle.model_system.specs.Areas.{is_single, snapshot_area, log_first}
+use Rattle.seg_store.specs.Slots.{Stored}
 use Rattle.disk_law.specs.JournalState.{JournalState}
 use Rattle.tm_machine.specs.Answers.{IsAnswered}
 use Rattle.tm_machine.specs.Parts.{PartsState}
@@ -101,18 +102,18 @@ pub leaves_settled : {D : Type 0} (state : D → DiskState) (old new : LoggedSta
 leaves_settled state old new r = record { databases = ap (λ (p : PartsState). p.databases) r.machine; units = r.units; next_unit = r.unit }
 
 -- nothing was written
-pub most_same : (system : System) (changed : List (List ℕ)) (journal : JournalState) (disk : DiskState) → WritesCheckpoint system changed journal disk disk
-most_same system changed journal disk = under disk.writes (checkpoint_sectors system changed journal)
+pub most_same : (system : System) (stores : List Stored) (changed : List (List ℕ)) (journal : JournalState) (disk : DiskState) → WritesCheckpoint system stores changed journal disk disk
+most_same system stores changed journal disk = under disk.writes (checkpoint_sectors system stores changed journal)
   where
     under : (n m : ℕ) → n ≤ n + m
     under n m = omega arith
 
 -- how much one writes that was not taken
 pub untaken_most : {D : Type 0} (state : D → DiskState) (old new : LoggedState D) (fault : ControlFault) → Unrefreshed state old new fault
-    → WritesCheckpoint old.machine.system old.machine.databases.changed old.journal (state old.disk) (state new.disk)
+    → WritesCheckpoint old.machine.system old.machine.databases.stores old.machine.databases.changed old.journal (state old.disk) (state new.disk)
 untaken_most state old new Memory same =
-    subst (λ (l : LoggedState _). WritesCheckpoint old.machine.system old.machine.databases.changed old.journal (state old.disk) (state l.disk)) (sym same)
-    (most_same old.machine.system old.machine.databases.changed old.journal (state old.disk))
+    subst (λ (l : LoggedState _). WritesCheckpoint old.machine.system old.machine.databases.stores old.machine.databases.changed old.journal (state old.disk) (state l.disk)) (sym same)
+    (most_same old.machine.system old.machine.databases.stores old.machine.databases.changed old.journal (state old.disk))
 untaken_most state old new Disk u = u.most
 untaken_most state old new (Spent counter) u = absurd u
 

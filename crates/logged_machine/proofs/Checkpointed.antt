@@ -35,7 +35,7 @@ module _ {D : Type 0} (state : D → DiskState) (parts parts' : PartsState) (tex
     (h : IsLogged parts units next journal text (state disk)) (system : parts'.system ≡ parts.system) (moment : parts'.moment ≡ parts.moment) (stays : Stays (state disk) (state disk'))
     (any : Within (KeepsRecovery parts.system) (state disk) (state disk')) (texts : Within (KeepsText parts.system) (state disk) (state disk'))
     (counts : (high : ℕ) → StandsUpTo high journal next → Within (λ before after. CountsUpTo parts.system (high + parts.system.logs) after) (state disk) (state disk'))
-    (most : WritesAtMost (checkpoint_sectors parts.system parts.databases.changed journal) (state disk) (state disk')) where
+    (most : WritesAtMost (checkpoint_sectors parts.system parts.databases.stores parts.databases.changed journal) (state disk) (state disk')) where
   abbrev pub was : LoggedState D
   was = record { machine = parts; text = text; served = up; journal = journal; units = units; next_unit = next; disk = disk }
 
@@ -221,7 +221,7 @@ module _ {D : Type 0} (state : D → DiskState) (parts parts' : PartsState) (tex
     (h : IsLogged parts units next journal text (state disk)) (system : parts'.system ≡ parts.system) (moment : parts'.moment ≡ parts.moment) (stays : Stays (state disk) (state disk'))
     (any : Within (KeepsRecovery parts.system) (state disk) (state disk')) (texts : Within (KeepsText parts.system) (state disk) (state disk'))
     (counts : (high : ℕ) → StandsUpTo high journal next → Within (λ before after. CountsUpTo parts.system (high + parts.system.logs) after) (state disk) (state disk'))
-    (most : WritesAtMost (checkpoint_sectors parts.system parts.databases.changed journal) (state disk) (state disk')) where
+    (most : WritesAtMost (checkpoint_sectors parts.system parts.databases.stores parts.databases.changed journal) (state disk) (state disk')) where
   pub unrefreshed_by : (fault : ControlFault) → Untaken state parts parts' journal journal' disk disk' fault → up ≡ true
       → Unrefreshed state (was state parts parts' text journal journal' units next disk disk' up h system moment stays any texts counts most)
       (is state parts parts' text journal journal' units next disk disk' up h system moment stays any texts counts most (is_memory fault)) fault

@@ -29,7 +29,7 @@ pub record IsBehind {D : Type 0} (state : D → DiskState) (parts parts' : Parts
   pub counted : AreCountsInRange 0 parts.moment.lasting next journal
   pub keeps : KeepsOnDisk parts.system (state disk) (state disk')
   pub counts : CountsWithin parts.system journal next (state disk) (state disk')
-  pub most : WritesAtMost (checkpoint_sectors parts.system parts.databases.changed journal) (state disk) (state disk')
+  pub most : WritesAtMost (checkpoint_sectors parts.system parts.databases.stores parts.databases.changed journal) (state disk) (state disk')
   pub records : List Record
   pub behind : HasBehindDue state parts units next records journal told disk disk'
   pub attempt : Attempt state (settled_parts parts) parts' text behind.middle told units units' next next' disk' entry has_step
@@ -38,7 +38,7 @@ pub record IsBehind {D : Type 0} (state : D → DiskState) (parts parts' : Parts
 
 module _ {D : Type 0} (state : D → DiskState) {parts parts' : PartsState} {text : List ℕ} {journal told : JournalState} {units given : List ℕ} {next : ℕ} {disk disk' : D} {up : Bool}
     (served : up ≡ true) (h : IsLogged parts units next journal text (state disk)) (counted : AreCountsInRange 0 parts.moment.lasting next journal) (keeps : KeepsOnDisk parts.system (state disk) (state disk'))
-    (counts : CountsWithin parts.system journal next (state disk) (state disk')) (most : WritesAtMost (checkpoint_sectors parts.system parts.databases.changed journal) (state disk) (state disk'))
+    (counts : CountsWithin parts.system journal next (state disk) (state disk')) (most : WritesAtMost (checkpoint_sectors parts.system parts.databases.stores parts.databases.changed journal) (state disk) (state disk'))
     (same : given ≡ units) (before : HasSlots (settled_parts parts)) (slots : HasSlots parts') where
   pub behind_call : {call : ControlCall} (entry : Entry) (units' : List ℕ) (next' : ℕ) → call_of entry ≡ call → may_last call ≡ true → IsCallWithin call → HasBehindDue state parts given next (own_records (settled_parts parts) given call) journal told disk disk'
       → DoesCall given entry (settled_parts parts) parts' → NumbersBy entry units units' next next' → IsBehind state parts parts' text journal told units units' next next' disk disk' up entry (lasts_by entry)

@@ -31,7 +31,7 @@ behind_of state parts units given next records old new disk disk' same b = subst
 
 module _ {D : Type 0} (state : D → DiskState) (parts : PartsState) (text : List ℕ) (journal told : JournalState) (units : List ℕ) (next : ℕ) (disk disk' : D) (up : Bool)
     (h : IsLogged parts units next journal text (state disk)) (served : up ≡ true) (counted : AreCountsInRange 0 parts.moment.lasting next journal) (keeps : KeepsOnDisk parts.system (state disk) (state disk'))
-    (counts : CountsWithin parts.system journal next (state disk) (state disk')) (most : WritesAtMost (checkpoint_sectors parts.system parts.databases.changed journal) (state disk) (state disk'))
+    (counts : CountsWithin parts.system journal next (state disk) (state disk')) (most : WritesAtMost (checkpoint_sectors parts.system parts.databases.stores parts.databases.changed journal) (state disk) (state disk'))
     (records : List Record) (b : HasBehindDue state parts units next records journal told disk disk') where
   abbrev old : LoggedState D
   old = record { machine = parts; text = text; served = up; journal = journal; units = units; next_unit = next; disk = disk }
@@ -59,7 +59,7 @@ module _ {D : Type 0} (state : D → DiskState) (parts : PartsState) (text : Lis
 
 module _ {D : Type 0} (state : D → DiskState) (parts parts' : PartsState) (text : List ℕ) (journal journal' : JournalState) (units : List ℕ) (next : ℕ) (disk disk' : D) (up : Bool)
     (h : IsLogged parts units next journal text (state disk)) (served : up ≡ true) (keeps : KeepsOnDisk parts.system (state disk) (state disk'))
-    (counts : CountsWithin parts.system journal next (state disk) (state disk')) (most : WritesAtMost (checkpoint_sectors parts.system parts.databases.changed journal) (state disk) (state disk'))
+    (counts : CountsWithin parts.system journal next (state disk) (state disk')) (most : WritesAtMost (checkpoint_sectors parts.system parts.databases.stores parts.databases.changed journal) (state disk) (state disk'))
     (system : parts'.system ≡ parts.system) where
   abbrev before : LoggedState D
   before = record { machine = parts; text = text; served = up; journal = journal; units = units; next_unit = next; disk = disk }

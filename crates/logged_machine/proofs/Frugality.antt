@@ -165,7 +165,7 @@ module _ {D : Type 0} (state : D → DiskState) where
 
   behind : (old mid new : LoggedState D) (entry : Entry) (fault : Option ControlFault) → Refreshed state old mid → Tried state fault mid new entry
       → WritesBehindDueCheckpoint state fault (has_lasting_step old.machine (call_of entry)) (own_bytes old.machine old.units (call_of entry)) old.machine.system
-      (checkpoint_sectors old.machine.system old.machine.databases.changed old.journal) old.journal new.journal old.disk new.disk
+      (checkpoint_sectors old.machine.system old.machine.databases.stores old.machine.databases.changed old.journal) old.journal new.journal old.disk new.disk
   behind old mid new entry fault fresh t = record { middle = mid.journal; mid = mid.disk; takes = fresh.takes; most = fresh.most; writes = own_writes old mid new entry fault fresh t.writes }
 
   due_behind : (old mid new : LoggedState D) (entry : Entry) (fault : Option ControlFault) → IsNoMemory fault → Refreshed state old mid → Tried state fault mid new entry → WritesAsDue state fault old new entry

@@ -3,7 +3,7 @@ use Rattle.std.proofs.Common.{◌≡◌, ℕ, ◌<◌, ◌≤◌, List, Err, ref
 use Rattle.tm_disk.specs.Disk.{DiskState, Stays, Within}
 use Rattle.tm_disk.proofs.Words.{keeps_same, stays_same, within_same}
 use Rattle.model_system.specs.System.{System}
-use Rattle.openings.specs.FirstImage.{sectors_needed}
+use Rattle.model_system.specs.Areas.{sectors_needed}
 use Rattle.openings.specs.declared.refusals.OpenError.{OpenError}
 use Rattle.openings.specs.declared.refusals.OpenError.TheVariants.{TooSmall, Memory}
 use Rattle.openings.specs.OpenedImage.{OpeningCause, WroteNothing}

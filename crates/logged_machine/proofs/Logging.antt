@@ -7,7 +7,7 @@ use Rattle.model_machine.specs.Machine.{LastingState, Moment}
 use Rattle.log_writer.specs.Writer.{Writer}
 use Rattle.log_writer.specs.ForcedLog.{IsWriterReady, AddsFront}
 use Rattle.restart_data.specs.declared.restart.RestartSector.{RestartSector}
-use Rattle.model_image.specs.Areas.{is_single, data_first, snapshot_area}
+use Rattle.model_system.specs.Areas.{is_single, data_first, snapshot_area}
 use Rattle.model_image.specs.RecoveredState.{Recovers}
 use Rattle.model_image.specs.Text.{text_in}
 use Rattle.model_image.proofs.Places.{log_below, slot_above}
@@ -75,7 +75,7 @@ module _ (parts : PartsState) (units : List ℕ) (next_unit : ℕ) (journal : Jo
       let w = h.carried.is.is_life.writer in
       let areas : data_first h.life.system (length h.life.system.databases) ≤ disk.size =
       subst (λ (s : System). data_first s (length s.databases) ≤ disk.size) (sym h.carried.is.of_system) h.areas in
-      omega (arith, w.first, w.count, areas, log_below h.life.system h.life.now.log h.carried.is.is_life.in_range.log, slot_above h.life.system (length h.life.system.databases) 0)
+      omega (arith, w.first, w.count, areas, log_below h.life.system h.life.now.log h.carried.is.is_life.in_range.log, slot_above h.life.system (length h.life.system.databases) 0 0)
 
   -- the log's area is on the disk
   pub area : journal.log.first + journal.log.count ≤ disk.size

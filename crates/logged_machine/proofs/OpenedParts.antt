@@ -62,14 +62,14 @@ module _ (parts : PartsState) (text : List ℕ) (now : RestartSector) (state : L
   pub may_open_parts : MayOpenLife parts.system now stores state (snapshot_records now.checkpoint next state [])
   may_open_parts =
       subst (λ (l : List Stored). MayOpenLife parts.system now l state (snapshot_records now.checkpoint next state [])) stores_are
-      (may_open parts.system has.defined (length parts.system.regions) text now state (slots_now parts) next in_range unbroken names counted has.have has.one_sector rows_so clean unmarked some)
+      (may_open parts.system has.defined (length parts.system.regions) text now state (slots_now parts) next in_range unbroken names counted has.have rows_so clean unmarked some)
 
   -- It goes with the parts.
   pub opened : IsCarried parts (no_units (length parts.system.regions)) next (opened_life parts.system text now stores state)
   opened =
       subst (λ (m : Moment). IsCarriedBy parts.system m (slots_now parts) (no_units (length parts.system.regions)) next (opened_life parts.system text now stores state)) (sym starts)
       (subst (λ (l : List Stored). IsCarriedBy parts.system (start_of parts.system state) (slots_now parts) (no_units (length parts.system.regions)) next (opened_life parts.system text now l state)) stores_are
-      (opening_carried parts.system has.defined (length parts.system.regions) text now state (slots_now parts) next in_range unbroken names counted has.have has.one_sector rows_so clean unmarked some))
+      (opening_carried parts.system has.defined (length parts.system.regions) text now state (slots_now parts) next in_range unbroken names counted has.have rows_so clean unmarked some))
 
 -- ---- what an opening gives
 

@@ -4,7 +4,7 @@ use Rattle.log_writer.specs.Writer.{Writer}
 use Rattle.restart_data.specs.Restart.{IsCounter}
 use Rattle.tm_disk.specs.Disk.{DiskState, IsToldToStop}
 use Rattle.disk_law.specs.JournalState.{JournalState}
-use Rattle.model_image.specs.Areas.{data_first}
+use Rattle.model_system.specs.Areas.{data_first}
 use Rattle.std.specs.Prelude.{length}
 use Rattle.tm_machine.specs.Parts.{PartsState}
 use Rattle.logged_machine.specs.LoggedParts.{IsLogged}

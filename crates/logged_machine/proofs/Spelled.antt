@@ -10,14 +10,14 @@ use Rattle.journal.specs.NumberedUnits.{insert_unit, numbered_unit, units_open}
 use Rattle.checkpointing.specs.declared.touches.OpenUnit.{OpenUnit}
 use Rattle.checkpointing.specs.SnapshotRecords.{snapshot_records}
 use Rattle.checkpointing.specs.SpelledRecords.{AddsSpelled, IsWritable}
-use Rattle.checkpointing.specs.Touches.{AreAllSpelled, HasOneSector, changes_of_units}
+use Rattle.checkpointing.specs.Touches.{AreAllSpelled, HasFewSectors, changes_of_units}
 use Rattle.program_rows.specs.SlotsState.{touched_in}
 use Rattle.tm_machine.specs.SlotChanges.{HasSlots, slots_now}
 use Rattle.tm_machine.specs.Parts.{PartsState}
 use Rattle.journal.specs.OpenUnits.{AreUnitsOf}
 use Rattle.journal.proofs.Listed.{few_listed, units_listed}
 use Rattle.logged_machine.specs.CarriedParts.{IsCarried}
-use Rattle.logged_machine.proofs.Storing.{all_spelled, one_sector}
+use Rattle.logged_machine.proofs.Storing.{all_spelled, few_sectors}
 use Rattle.logged_machine.proofs.WritableParts.{writable}
 use Rattle.logged_machine.specs.UntakenCheckpoint.{IsSnapshot}
 
@@ -81,13 +81,13 @@ module _ (parts : PartsState) (units : List ℕ) (next : ℕ) (has : HasSlots pa
   pub record MaySpell : Type 0 where
     pub writable_is : IsWritable (record parts.moment.lasting { rows = [] })
     pub spelled : AreAllSpelled (slots_now parts).stores opens
-    pub one : AllByRecursion HasOneSector (slots_now parts).stores
+    pub few_each : AllByRecursion HasFewSectors (slots_now parts).stores
 
   pub may_spell : MaySpell
   may_spell = record {
     writable_is = writable parts units next carried.0 carried.1 has;
     spelled = all_spelled parts units next carried.0 carried.1 has opens its;
-    one = one_sector parts units next carried.0 carried.1 has opens its;
+    few_each = few_sectors parts units next carried.0 carried.1 has opens its;
   }
 
   -- What is spelled is a snapshot.

@@ -12,7 +12,7 @@ use Rattle.unit_work.specs.Marks.{is_marked}
 use Rattle.checkpointing.specs.declared.touches.OpenUnit.{OpenUnit}
 use Rattle.checkpointing.specs.SnapshotRecords.{snapshot_records}
 use Rattle.checkpointing.specs.SpelledRecords.{AddsSpelled}
-use Rattle.checkpointing.specs.Touches.{AreAllSpelled, AreOpen, AreSlotsTouched, HasOneSector, IsSpelled, IsSlotTouched, changes_of_units}
+use Rattle.checkpointing.specs.Touches.{AreAllSpelled, AreOpen, AreSlotsTouched, HasFewSectors, IsSpelled, IsSlotTouched, changes_of_units}
 use Rattle.checkpointing.proofs.Judged.{AreCounts}
 use Rattle.disk_law.specs.Life.{LifeOnDisk}
 use Rattle.disk_law.specs.LifeCheckpoint.{MayCheckpoint, after_checkpoint}
@@ -58,61 +58,61 @@ below [] k store found = absurd cc
 below (s ∷ stores) zero store found = omega arith
 below (s ∷ stores) (suc k) store found = omega (arith, below stores k store found)
 
-one_at : (stores : List Stored) (k : ℕ) (store : Stored) → AllByRecursion HasOneSector stores → slice_get stores k ≡ Some store → store.dbd.sectors ≤ 1
-one_at [] k store each found = absurd cc
-one_at (s ∷ stores) zero store each found = let same : s ≡ store = cc in subst HasOneSector same each.0
-one_at (s ∷ stores) (suc k) store each found = one_at stores k store each.1 found
+few_at : (stores : List Stored) (k : ℕ) (store : Stored) → AllByRecursion HasFewSectors stores → slice_get stores k ≡ Some store → store.dbd.sectors ≤ 8
+few_at [] k store each found = absurd cc
+few_at (s ∷ stores) zero store each found = let same : s ≡ store = cc in subst HasFewSectors same each.0
+few_at (s ∷ stores) (suc k) store each found = few_at stores k store each.1 found
 
-short_record : (dbd : Dbd) (rows : List Row) → dbd.sectors ≤ 1 → IsSlot dbd rows → length (rows_spelling rows) ≤ 32000
-short_record dbd rows one is =
+short_record : (dbd : Dbd) (rows : List Row) → dbd.sectors ≤ 8 → IsSlot dbd rows → length (rows_spelling rows) ≤ 32000
+short_record dbd rows few is =
     ⊎_elim
     (λ (none : rows ≡ []). subst (λ (l : List Row). length (rows_spelling l) ≤ 32000) (sym none) (omega arith))
-    (λ valid. omega (arith, valid.within, one))
+    (λ valid. omega (arith, valid.within, few))
     is
 
-slot_spelled : (stores : List Stored) → AllByRecursion HasOneSector stores → (c : Change) → IsSlotTouched stores c → IsSpelled stores c
-slot_spelled stores one c t = record {
+slot_spelled : (stores : List Stored) → AllByRecursion HasFewSectors stores → (c : Change) → IsSlotTouched stores c → IsSpelled stores c
+slot_spelled stores few c t = record {
   least = t.least;
   most = omega (arith, below stores (c.db - 1) t.store t.found, t.least);
-  short = short_record t.store.dbd c.before (one_at stores (c.db - 1) t.store one t.found) t.before;
+  short = short_record t.store.dbd c.before (few_at stores (c.db - 1) t.store few t.found) t.before;
 }
 
-slots_spelled : (stores : List Stored) → AllByRecursion HasOneSector stores → (some : List Change) → AllByRecursion (IsSlotTouched stores) some → AllByRecursion (IsSpelled stores) some
-slots_spelled stores one [] all = tt
-slots_spelled stores one (c ∷ some) all = (slot_spelled stores one c all.0, slots_spelled stores one some all.1)
+slots_spelled : (stores : List Stored) → AllByRecursion HasFewSectors stores → (some : List Change) → AllByRecursion (IsSlotTouched stores) some → AllByRecursion (IsSpelled stores) some
+slots_spelled stores few [] all = tt
+slots_spelled stores few (c ∷ some) all = (slot_spelled stores few c all.0, slots_spelled stores few some all.1)
 
-units_spelled : (stores : List Stored) → AllByRecursion HasOneSector stores → (opens : List OpenUnit) → AllByRecursion (λ u. AreSlotsTouched stores u.work.now.slots) opens → AreAllSpelled stores opens
-units_spelled stores one [] all = tt
-units_spelled stores one (u ∷ opens) all = (record { each = slots_spelled stores one u.work.now.slots all.0.each; few = all.0.few }, units_spelled stores one opens all.1)
+units_spelled : (stores : List Stored) → AllByRecursion HasFewSectors stores → (opens : List OpenUnit) → AllByRecursion (λ u. AreSlotsTouched stores u.work.now.slots) opens → AreAllSpelled stores opens
+units_spelled stores few [] all = tt
+units_spelled stores few (u ∷ opens) all = (record { each = slots_spelled stores few u.work.now.slots all.0.each; few = all.0.few }, units_spelled stores few opens all.1)
 
 module _ (parts : PartsState) (units : List ℕ) (next : ℕ) (life : LifeOnDisk) (c : IsCarried parts units next life) (has : HasSlots parts) (opens : List OpenUnit) (o : AreUnitsOf (slots_now parts) units opens) where
   abbrev regions : ℕ
   regions = length parts.system.regions
 
-  -- Records have one sector.
-  pub one_sector : AllByRecursion HasOneSector (slots_now parts).stores
-  one_sector = Rattle.journal.proofs.Stores.stores_one parts.system regions (slots_now parts) has.have has.one_sector
+  -- Records have at most eight sectors.
+  pub few_sectors : AllByRecursion HasFewSectors (slots_now parts).stores
+  few_sectors = Rattle.message_run.proofs.NextTold.few_sectors parts.system (slots_now parts).stores has.defined has.have.stores
 
   open_units : AreOpen (slots_now parts).stores opens
-  open_units = checkpoints.are_open parts.system has.defined regions parts.moment (slots_now parts) units next life c has.have has.one_sector (hold_touched parts has) opens o
+  open_units = checkpoints.are_open parts.system has.defined regions parts.moment (slots_now parts) units next life c has.have (hold_touched parts has) opens o
 
   -- What the units touched can be spelled.
   pub all_spelled : AreAllSpelled (slots_now parts).stores opens
-  all_spelled = units_spelled (slots_now parts).stores one_sector opens open_units.each
+  all_spelled = units_spelled (slots_now parts).stores few_sectors opens open_units.each
 
   module _ (few : length opens ≤ length parts.system.regions) (counts : AreCounts (life.now.checkpoint + 1) next) (bytes : List ℕ)
       (adds : AddsSpelled (snapshot_records (life.now.checkpoint + 1) next parts.moment.lasting (changes_of_units (slots_now parts).stores opens)) [] bytes)
       (sequence : life.log.sequence + life.log.place + log_sectors_of (length life.log.appended) < 2000000000000000000) where
     -- The checkpoint may be taken.
     pub may_store : MayCheckpoint bytes (slots_stores (slots_now parts))
-        (checkpoints.kept_now parts.system has.defined regions parts.moment (slots_now parts) units next life c has.have has.one_sector (hold_touched parts has) opens o)
+        (checkpoints.kept_now parts.system has.defined regions parts.moment (slots_now parts) units next life c has.have (hold_touched parts has) opens o)
         (snapshot_records (life.now.checkpoint + 1) next parts.moment.lasting (changes_of_units (slots_now parts).stores opens)) life
     may_store =
-        checkpoints.may_checkpoint parts.system has.defined regions parts.moment (slots_now parts) units next life c has.have has.one_sector (hold_touched parts has) opens o counts few bytes adds sequence
+        checkpoints.may_checkpoint parts.system has.defined regions parts.moment (slots_now parts) units next life c has.have (hold_touched parts has) opens o counts few bytes adds sequence
 
     -- Once it is taken, and no slot counts as changed any more, the life goes with the parts.
     pub stored : IsCarried (record parts { databases = with_all_settled parts.databases }) units next
-        (after_checkpoint bytes (checkpoints.kept_now parts.system has.defined regions parts.moment (slots_now parts) units next life c has.have has.one_sector (hold_touched parts has) opens o) life)
+        (after_checkpoint bytes (checkpoints.kept_now parts.system has.defined regions parts.moment (slots_now parts) units next life c has.have (hold_touched parts has) opens o) life)
     stored =
-        checkpoints.checkpoint_carried parts.system has.defined regions parts.moment (slots_now parts) units next life c has.have has.one_sector (hold_touched parts has) opens o counts few bytes adds sequence
+        checkpoints.checkpoint_carried parts.system has.defined regions parts.moment (slots_now parts) units next life c has.have (hold_touched parts has) opens o counts few bytes adds sequence
         (have_written parts.system.databases regions (slots_now parts) has.have)

@@ -3,7 +3,7 @@ use Rattle.std.proofs.Common.{◌≡◌, ℕ, ◌+◌, ◌-◌, ◌<◌, ◌≤�
 use Rattle.std.proofs.lemmas.Bool.{ne_eqb}
 use Rattle.tm_disk.specs.Disk.{Image, DiskState, Follows, Within, WritesAtMost}
 use Rattle.tm_disk.proofs.Words.{within_where}
-use Rattle.model_image.specs.Areas.{data_first, snapshot_area}
+use Rattle.model_system.specs.Areas.{data_first, snapshot_area}
 use Rattle.model_system.specs.System.{System}
 use Rattle.log_records.specs.declared.record.Record.{Record}
 use Rattle.log_writer.specs.ForcedLog.{IsWriterReady, log_sectors_of}
@@ -11,7 +11,7 @@ use Rattle.log_writer.specs.Writer.{Writer}
 use Rattle.restart_data.specs.declared.restart.RestartSector.{RestartSector}
 use Rattle.restart_data.specs.Snapshot as snapshot
 use Rattle.seg_store.specs.ChangedSlots.{AllStores}
-use Rattle.seg_store.specs.WrittenSlots.{changed_count}
+use Rattle.seg_store.specs.WrittenSlots.{changed_sectors}
 use Rattle.disk_law.specs.CommittedBytes.{Touches}
 use Rattle.checkpointing.specs.CheckpointParts.{CheckpointParts, next_restart, next_writer}
 use Rattle.checkpointing.specs.Checkpoint.{IsCheckpointed}
@@ -66,7 +66,7 @@ module _ (parts : PartsState) (units : List ℕ) (next : ℕ) (journal : Journal
   -- what the units keep
   abbrev touches : Touches
   touches =
-      checkpoints.kept_now parts.system has.defined (length parts.system.regions) parts.moment (slots_now parts) units next h.life h.carried has.have has.one_sector (hold_touched parts has) s.opens s.are
+      checkpoints.kept_now parts.system has.defined (length parts.system.regions) parts.moment (slots_now parts) units next h.life h.carried has.have (hold_touched parts has) s.opens s.are
 
   abbrev told : List Record
   told = snapshot_records (h.life.now.checkpoint + 1) next parts.moment.lasting (changes_of_units (slots_now parts).stores s.opens)
@@ -204,10 +204,10 @@ goes_on parts units next journal text disk h has c bytes s system same stores ar
 
 -- A snapshot takes no more sectors than its area has.
 pub most : (system : System) (journal : JournalState) (stores : AllStores) (bytes : List ℕ) (old new : DiskState) → CanCheckpoint system journal stores bytes old
-    → WritesAtMost (log_sectors_of (length journal.log.appended) + changed_count stores.changed + snapshot.snapshot_sectors_of (length bytes) + 1) old new
-    → WritesAtMost (checkpoint_sectors system stores.changed journal) old new
+    → WritesAtMost (log_sectors_of (length journal.log.appended) + changed_sectors stores.stores stores.changed + snapshot.snapshot_sectors_of (length bytes) + 1) old new
+    → WritesAtMost (checkpoint_sectors system stores.stores stores.changed journal) old new
 most system journal stores bytes old new can writes =
-    within new.writes old.writes (log_sectors_of (length journal.log.appended)) (changed_count stores.changed) (snapshot.snapshot_sectors_of (length bytes)) (snapshot_area system) writes
+    within new.writes old.writes (log_sectors_of (length journal.log.appended)) (changed_sectors stores.stores stores.changed) (snapshot.snapshot_sectors_of (length bytes)) (snapshot_area system) writes
     (subst (λ (y : System). snapshot.snapshot_sectors_of (length bytes) ≤ snapshot_area y) can.is.of_system can.is.may.fits)
   where
     within : (w o a c s t : ℕ) → w ≤ o + (a + c + s + 1) → s ≤ t → w ≤ o + (a + c + t + 1)

@@ -85,7 +85,7 @@ module _ (old new : PartsState) (units : List ℕ) (next : ℕ) (life : LifeOnDi
       (units_after turned region next units) (next_after turned next) life
   turn_of_parts =
       subst (λ (m : Moment). GoesBy (lasting_step old.system old.moment (Turn region)) (flat_map record_spelling (turn_records old (unit_of_region units region) region)) old.system m (slots_now new) (units_after turned region next units) (next_after turned next) life) (sym answered.after)
-      (turn_goes old.system has.defined (length old.system.regions) old.moment (slots_now old) (slots_now new) units next life c unspent has.have (have_slots old new had answered.system) has.one_sector
+      (turn_goes old.system has.defined (length old.system.regions) old.moment (slots_now old) (slots_now new) units next life c unspent has.have (have_slots old new had answered.system)
       (hold_touched old has) region answered.may.call.0 answered.may.call.1 victims answered.may.victims
       (right_pads old new after had answered.system answered.after)
       (subst (λ (m : Moment). Rattle.journal.specs.CarriedLife.HoldTouched m.enqueues (slots_now new)) answered.after (hold_touched new had)) right_rows

@@ -71,7 +71,7 @@ pub record Tried {D : Type 0} (state : D → DiskState) (fault : Option ControlF
 abbrev pub WritesAsDue : {D : Type 0} → (D → DiskState) → Option ControlFault → LoggedState D → LoggedState D → Entry → Type 0
 WritesAsDue state fault old new entry =
     WritesDueCheckpoint state fault (has_lasting_step old.machine (call_of entry)) (own_bytes old.machine old.units (call_of entry)) old.machine.system
-    (checkpoint_sectors old.machine.system old.machine.databases.changed old.journal) old.journal new.journal old.disk new.disk
+    (checkpoint_sectors old.machine.system old.machine.databases.stores old.machine.databases.changed old.journal) old.journal new.journal old.disk new.disk
 
 -- A call, behind a checkpoint that was due.
 pub record Done {D : Type 0} (state : D → DiskState) (fault : Option ControlFault) (old new : LoggedState D) (entry : Entry) : Type 0 where
@@ -94,7 +94,7 @@ pub record Refreshed {D : Type 0} (state : D → DiskState) (old new : LoggedSta
   pub machine : new.machine ≡ settled_parts old.machine
   pub units : new.units ≡ old.units
   pub takes : TakesNext old.machine.system old.journal new.journal
-  pub most : WritesAtMost (checkpoint_sectors old.machine.system old.machine.databases.changed old.journal) (state old.disk) (state new.disk)
+  pub most : WritesAtMost (checkpoint_sectors old.machine.system old.machine.databases.stores old.machine.databases.changed old.journal) (state old.disk) (state new.disk)
   pub leaves : AttemptLeaves state old new old.machine.moment.lasting
   pub keeps : KeepsMachine state old new
   pub number : new.journal.restart.checkpoint ≡ old.journal.restart.checkpoint + 1
@@ -113,7 +113,7 @@ pub record FailsIn {D : Type 0} (state : D → DiskState) (old new : LoggedState
   pub leaves : AttemptLeaves state old new old.machine.moment.lasting
   pub keeps : KeepsMachine state old new
   pub counts : LeavesCounts state old.machine.system.logs old new
-  pub most : WritesAtMost (checkpoint_sectors old.machine.system old.machine.databases.changed old.journal) (state old.disk) (state new.disk)
+  pub most : WritesAtMost (checkpoint_sectors old.machine.system old.machine.databases.stores old.machine.databases.changed old.journal) (state old.disk) (state new.disk)
 
 -- None was taken: there was no memory, and nothing happened; or the disk failed.
 abbrev pub Unrefreshed : {D : Type 0} → (D → DiskState) → LoggedState D → LoggedState D → ControlFault → Type 0

@@ -88,7 +88,7 @@ pub record TakesCheckpointWhereDue {D : Type 0} (state : D → DiskState) (fault
   pub spares : NoCheckpointIsDue old.log (own_bytes parts units call) → WritesBy state fault (has_lasting_step parts call) (own_bytes parts units call) old new disk disk'
   pub due :
       (NoCheckpointIsDue old.log (own_bytes parts units call) → ⊥)
-      → WritesDueCheckpoint state fault (has_lasting_step parts call) (own_bytes parts units call) parts.system (checkpoint_sectors parts.system parts.databases.changed old) old new disk disk'
+      → WritesDueCheckpoint state fault (has_lasting_step parts call) (own_bytes parts units call) parts.system (checkpoint_sectors parts.system parts.databases.stores parts.databases.changed old) old new disk disk'
 
 -- ---- what it counts on
 

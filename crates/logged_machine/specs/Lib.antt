@@ -30,8 +30,8 @@ pub use Rattle.model_machine.specs.CommandAnswers
 pub use Rattle.model_machine.specs.History
 pub use Rattle.model_machine.specs.Machine
 pub use Rattle.model_machine.specs.MachineCalls
+pub use Rattle.model_system.specs.Areas
 pub use Rattle.openings.specs.Faults
-pub use Rattle.openings.specs.FirstImage
 pub use Rattle.openings.specs.LifeBeginning
 pub use Rattle.openings.specs.OpenedImage
 pub use Rattle.program_rows.specs.SlotsState

@@ -3,7 +3,7 @@ use Rattle.std.specs.Prelude.{◌≡◌, ℕ, ◌≤◌, List, length}
 use Rattle.tm_disk.specs.Disk.{DiskState}
 use Rattle.disk_law.specs.JournalState.{JournalState}
 use Rattle.log_writer.specs.ForcedLog.{IsWriterReady}
-use Rattle.model_image.specs.Areas.{data_first}
+use Rattle.model_system.specs.Areas.{data_first}
 use Rattle.disk_law.specs.UnitCounts.{TellUnits}
 use Rattle.disk_law.specs.Life.{LifeOnDisk}
 use Rattle.disk_law.specs.KeptImages.{AreImagesKept}

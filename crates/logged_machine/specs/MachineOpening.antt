@@ -4,7 +4,7 @@ use Rattle.tm_disk.specs.Disk.{Image, DiskState}
 use Rattle.model_system.specs.System.{System}
 use Rattle.model_machine.specs.Machine.{LastingState, start_of}
 use Rattle.model_image.specs.HeldStores.{HoldsStores}
-use Rattle.openings.specs.FirstImage.{sectors_needed}
+use Rattle.model_system.specs.Areas.{sectors_needed}
 use Rattle.disk_law.specs.JournalState.{JournalState}
 use Rattle.openings.specs.OpeningParts.{AreOpeningParts, OpeningParts}
 use Rattle.openings.specs.OpenedImage.{MayBegin}

@@ -3,7 +3,7 @@ use Rattle.std.specs.Prelude.{◌≡◌, ℕ, ◌≤◌, true, List, [], length,
 use Rattle.tm_disk.specs.Disk.{DiskState, Stays, Within}
 use Rattle.model_system.specs.System.{System}
 use Rattle.model_machine.specs.Machine.{LastingState, start_of}
-use Rattle.openings.specs.FirstImage.{sectors_needed}
+use Rattle.model_system.specs.Areas.{sectors_needed}
 use Rattle.openings.specs.declared.how.How.{How}
 use Rattle.openings.specs.LifeBeginning.{BeginsLife, KeepsBy}
 use Rattle.logged_machine.specs.LoggedState.{LoggedState}

@@ -5,7 +5,8 @@ use Rattle.model_system.specs.System.{System}
 use Rattle.restart_data.specs.declared.restart.RestartSector.{RestartSector}
 use Rattle.restart_data.specs.Restart.{restart_in}
 use Rattle.log_sectors.specs.Chain.{chain}
-use Rattle.model_image.specs.Areas.{is_single, snapshot_area, log_first}
+use Rattle.model_system.specs.Areas.{is_single, snapshot_area, log_first}
+use Rattle.seg_store.specs.Slots.{Stored}
 use Rattle.disk_law.specs.JournalState.{JournalState}
 use Rattle.model_machine.specs.Machine.{Moment, moment_with}
 use Rattle.model_machine.specs.declared.entry.CheckpointRefused.{CheckpointRefused}
@@ -38,10 +39,10 @@ pub record LeavesSettled (before after : DatabasesState) (old new : List ℕ) (n
   pub units : new ≡ old
   pub next_unit : next' ≡ next
 
--- It writes no more sectors than those of what was appended, one of each slot that counts as changed, those of a snapshot's area,
+-- It writes no more sectors than those of what was appended, those of each slot that counts as changed, those of a snapshot's area,
 -- and the restart sector.
-abbrev pub WritesCheckpoint : System → List (List ℕ) → JournalState → DiskState → DiskState → Type 0
-WritesCheckpoint system changed journal old new = WritesAtMost (checkpoint_sectors system changed journal) old new
+abbrev pub WritesCheckpoint : System → List Stored → List (List ℕ) → JournalState → DiskState → DiskState → Type 0
+WritesCheckpoint system stores changed journal old new = WritesAtMost (checkpoint_sectors system stores changed journal) old new
 
 -- Where a region's work forbids it, and where there is no memory, nothing at all has changed, and nothing was written.
 abbrev pub StaysUntaken : {D : Type 0} → CheckpointRefused → LoggedState D → LoggedState D → Type 0

@@ -4,9 +4,10 @@ use Rattle.tm_disk.specs.Disk.{DiskState, FailedSince}
 use Rattle.model_system.specs.System.{System}
 use Rattle.model_machine.specs.declared.entry.ControlFault.{ControlFault}
 use Rattle.model_machine.specs.declared.entry.ControlFault.TheVariants.{Memory, Disk, Spent}
-use Rattle.model_image.specs.Areas.{snapshot_area}
+use Rattle.model_system.specs.Areas.{snapshot_area}
 use Rattle.log_writer.specs.ForcedLog.{log_sectors_of}
-use Rattle.seg_store.specs.WrittenSlots.{changed_count}
+use Rattle.seg_store.specs.Slots.{Stored}
+use Rattle.seg_store.specs.WrittenSlots.{changed_sectors}
 use Rattle.checkpointing.specs.CheckpointParts.{next_restart, next_writer}
 use Rattle.disk_law.specs.JournalState.{JournalState}
 use Rattle.journal.specs.CheckpointFor.{parts_for}
@@ -37,10 +38,10 @@ pub record TakesNext (system : System) (old new : JournalState) : Type 0 where
   pub restart : new.restart ≡ next_restart (parts_for system old.restart bytes) old.log
   pub log : new.log ≡ next_writer (parts_for system old.restart bytes) old.log
 
--- How many sectors a checkpoint writes at most: those of what was appended, one of each slot that counts as changed, those of a
+-- How many sectors a checkpoint writes at most: those of what was appended, those of each slot that counts as changed, those of a
 -- snapshot's area, and the restart sector.
-abbrev pub checkpoint_sectors : System → List (List ℕ) → JournalState → ℕ
-checkpoint_sectors system changed journal = log_sectors_of (length journal.log.appended) + changed_count changed + snapshot_area system + 1
+abbrev pub checkpoint_sectors : System → List Stored → List (List ℕ) → JournalState → ℕ
+checkpoint_sectors system stores changed journal = log_sectors_of (length journal.log.appended) + changed_sectors stores changed + snapshot_area system + 1
 
 -- Nothing has changed.
 pub record SameAll {D : Type 0} (parts parts' : PartsState) (journal journal' : JournalState) (disk disk' : D) : Type 0 where

@@ -30,7 +30,7 @@ impl<D: Disk> LoggedMachine<D> {
         ensures raises { self.new.served ≡ true → Raises self.old.machine.system.logs self.old.journal self.new.journal self.old.next_unit self.new.next_unit }
         ensures taken { IfOk result (λ number. IsTaken self.new.machine.system number self.old.journal self.new.journal (D.state self.new.disk)) }
         ensures settled { OnOk result (LeavesSettled self.old.machine.databases self.new.machine.databases self.old.units self.new.units self.old.next_unit self.new.next_unit) }
-        ensures writes { WritesCheckpoint self.old.machine.system self.old.machine.databases.changed self.old.journal (D.state self.old.disk) (D.state self.new.disk) }
+        ensures writes { WritesCheckpoint self.old.machine.system self.old.machine.databases.stores self.old.machine.databases.changed self.old.journal (D.state self.old.disk) (D.state self.new.disk) }
         ensures refused { IfErr result (λ refusal. StaysUntaken refusal self.old self.new) }
     {
         let _before = self.is_served();
@@ -48,7 +48,7 @@ impl<D: Disk> LoggedMachine<D> {
         ensures raises { self.new.served ≡ true → Raises self.old.machine.system.logs self.old.journal self.new.journal self.old.next_unit self.new.next_unit }
         ensures taken { IfOk result (λ number. IsTaken self.new.machine.system number self.old.journal self.new.journal (D.state self.new.disk)) }
         ensures settled { OnOk result (LeavesSettled self.old.machine.databases self.new.machine.databases self.old.units self.new.units self.old.next_unit self.new.next_unit) }
-        ensures writes { WritesCheckpoint self.old.machine.system self.old.machine.databases.changed self.old.journal (D.state self.old.disk) (D.state self.new.disk) }
+        ensures writes { WritesCheckpoint self.old.machine.system self.old.machine.databases.stores self.old.machine.databases.changed self.old.journal (D.state self.old.disk) (D.state self.new.disk) }
         ensures refused { IfErr result (λ refusal. StaysUntaken refusal self.old self.new) }
     {
         let _regions = self.parts.region_count();
@@ -69,7 +69,7 @@ impl<D: Disk> LoggedMachine<D> {
         ensures raises { self.new.served ≡ true → Raises self.old.machine.system.logs self.old.journal self.new.journal self.old.next_unit self.new.next_unit }
         ensures taken { IfOk result (λ number. IsTaken self.new.machine.system number self.old.journal self.new.journal (D.state self.new.disk)) }
         ensures settled { OnOk result (LeavesSettled self.old.machine.databases self.new.machine.databases self.old.units self.new.units self.old.next_unit self.new.next_unit) }
-        ensures writes { WritesCheckpoint self.old.machine.system self.old.machine.databases.changed self.old.journal (D.state self.old.disk) (D.state self.new.disk) }
+        ensures writes { WritesCheckpoint self.old.machine.system self.old.machine.databases.stores self.old.machine.databases.changed self.old.journal (D.state self.old.disk) (D.state self.new.disk) }
         ensures refused { IfErr result (λ refusal. StaysUntaken refusal self.old self.new) }
     {
         match self.refresh() {

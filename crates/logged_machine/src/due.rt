@@ -44,7 +44,7 @@ pub trait DueCall: Call {
         ensures does { IfOk result (λ answer. DoesCall units.entry.now (Self.entry self.entry.now answer) (settled_parts parts.old) parts.new) }
         ensures before { OnOk result (HasSlots (settled_parts parts.old)) }
         ensures slots { OnOk result (HasSlots parts.new) }
-        ensures writes { WritesAtMost (checkpoint_sectors parts.old.system parts.old.databases.changed journal.old) (D.state disk.old) (D.state disk.new) }
+        ensures writes { WritesAtMost (checkpoint_sectors parts.old.system parts.old.databases.stores parts.old.databases.changed journal.old) (D.state disk.old) (D.state disk.new) }
         ensures cause { IfErr result (Untaken D.state parts.old parts.new journal.old journal.new disk.old disk.new) };
 }
 
@@ -147,7 +147,7 @@ fn still_due<C: Call, D: Disk>(
     ensures does { IfOk result (λ answer. DoesCall units.entry.now (C.entry call.entry.now answer) (settled_parts parts.old) parts.new) }
     ensures before { OnOk result (HasSlots (settled_parts parts.old)) }
     ensures slots { OnOk result (HasSlots parts.new) }
-    ensures writes { WritesAtMost (checkpoint_sectors parts.old.system parts.old.databases.changed journal.old) (D.state disk.old) (D.state disk.new) }
+    ensures writes { WritesAtMost (checkpoint_sectors parts.old.system parts.old.databases.stores parts.old.databases.changed journal.old) (D.state disk.old) (D.state disk.new) }
     ensures cause { IfErr result (Untaken D.state parts.old parts.new journal.old journal.new disk.old disk.new) }
 {
     let bytes = next_snapshot(alloc, parts, journal, units, next_unit)?;

@@ -29,7 +29,7 @@
 //! How much is written (specs/CheckpointDue): no checkpoint is due before a call that has no records of its own, or
 //! leaves 32 sectors of the area free with them: it writes to the log alone, and only where a step lasts of it. Any
 //! other takes one checkpoint, and from there does the same, or the disk failed in the checkpoint, which writes no more
-//! sectors than those of what was appended, one of each slot that counts as changed, those of a snapshot's area and the
+//! sectors than those of what was appended, those of each slot that counts as changed, those of a snapshot's area and the
 //! restart sector. Where the machine's own counters (the epoch, the log's next sequence, the checkpoint, the next unit)
 //! stand up to a bound, whatever a crash leaves at any moment of a call counts further by twice the sectors of a log
 //! area at most.

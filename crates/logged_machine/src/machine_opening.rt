@@ -1,6 +1,6 @@
 //! How a machine with its log is opened.
 ghost use Rattle.std.specs.Prelude.{◌≡◌, ◌≤◌, length, replicate, IfOk, IfErr};
-ghost use Rattle.openings.specs.FirstImage.{sectors_needed};
+ghost use Rattle.model_system.specs.Areas.{sectors_needed};
 ghost use Rattle.checkpointing.specs.Counts.{RaisesCounts};
 ghost use Rattle.tm_disk.specs.Disk.{Only, Within};
 ghost use Rattle.model_machine.specs.Machine.{empty_state, start_of};

@@ -7,7 +7,7 @@ ghost use Rattle.journal.specs.NumberedUnits.{insert_unit, numbered_unit, units_
 ghost use Rattle.program_rows.specs.SlotsState.{touched_in};
 ghost use Rattle.checkpointing.specs.SnapshotRecords.{snapshot_records};
 ghost use Rattle.checkpointing.specs.SpelledRecords.{AddsSpelled, IsWritable};
-ghost use Rattle.checkpointing.specs.Touches.{AreAllSpelled, HasOneSector, changes_of_units};
+ghost use Rattle.checkpointing.specs.Touches.{AreAllSpelled, HasFewSectors, changes_of_units};
 ghost use Rattle.tm_machine.specs.SlotChanges.{slots_now};
 ghost use Rattle.logged_machine.specs.CarriedParts.{IsCarried};
 ghost use Rattle.logged_machine.specs.UntakenCheckpoint.{IsSnapshot};
@@ -80,7 +80,7 @@ fn spell(
 ) -> Result<Vec<u8>, Memory>
     requires writable { IsWritable (record parts.now.moment.lasting { rows = [] }) }
     requires spelled { AreAllSpelled (slots_now parts.now).stores opened.now }
-    requires one_sector { AllByRecursion HasOneSector (slots_now parts.now).stores }
+    requires few_sectors { AllByRecursion HasFewSectors (slots_now parts.now).stores }
     ensures { IfOk result (λ bytes. AddsSpelled (snapshot_records number next_unit parts.entry.now.moment.lasting (changes_of_units (slots_now parts.entry.now).stores opened.entry.now)) [] bytes.items) }
 {
     write(

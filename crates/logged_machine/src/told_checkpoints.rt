@@ -34,7 +34,7 @@ pub fn write_told<D: Disk>(
     ensures keeps { KeepsOnDisk system.entry.now (D.state disk.old) (D.state disk.new) }
     ensures steps { Within (Takes (parts_for system.entry.now journal.old.restart bytes.entry.now) journal.old.log stores.now) (D.state disk.old) (D.state disk.new) }
     ensures done { OnOk result (WroteTold system.entry.now stores.now bytes.entry.now told.old.log.appended journal.old journal.new (D.state disk.old) (D.state disk.new)) }
-    ensures writes { WritesAtMost (checkpoint_sectors system.entry.now stores.now.changed journal.old) (D.state disk.old) (D.state disk.new) }
+    ensures writes { WritesAtMost (checkpoint_sectors system.entry.now stores.now.stores stores.now.changed journal.old) (D.state disk.old) (D.state disk.new) }
     ensures fault { IfErr result (λ fault. fault ≡ faults.Disk) }
     ensures cause { OnErr result (FailedSince (D.state disk.old) (D.state disk.new)) }
 {
@@ -64,7 +64,7 @@ pub fn write_parts<D: Disk>(
     ensures settled { OnOk result (parts.new ≡ settled_parts parts.old) }
     ensures steps { Within (Takes (parts_for parts.old.system journal.old.restart bytes.entry.now) journal.old.log (slots_stores (slots_now parts.old))) (D.state disk.old) (D.state disk.new) }
     ensures done { OnOk result (WroteTold parts.old.system (slots_stores (slots_now parts.old)) bytes.entry.now told.old.log.appended journal.old journal.new (D.state disk.old) (D.state disk.new)) }
-    ensures writes { WritesAtMost (checkpoint_sectors parts.old.system parts.old.databases.changed journal.old) (D.state disk.old) (D.state disk.new) }
+    ensures writes { WritesAtMost (checkpoint_sectors parts.old.system parts.old.databases.stores parts.old.databases.changed journal.old) (D.state disk.old) (D.state disk.new) }
     ensures slots { OnOk result (HasSlots parts.new) }
     ensures fault { IfErr result (λ fault. fault ≡ faults.Disk) }
     ensures cause { OnErr result (FailedSince (D.state disk.old) (D.state disk.new)) }

@@ -46,7 +46,7 @@ pub fn checkpoint<D: Disk>(
     ensures takes { OnOk result (TakesNext parts.old.system journal.old journal.new) }
     ensures synced { OnOk result (Only (D.state disk.new).shown (D.state disk.new)) }
     ensures no_fault { OnOk result ((D.state disk.new).faults ≡ (D.state disk.old).faults) }
-    ensures writes { WritesAtMost (checkpoint_sectors parts.old.system parts.old.databases.changed journal.old) (D.state disk.old) (D.state disk.new) }
+    ensures writes { WritesAtMost (checkpoint_sectors parts.old.system parts.old.databases.stores parts.old.databases.changed journal.old) (D.state disk.old) (D.state disk.new) }
     ensures cause { IfErr result (Untaken D.state parts.old parts.new journal.old journal.new disk.old disk.new) }
 {
     let _stores = parts.stores();
@@ -81,7 +81,7 @@ fn take<D: Disk>(
     ensures log { OnOk result (journal.new.log ≡ next_writer (parts_for parts.old.system journal.old.restart bytes.entry.now) journal.old.log) }
     ensures synced { OnOk result (Only (D.state disk.new).shown (D.state disk.new)) }
     ensures no_fault { OnOk result ((D.state disk.new).faults ≡ (D.state disk.old).faults) }
-    ensures writes { WritesAtMost (checkpoint_sectors parts.old.system parts.old.databases.changed journal.old) (D.state disk.old) (D.state disk.new) }
+    ensures writes { WritesAtMost (checkpoint_sectors parts.old.system parts.old.databases.stores parts.old.databases.changed journal.old) (D.state disk.old) (D.state disk.new) }
     ensures cause { OnErr result (FailedSince (D.state disk.old) (D.state disk.new)) }
 {
     journal.checkpoint(alloc, disk, parts.system(), parts.stores(), bytes)?;

@@ -69,7 +69,7 @@ pub few_types : (dbd : Dbd) → IsDatabase dbd → length dbd.types ≤ 255
 few_types dbd valid = omega (arith, valid.few_types)
 
 pub few_sectors : (dbd : Dbd) → IsDatabase dbd → dbd.sectors ≤ 8
-few_sectors dbd valid = omega (arith, valid.sectors)
+few_sectors dbd valid = valid.few_sectors
 
 short_type : (type : SegType) → type.bytes ≤ 1900 → type.bytes ≤ 1996
 short_type type few = omega arith

@@ -103,7 +103,7 @@ sync_tells unit region databases dbds pcbs work d call e =
     parts true false c h = absurd (cc)
     parts false b c h = absurd (cc)
 
--- the databases have one sector for each record
+-- a record of the databases has at most eight sectors
 sectors_by : (dbds : List Dbd) (stores : List Stored) → ((i : ℕ) (d : Dbd) → slice_get dbds i ≡ Some d → IsDatabase d) → map (λ (s : Stored). s.dbd) stores ≡ dbds
     → AllByRecursion (λ s. s.dbd.sectors ≤ 8) stores
 sectors_by dbds [] h e = tt
@@ -112,8 +112,7 @@ sectors_by (d ∷ dbds) (s ∷ stores) h e =
     let both : s.dbd ∷ map (λ (x : Stored). x.dbd) stores ≡ d ∷ dbds = e in
     let head : s.dbd ≡ d = cc in
     let tail : map (λ (x : Stored). x.dbd) stores ≡ dbds = cc in
-    let one : d.sectors ≡ 1 = (h 0 d refl).sectors in
-    (subst (λ (x : Dbd). x.sectors ≤ 8) (sym head) (omega (arith, one)), sectors_by dbds stores (λ i x q. h (suc i) x q) tail)
+    (subst (λ (x : Dbd). x.sectors ≤ 8) (sym head) (h 0 d refl).few_sectors, sectors_by dbds stores (λ i x q. h (suc i) x q) tail)
 
 pub few_sectors : (system : System) (stores : List Stored) → IsSystem system → map (λ (s : Stored). s.dbd) stores ≡ system.databases → AllByRecursion (λ s. s.dbd.sectors ≤ 8) stores
 few_sectors system stores valid e = sectors_by system.databases stores (λ i d q. all_at IsDatabase system.databases i d valid.databases q) e

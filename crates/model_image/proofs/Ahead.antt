@@ -11,7 +11,7 @@ use Rattle.log_sectors.specs.SealedSector.{header, sealed, log_payload_of, opene
 use Rattle.log_sectors.specs.Chain.{before, chain}
 use Rattle.log_sectors.proofs.Sealing.{opened_cases}
 use Rattle.restart_data.specs.Fields.{bytes_at, number8_at}
-use Rattle.model_image.specs.Areas.{log_first}
+use Rattle.model_system.specs.Areas.{log_first}
 use Rattle.model_image.specs.SectorsAhead.{NoneAhead}
 use Rattle.model_image.specs.RecoveredState.{is_later, first_later}
 use Rattle.model_image.proofs.Later.{each_not_later}

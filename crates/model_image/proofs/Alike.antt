@@ -1,6 +1,7 @@
 -- Images of which the same is read recover to the same.
 use Rattle.std.proofs.Common.{◌≡◌, ◌⊎◌, ℕ, zero, suc, ◌+◌, ◌*◌, ◌<◌, ◌≤◌, Bool, true, false, List, [], ◌∷◌, refl, sym, ◌∙◌, ap, subst, ⊎_elim, arith, Some, None, Ok, Err, IsSome}
 use Rattle.std.specs.Prelude.{Option, Result, if◌then◌else◌, Decides, option_map, slice_get}
+use Rattle.std.specs.Option.{option_map_or}
 use Rattle.tm_types.specs.declared.dbd.Dbd.{Dbd}
 use Rattle.tm_disk.specs.Disk.{Image, sector_at}
 use Rattle.model_system.specs.System.{System}
@@ -12,11 +13,11 @@ use Rattle.log_sectors.specs.Chain.{before, chain, joined_payloads}
 use Rattle.restart_data.specs.declared.restart.RestartSector.{RestartSector}
 use Rattle.restart_data.specs.Restart.{restart_of, restart_in}
 use Rattle.restart_data.proofs.ImageLaws.{parts_same}
-use Rattle.model_image.specs.Areas.{is_single, snapshot_area, snapshot_first, log_first, data_first}
+use Rattle.model_system.specs.Areas.{is_single, snapshot_area, snapshot_first, log_first, data_first}
 use Rattle.model_image.specs.CutRecords.{Cut, cut_of, records_cut, IsRecordCutOff}
 use Rattle.model_image.specs.Faults.{Fault, in_sector, unless_any, or_fault, unless_fault}
 use Rattle.model_image.specs.Snapshot.{snapshot_rules}
-use Rattle.model_image.specs.Slots.{SlotOnImage, source_of, slots_by, image_slot_in, named_by, all_slots, slot_fault, rows_of_databases, image_rows_from}
+use Rattle.model_image.specs.Slots.{SlotOnImage, source_of, sectors_from, slot_at, slots_by, image_slot_in, named_by, all_slots, slot_fault, rows_of_databases, image_rows_from}
 use Rattle.model_image.specs.RecoveredState.{snapshot_from, log_in, log_from, state_from, is_later, first_later, later_sector, state_with, state_by_restart, recovered, rest_by, log_rest, Recovers}
 
 -- a slot of the database at a place
@@ -26,13 +27,13 @@ pub record IsSlotOf (system : System) (place number : ℕ) : Type 0 where
   pub below : number < dbd.roots
 
 -- Two images agree on what a restart sector names: the snapshot, the log, which sectors of the log areas have a later
--- epoch, and the data sectors of those slots that no record names.
+-- epoch, and the sectors of those slots that no record names.
 pub record AreasAlike (system : System) (r : RestartSector) (old new : Image) : Type 0 where
   pub snapshot : (k : ℕ) → snapshot_first system r.snapshot ≤ k → k < snapshot_first system r.snapshot + r.sectors → sector_at new k ≡ sector_at old k
   pub log : (k : ℕ) → log_first system r.log ≤ k → k < log_first system r.log + system.logs → sector_at new k ≡ sector_at old k
   pub later : (k : ℕ) → log_first system 0 ≤ k → k < log_first system 0 + 2 * system.logs → is_later r.epoch (sector_at new k) ≡ is_later r.epoch (sector_at old k)
   pub slots : (snapshot : List Record) → snapshot_from system old r ≡ Ok snapshot → (place number : ℕ) → IsSlotOf system place number →
-      IsSome (named_by snapshot (log_in system old r).records (place + 1) number) ⊎ (sector_at new (data_first system place + number) ≡ sector_at old (data_first system place + number))
+      IsSome (named_by snapshot (log_in system old r).records (place + 1) number) ⊎ (slot_at system new place number ≡ slot_at system old place number)
 
 -- Two images agree on the restart sector, and on what it names.
 pub record ImagesAlike (system : System) (old new : Image) : Type 0 where
@@ -61,15 +62,24 @@ slots_same (suc n) number f g same =
     ap (λ (s : SlotOnImage). s ∷ slots_by f n (number + 1)) (same number (omega arith))
     ∙ ap (λ (rest : List SlotOnImage). g number ∷ rest) (slots_same n (number + 1) f g (λ k below. same k (omega (arith, below))))
 
-source_same : (named : Option (List ℕ)) (old new : List ℕ) → IsSome named ⊎ (new ≡ old) → source_of named new ≡ source_of named old
+-- the sectors of a slot, by those of its database
+slot_of : (system : System) (place number : ℕ) (dbd : Dbd) (image : Image) → slice_get system.databases place ≡ Some dbd → slot_at system image place number ≡ sectors_from image (data_first system place + number * dbd.sectors) dbd.sectors
+slot_of system place number dbd image found =
+    ap (λ d. sectors_from image (data_first system place + number * option_map_or (λ (dbd : Dbd). dbd.sectors) d 1) (option_map_or (λ (dbd : Dbd). dbd.sectors) d 1)) found
+
+source_same : (named : Option (List ℕ)) (old new : List (List ℕ)) → IsSome named ⊎ (new ≡ old) → source_of named new ≡ source_of named old
 source_same (Some bytes) old new agree = refl
 source_same None old new agree = ⊎_elim (λ some. absurd cc) (λ same. ap (source_of None) same) agree
 
-module _ (system : System) (old new : Image) (snapshot log : List Record) (agree : (place number : ℕ) → IsSlotOf system place number → IsSome (named_by snapshot log (place + 1) number) ⊎ (sector_at new (data_first system place + number) ≡ sector_at old (data_first system place + number))) where
-  slot_same : (dbd : Dbd) (place number : ℕ) → IsSlotOf system place number → image_slot_in new snapshot log dbd (data_first system place) (place + 1) number ≡ image_slot_in old snapshot log dbd (data_first system place) (place + 1) number
-  slot_same dbd place number is =
-      ap (λ source. record { dbd = dbd; place = data_first system place + number; source = source })
-      (source_same (named_by snapshot log (place + 1) number) (sector_at old (data_first system place + number)) (sector_at new (data_first system place + number)) (agree place number is))
+module _ (system : System) (old new : Image) (snapshot log : List Record) (agree : (place number : ℕ) → IsSlotOf system place number → IsSome (named_by snapshot log (place + 1) number) ⊎ (slot_at system new place number ≡ slot_at system old place number)) where
+  slot_same : (dbd : Dbd) (place number : ℕ) → slice_get system.databases place ≡ Some dbd → number < dbd.roots → image_slot_in new snapshot log dbd (data_first system place) (place + 1) number ≡ image_slot_in old snapshot log dbd (data_first system place) (place + 1) number
+  slot_same dbd place number found below =
+      let was = slot_of system place number dbd old found in
+      let stands = slot_of system place number dbd new found in
+      ap (λ source. record { dbd = dbd; place = data_first system place + number * dbd.sectors; source = source })
+      (ap (source_of (named_by snapshot log (place + 1) number)) (sym stands)
+      ∙ source_same (named_by snapshot log (place + 1) number) (slot_at system old place number) (slot_at system new place number) (agree place number (record { dbd = dbd; found = found; below = below }))
+      ∙ ap (source_of (named_by snapshot log (place + 1) number)) was)
 
   -- the databases from a place on are these
   all_slots_same : (place : ℕ) (dbds : List Dbd) → ((i : ℕ) (d : Dbd) → slice_get dbds i ≡ Some d → slice_get system.databases (place + i) ≡ Some d) → all_slots system new snapshot log place dbds ≡ all_slots system old snapshot log place dbds
@@ -78,7 +88,7 @@ module _ (system : System) (old new : Image) (snapshot log : List Record) (agree
   all_slots_same place (dbd ∷ dbds) are =
       let first : slice_get system.databases place ≡ Some dbd = subst (λ k. slice_get system.databases k ≡ Some dbd) (omega arith) (are 0 dbd refl) in
       ap (λ (s : List SlotOnImage). s ∷ all_slots system new snapshot log (place + 1) dbds)
-      (slots_same dbd.roots 0 (image_slot_in new snapshot log dbd (data_first system place) (place + 1)) (image_slot_in old snapshot log dbd (data_first system place) (place + 1)) (λ k below. slot_same dbd place k (record { dbd = dbd; found = first; below = omega (arith, below) })))
+      (slots_same dbd.roots 0 (image_slot_in new snapshot log dbd (data_first system place) (place + 1)) (image_slot_in old snapshot log dbd (data_first system place) (place + 1)) (λ k below. slot_same dbd place k first (omega (arith, below))))
       ∙ ap (λ (rest : List (List SlotOnImage)). slots_by (image_slot_in old snapshot log dbd (data_first system place) (place + 1)) dbd.roots 0 ∷ rest)
       (all_slots_same (place + 1) dbds (λ i d found. subst (λ k. slice_get system.databases k ≡ Some d) (omega arith) (are (suc i) d found)))
 
@@ -123,7 +133,7 @@ module _ (system : System) (r : RestartSector) (old new : Image) (alike : AreasA
       bind_same (state_from system r snapshot log) (state_from system r snapshot log) _ _ refl (λ lasting _.
       bind_same (image_rows_from system new snapshot log) (image_rows_from system old snapshot log) _ _
       (rows_same system old new snapshot log (λ place number is.
-      subst (λ (l : List Record). IsSome (named_by snapshot l (place + 1) number) ⊎ (sector_at new (data_first system place + number) ≡ sector_at old (data_first system place + number))) (log_records system old r cut_off log is_log) (alike.slots snapshot is_snapshot place number is)))
+      subst (λ (l : List Record). IsSome (named_by snapshot l (place + 1) number) ⊎ (slot_at system new place number ≡ slot_at system old place number)) (log_records system old r cut_off log is_log) (alike.slots snapshot is_snapshot place number is)))
       (λ rows _. ap (λ (fault : Option Fault). unless_fault fault (record lasting { rows = rows })) later_alike))))
 
 in_0 : {A : Type 0} (read : Result A ℕ) (x : A) → in_sector 0 read ≡ Ok x → read ≡ Ok x

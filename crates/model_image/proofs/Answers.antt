@@ -10,7 +10,7 @@ use Rattle.log_records.specs.RecordReader.{◌>>=◌}
 use Rattle.log_records.specs.RecordSpelling.{record_spelling, number2, record_length}
 use Rattle.restart_data.specs.declared.restart.RestartSector.{RestartSector}
 use Rattle.restart_data.specs.Restart.{restart_in}
-use Rattle.model_image.specs.Areas.{is_single, snapshot_area}
+use Rattle.model_system.specs.Areas.{is_single, snapshot_area}
 use Rattle.model_image.specs.CutRecords.{IsRecordCutOff}
 use Rattle.model_image.specs.Faults.{Fault, in_sector}
 use Rattle.model_image.specs.RecoveredState.{recovered, rest_by, state_by_restart, Recovers}

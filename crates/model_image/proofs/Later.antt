@@ -8,7 +8,7 @@ use Rattle.model_machine.specs.Machine.{LastingState}
 use Rattle.log_records.specs.RecordReader.{◌>>=◌}
 use Rattle.restart_data.specs.declared.restart.RestartSector.{RestartSector}
 use Rattle.restart_data.specs.Restart.{restart_in}
-use Rattle.model_image.specs.Areas.{is_single, snapshot_area, log_first}
+use Rattle.model_system.specs.Areas.{is_single, snapshot_area, log_first}
 use Rattle.model_image.specs.Faults.{Fault, in_sector, unless_fault}
 use Rattle.model_image.specs.Slots.{image_rows_from}
 use Rattle.model_image.specs.RecoveredState.{snapshot_from, log_from, state_from, is_later, first_later, later_sector, state_with, state_by_restart, Recovers}

@@ -6,7 +6,7 @@ use Rattle.log_records.specs.declared.record.Record.{Record}
 use Rattle.log_records.specs.declared.record.Record.TheVariants.{Input, Reply, Discarded, Completed, SyncPoint, Checkpoint, Change}
 use Rattle.log_sectors.specs.Chain.{chain}
 use Rattle.restart_data.specs.declared.restart.RestartSector.{RestartSector}
-use Rattle.model_image.specs.Areas.{log_first}
+use Rattle.model_system.specs.Areas.{log_first}
 
 -- the unit of a record; 0 is none
 abbrev pub unit_of_record : Record → ℕ

@@ -1,4 +1,3 @@
-pub mod Areas
 pub mod CutRecords
 pub mod Faults
 pub mod States

@@ -12,7 +12,7 @@ use Rattle.restart_data.specs.declared.restart.RestartSector.{RestartSector}
 use Rattle.restart_data.specs.Fields.{bytes_at, number8_at}
 use Rattle.restart_data.specs.Restart.{restart_in}
 use Rattle.restart_data.specs.Snapshot.{snapshot_in}
-use Rattle.model_image.specs.Areas.{is_single, snapshot_area, snapshot_first, log_first}
+use Rattle.model_system.specs.Areas.{is_single, snapshot_area, snapshot_first, log_first}
 use Rattle.model_image.specs.CutRecords.{Cut, cut_of, records_cut, IsRecordCutOff}
 use Rattle.model_image.specs.Faults.{Fault, in_sector, unless_any, or_fault, unless_fault}
 use Rattle.model_image.specs.Snapshot.{snapshot_state, snapshot_rules}

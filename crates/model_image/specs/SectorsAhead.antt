@@ -3,7 +3,7 @@ use Rattle.std.specs.Prelude.{◌≡◌, ℕ, ◌+◌, ◌*◌, ◌<◌, ◌≤�
 use Rattle.tm_disk.specs.Disk.{Image, sector_at}
 use Rattle.model_system.specs.System.{System}
 use Rattle.log_sectors.specs.SealedSector.{opened_payload}
-use Rattle.model_image.specs.Areas.{log_first}
+use Rattle.model_system.specs.Areas.{log_first}
 
 -- No sector of either log area is a log sector of this epoch with this sequence or a later one. Both are numbers of eight
 -- bytes, so greater ones aren't looked at.

@@ -1,7 +1,7 @@
--- The slots of the databases: which record speaks for each, and what else its sector spells.
-use Rattle.std.specs.Prelude.{ℕ, zero, suc, ◌+◌, ◌-◌, Bool, true, false, not, ◌&&◌, ◌||◌, nat_lt, nat_le, ◌==◌, List, [], ◌∷◌, ◌++◌, length, take, drop, map, reverse, filter, find, slice_get, Option, Some, None, Result, if◌then◌else◌}
+-- The slots of the databases: which record speaks for each, and what else its sectors spell.
+use Rattle.std.specs.Prelude.{ℕ, zero, suc, ◌+◌, ◌-◌, ◌*◌, Bool, true, false, not, ◌&&◌, ◌||◌, nat_lt, nat_le, ◌==◌, List, [], ◌∷◌, ◌++◌, length, take, drop, map, reverse, filter, find, slice_get, Option, Some, None, Result, if◌then◌else◌}
 use Rattle.std.specs.Option.{is_some, option_map, option_or, unwrap_or}
-use Rattle.std.specs.List.{list_any}
+use Rattle.std.specs.List.{list_any, flat_map}
 use Rattle.tm_types.specs.declared.dbd.Dbd.{Dbd}
 use Rattle.tm_types.specs.declared.dbd.SegType.{SegType}
 use Rattle.tm_disk.specs.Disk.{Image, sector_at}
@@ -13,7 +13,7 @@ use Rattle.log_records.specs.declared.record.Record.{Record}
 use Rattle.log_records.specs.declared.record.Record.TheVariants.{SyncPoint, Change}
 use Rattle.restart_data.specs.Fields.{number2_at, are_zeros}
 use Rattle.seg_store.specs.Slots.{is_slot_free, image_root, has_root, rows_of_slots}
-use Rattle.model_image.specs.Areas.{data_first}
+use Rattle.model_system.specs.Areas.{data_first, slot_first, slot_size}
 use Rattle.model_image.specs.Faults.{Fault, unless_fault}
 
 -- ---- bytes and rows
@@ -83,43 +83,69 @@ named_by snapshot log database slot =
     (option_map after_image (find (is_synced log) (reverse changes)))
     (option_map before_image (slice_get changes 0))
 
--- ---- what a data sector spells
+-- ---- what data sectors spell
 
--- how many bytes it says it holds, those bytes, and zeros behind them
+-- how many bytes a sector says it holds, and those bytes
 abbrev pub used_in : List ℕ → ℕ
 used_in sector = number2_at 0 sector
 
-abbrev pub slot_bytes_in : List ℕ → List ℕ
-slot_bytes_in sector = take (used_in sector) (drop 2 sector)
+abbrev pub payload_in : List ℕ → List ℕ
+payload_in sector = take (used_in sector) (drop 2 sector)
+
+-- what the sectors of a slot spell
+abbrev pub spelled_in : List (List ℕ) → List ℕ
+spelled_in sectors = flat_map payload_in sectors
+
+-- A sector of a slot is wrong where it says that it holds more than 4,000 bytes, where other bytes than zeros stand
+-- behind them, or where it holds some and not all before it are full.
+abbrev pub is_wrong_sector : Bool → List ℕ → Bool
+is_wrong_sector full sector =
+    nat_lt 4000 (used_in sector) || not (are_zeros (drop (2 + used_in sector) sector)) || (not full && nat_lt 0 (used_in sector))
+
+-- the place of the first wrong one, of sectors from a place on, all before being full or not
+abbrev pub wrong_from : Bool → ℕ → List (List ℕ) → Option ℕ
+wrong_from full at [] = None
+wrong_from full at (sector ∷ sectors) =
+    if is_wrong_sector full sector then Some at else wrong_from (full && (used_in sector == 4000)) (at + 1) sectors
 
 -- ---- slots
 
--- what a slot's bytes are taken from: the records that name it, or its sector
+-- so many sectors of an image, from one on
+abbrev pub sectors_from : Image → ℕ → ℕ → List (List ℕ)
+sectors_from image at zero = []
+sectors_from image at (suc n) = sector_at image at ∷ sectors_from image (at + 1) n
+
+-- the sectors of a slot of the database at a place
+abbrev pub slot_at : System → Image → ℕ → ℕ → List (List ℕ)
+slot_at system image place number = sectors_from image (slot_first system place number) (slot_size system place)
+
+-- what a slot's bytes are taken from: the records that name it, or its sectors
 pub data Source : Type 0 where
   Named : List ℕ → Source
-  Spelled : List ℕ → Source
+  Spelled : List (List ℕ) → Source
 
-abbrev pub source_of : Option (List ℕ) → List ℕ → Source
-source_of (Some bytes) sector = Named bytes
-source_of None sector = Spelled sector
+abbrev pub source_of : Option (List ℕ) → List (List ℕ) → Source
+source_of (Some bytes) sectors = Named bytes
+source_of None sectors = Spelled sectors
 
--- a slot of a database as an image has it, with the place of its sector
+-- a slot of a database as an image has it, with the place of its first sector
 pub record SlotOnImage : Type 0 where
   pub dbd : Dbd
   pub place : ℕ
   pub source : Source
 
--- 20: its length or the bytes behind it; 21: no record. A sector whose slot a record names isn't looked at.
-abbrev pub is_wrong_length : Source → Bool
-is_wrong_length (Named bytes) = false
-is_wrong_length (Spelled sector) = nat_lt 4000 (used_in sector) || not (are_zeros (drop (2 + used_in sector) sector))
+-- The sectors of a slot that a record names aren't looked at. 20: the first wrong one of the others.
+abbrev pub wrong_in : ℕ → Source → Option ℕ
+wrong_in at (Named bytes) = None
+wrong_in at (Spelled sectors) = wrong_from true at sectors
 
+abbrev pub wrong_sector : SlotOnImage → Option ℕ
+wrong_sector slot = wrong_in slot.place slot.source
+
+-- 21: no record
 abbrev pub is_no_record : Dbd → Source → Bool
 is_no_record dbd (Named bytes) = false
-is_no_record dbd (Spelled sector) = not (is_image dbd (slot_bytes_in sector))
-
-abbrev pub has_wrong_length : SlotOnImage → Bool
-has_wrong_length slot = is_wrong_length slot.source
+is_no_record dbd (Spelled sectors) = not (is_image dbd (spelled_in sectors))
 
 abbrev pub has_no_record : SlotOnImage → Bool
 has_no_record slot = is_no_record slot.dbd slot.source
@@ -127,7 +153,7 @@ has_no_record slot = is_no_record slot.dbd slot.source
 -- the rows of a slot
 abbrev pub bytes_from : Source → List ℕ
 bytes_from (Named bytes) = bytes
-bytes_from (Spelled sector) = slot_bytes_in sector
+bytes_from (Spelled sectors) = spelled_in sectors
 
 abbrev pub slot_rows : SlotOnImage → List Row
 slot_rows slot = unwrap_or (rows_of_bytes slot.dbd (bytes_from slot.source)) []
@@ -148,8 +174,8 @@ slots_by slot (suc n) number = slot number ∷ slots_by slot n (number + 1)
 abbrev pub image_slot_in : Image → List Record → List Record → Dbd → ℕ → ℕ → ℕ → SlotOnImage
 image_slot_in image snapshot log dbd first database number = record {
   dbd = dbd;
-  place = first + number;
-  source = source_of (named_by snapshot log database number) (sector_at image (first + number));
+  place = first + number * dbd.sectors;
+  source = source_of (named_by snapshot log database number) (sectors_from image (first + number * dbd.sectors) dbd.sectors);
 }
 
 -- the slots of the databases from one on, which has this place
@@ -158,20 +184,33 @@ all_slots system image snapshot log place [] = []
 all_slots system image snapshot log place (dbd ∷ dbds) =
     slots_by (image_slot_in image snapshot log dbd (data_first system place) (place + 1)) dbd.roots 0 ∷ all_slots system image snapshot log (place + 1) dbds
 
--- the first slot that breaks a rule
-abbrev pub fault_of : ℕ → Option SlotOnImage → Option Fault
-fault_of rule slot = option_map (λ s. (rule, s.place)) slot
+-- where the first slot stands that breaks a rule
+abbrev pub place_in : Option SlotOnImage → Option ℕ
+place_in slot = option_map (λ s. s.place) slot
 
-abbrev pub first_in : (List SlotOnImage → Option SlotOnImage) → List (List SlotOnImage) → Option SlotOnImage
-first_in test [] = None
-first_in test (slots ∷ databases) = option_or (test slots) (first_in test databases)
+abbrev pub first_wrong : List SlotOnImage → Option ℕ
+first_wrong [] = None
+first_wrong (slot ∷ slots) = option_or (wrong_sector slot) (first_wrong slots)
 
--- the lowest rule that a slot breaks, and the first slot that does
+abbrev pub first_no_record : List SlotOnImage → Option ℕ
+first_no_record slots = place_in (find has_no_record slots)
+
+abbrev pub first_doubled : List SlotOnImage → Option ℕ
+first_doubled slots = place_in (first_shared slots)
+
+abbrev pub first_in : (List SlotOnImage → Option ℕ) → List (List SlotOnImage) → Option ℕ
+first_in place [] = None
+first_in place (slots ∷ databases) = option_or (place slots) (first_in place databases)
+
+abbrev pub fault_of : ℕ → Option ℕ → Option Fault
+fault_of rule sector = option_map (λ at. (rule, at)) sector
+
+-- The lowest rule that a slot breaks: of 20 the sector is the first wrong one, of the others the first of the slot.
 abbrev pub slot_fault : List (List SlotOnImage) → Option Fault
 slot_fault databases =
-    option_or (fault_of 20 (first_in (find has_wrong_length) databases))
-    (option_or (fault_of 21 (first_in (find has_no_record) databases))
-    (fault_of 22 (first_in first_shared databases)))
+    option_or (fault_of 20 (first_in first_wrong databases))
+    (option_or (fault_of 21 (first_in first_no_record databases))
+    (fault_of 22 (first_in first_doubled databases)))
 
 -- the rows of each database
 abbrev pub rows_of_databases : List (List SlotOnImage) → List (List Row)

@@ -16,3 +16,4 @@ pub mod Codes
 pub mod CodeStates
 pub mod Jobs
 pub mod SystemFormats
+pub mod Areas

@@ -9,7 +9,7 @@ use Rattle.restart_data.specs.declared.restart.RestartSector.{RestartSector}
 use Rattle.restart_data.specs.Restart.{restart_of}
 use Rattle.restart_data.specs.Snapshot.{snapshot_sectors_of}
 use Rattle.system_types.specs.ValidSystem.{IsSystem}
-use Rattle.model_image.specs.Areas.{is_single, snapshot_area}
+use Rattle.model_system.specs.Areas.{is_single, snapshot_area}
 use Rattle.model_image.specs.RecoveredState.{Recovers}
 use Rattle.checkpointing.specs.SpelledRecords.{AddsSpelled}
 use Rattle.checkpointing.proofs.Begun.{HasSnapshot, recovers_begun}

@@ -6,7 +6,7 @@ use Rattle.restart_data.specs.declared.restart.RestartSector.{RestartSector}
 use Rattle.restart_data.specs.Restart.{restart_in}
 use Rattle.restart_data.specs.Snapshot.{snapshot_sectors_of, snapshot_in}
 use Rattle.model_system.specs.System.{System}
-use Rattle.model_image.specs.Areas.{snapshot_area, snapshot_first, log_first, data_first}
+use Rattle.model_system.specs.Areas.{snapshot_area, snapshot_first, log_first, data_first}
 use Rattle.openings.specs.declared.laying_cold.Places.{Places}
 
 -- So many sectors from a place on are these, and all the rest stay.

@@ -8,13 +8,10 @@ use Rattle.log_records.specs.declared.record.Record.{Record}
 use Rattle.restart_data.specs.declared.restart.RestartSector.{RestartSector}
 use Rattle.restart_data.specs.Restart.{restart_in}
 use Rattle.restart_data.specs.Snapshot.{snapshot_in}
-use Rattle.model_image.specs.Areas.{is_single, snapshot_area, snapshot_first, log_first, data_first}
+use Rattle.model_system.specs.Areas.{is_single, snapshot_area, snapshot_first, log_first}
+pub use Rattle.model_system.specs.Areas.{sectors_needed}
 use Rattle.checkpointing.specs.SnapshotRecords.{snapshot_records}
 use Rattle.openings.specs.ColdWrites.{text_sectors, text_sector}
-
--- how many sectors a disk of the system has at least
-abbrev pub sectors_needed : System → ℕ
-sectors_needed system = data_first system (length system.databases)
 
 -- the records of the first snapshot: checkpoint 1 of the empty machine, whose next unit is 1
 abbrev pub first_records : System → List Record

@@ -8,7 +8,7 @@ use Rattle.model_machine.specs.Machine.{LastingState, empty_state}
 use Rattle.log_records.specs.declared.record.Record.{Record}
 use Rattle.restart_data.specs.declared.restart.RestartSector.{RestartSector}
 use Rattle.restart_data.specs.Restart.{IsRestart, restart_in}
-use Rattle.model_image.specs.Areas.{is_single, snapshot_area}
+use Rattle.model_system.specs.Areas.{is_single, snapshot_area}
 use Rattle.model_image.specs.Counters.{next_unit, next_sequence}
 use Rattle.model_image.specs.RecoveredState.{snapshot_from, log_in, Recovers}
 use Rattle.model_image.specs.States.{breaks_a_rule}

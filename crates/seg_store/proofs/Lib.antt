@@ -10,3 +10,5 @@ pub mod Putting
 mod AllStores
 mod Copied
 pub mod WritingBack
+pub mod Pieces
+pub mod SlotsWritten

@@ -1,18 +1,16 @@
 -- One store after another is written.
-use Rattle.std.proofs.Common.{◌≡◌, ◌⊎◌, ℕ, ◌+◌, ◌<◌, ◌≤◌, zero, suc, List, [], ◌∷◌, ◌++◌, length, take, drop, refl, sym, ◌∙◌, ap, subst, inl, inr, ⊎_elim, arith, None, Some, eqb, append_assoc}
-use Rattle.std.specs.Prelude.{Option, Result, Ok, Err, OnOk, map, sum_by, slice_index_or, slice_set, if◌then◌else◌}
+use Rattle.std.proofs.Common.{◌≡◌, ◌⊎◌, ℕ, ◌+◌, ◌*◌, ◌<◌, ◌≤◌, zero, suc, List, [], ◌∷◌, ◌++◌, length, take, drop, refl, sym, ◌∙◌, ap, subst, inl, inr, ⊎_elim, arith, None, Some, eqb, append_assoc}
+use Rattle.std.specs.Prelude.{Option, Result, Ok, Err, OnOk, map, sum_by, slice_set, if◌then◌else◌}
 use Rattle.std.specs.List.{slice_get, AllByRecursion}
 use Rattle.std.specs.Option.{option_or, unwrap_or}
 use Rattle.std.proofs.lemmas.List.Sums.{sum_by-cons, sum_by-take-le}
 use Rattle.std.proofs.lemmas.List.{append-nil, map-append}
-use Rattle.model_data.specs.declared.row.Row.{Row}
-use Rattle.model_data.specs.Record.{rows_spelling}
 use Rattle.tm_disk.specs.Disk.{Image, DiskState, sector_at, Follows, Within}
 use Rattle.tm_disk.proofs.Words.{follows_on, follows_more, within_more, within_within}
 use Rattle.seg_store.specs.Slots.{Stored, AreSlots}
 use Rattle.seg_store.specs.ChangedSlots.{Kept, stored, all_stores}
-use Rattle.seg_store.specs.DataSectors.{data_sector, IsGivenAt, given_at, MayPut, HasPut, PutsFront, bytes_of_slots}
-use Rattle.seg_store.specs.WrittenSlots.{slot_count, changed_count, bytes_behind, all_bytes, all_written, kept_bytes, kept_slots, kept_count, written_kept}
+use Rattle.seg_store.specs.DataSectors.{data_sector, IsGivenAt, given_at, MayPut, HasPut, PutsFront}
+use Rattle.seg_store.specs.WrittenSlots.{sector_count, changed_sectors, behind, all_bytes, all_written, kept_bytes, kept_sectors, kept_changed, pieces_kept, written_kept}
 
 -- ---- lists of slots, one behind another
 
@@ -37,19 +35,19 @@ pub is_given_back : (first : ℕ) (xs ys : List (ℕ × List ℕ)) (at : ℕ) (s
 is_given_back first [] ys at sector given = given
 is_given_back first (x ∷ xs) ys at sector given = inr (is_given_back first xs ys at sector given)
 
--- the slots of a database behind others, by their own first sector
-pub given_behind : (first others : ℕ) (images : List (List Row)) (numbers : List ℕ) (at : ℕ) → given_at (first + others) (bytes_of_slots images numbers) at ≡ given_at first (bytes_behind others images numbers) at
-given_behind first others images [] at = refl
-given_behind first others images (n ∷ numbers) at =
-    let place : (first + others) + n ≡ first + (others + n) = omega arith in
-    ap (λ o. option_or o (if eqb ((first + others) + n) at then Some (data_sector (rows_spelling (slice_index_or images n []))) else None)) (given_behind first others images numbers at)
-    ∙ ap (λ k. option_or (given_at first (bytes_behind others images numbers) at) (if eqb k at then Some (data_sector (rows_spelling (slice_index_or images n []))) else None)) place
+-- pieces behind others, by their own first sector
+pub given_behind : (first others : ℕ) (slots : List (ℕ × List ℕ)) (at : ℕ) → given_at (first + others) slots at ≡ given_at first (behind others slots) at
+given_behind first others [] at = refl
+given_behind first others (x ∷ slots) at =
+    let place : (first + others) + x.0 ≡ first + (others + x.0) = omega arith in
+    ap (λ o. option_or o (if eqb ((first + others) + x.0) at then Some (data_sector x.1) else None)) (given_behind first others slots at)
+    ∙ ap (λ k. option_or (given_at first (behind others slots) at) (if eqb k at then Some (data_sector x.1) else None)) place
 
-pub is_given_behind : (first others : ℕ) (images : List (List Row)) (numbers : List ℕ) (at : ℕ) (sector : List ℕ) → IsGivenAt (first + others) (bytes_of_slots images numbers) at sector → IsGivenAt first (bytes_behind others images numbers) at sector
-is_given_behind first others images [] at sector given = given
-is_given_behind first others images (n ∷ numbers) at sector given =
-    let place : (first + others) + n ≡ first + (others + n) = omega arith in
-    ⊎_elim (λ here. inl (sym place ∙ here.0, here.1)) (λ later. inr (is_given_behind first others images numbers at sector later)) given
+pub is_given_behind : (first others : ℕ) (slots : List (ℕ × List ℕ)) (at : ℕ) (sector : List ℕ) → IsGivenAt (first + others) slots at sector → IsGivenAt first (behind others slots) at sector
+is_given_behind first others [] at sector given = given
+is_given_behind first others (x ∷ slots) at sector given =
+    let place : (first + others) + x.0 ≡ first + (others + x.0) = omega arith in
+    ⊎_elim (λ here. inl (sym place ∙ here.0, here.1)) (λ later. inr (is_given_behind first others slots at sector later)) given
 
 -- ---- what is put, one after another
 
@@ -79,38 +77,23 @@ has_both first xs ys a b c one two = record {
   by None p s = refl
   by (Some x) p s = refl
 
-pub has_behind : (first others : ℕ) (images : List (List Row)) (numbers : List ℕ) (a b : Image) → HasPut (first + others) (bytes_of_slots images numbers) a b → HasPut first (bytes_behind others images numbers) a b
-has_behind first others images numbers a b has = record { size = has.size; each = λ at. has.each at ∙ ap (λ o. unwrap_or o (sector_at a at)) (given_behind first others images numbers at) }
+pub has_behind : (first others : ℕ) (slots : List (ℕ × List ℕ)) (a b : Image) → HasPut (first + others) slots a b → HasPut first (behind others slots) a b
+has_behind first others slots a b has = record { size = has.size; each = λ at. has.each at ∙ ap (λ o. unwrap_or o (sector_at a at)) (given_behind first others slots at) }
 
--- the same of any slots
-abbrev behind : ℕ → List (ℕ × List ℕ) → List (ℕ × List ℕ)
-behind others slots = map (λ slot. (others + slot.0, slot.1)) slots
+pub may_behind : (first others : ℕ) (slots : List (ℕ × List ℕ)) (a b : Image) → MayPut (first + others) slots a b → MayPut first (behind others slots) a b
+may_behind first others slots a b may = may_more first (first + others) slots (behind others slots) a b (is_given_behind first others slots) may
 
-bytes_are_behind : (others : ℕ) (images : List (List Row)) (numbers : List ℕ) → bytes_behind others images numbers ≡ behind others (bytes_of_slots images numbers)
-bytes_are_behind others images [] = refl
-bytes_are_behind others images (n ∷ numbers) = ap (λ (l : List (ℕ × List ℕ)). (others + n, rows_spelling (slice_index_or images n [])) ∷ l) (bytes_are_behind others images numbers)
-
-any_behind : (first others : ℕ) (slots : List (ℕ × List ℕ)) (at : ℕ) → given_at (first + others) slots at ≡ given_at first (behind others slots) at
-any_behind first others [] at = refl
-any_behind first others (x ∷ slots) at =
-    let place : (first + others) + x.0 ≡ first + (others + x.0) = omega arith in
-    ap (λ o. option_or o (if eqb ((first + others) + x.0) at then Some (data_sector x.1) else None)) (any_behind first others slots at)
-    ∙ ap (λ k. option_or (given_at first (behind others slots) at) (if eqb k at then Some (data_sector x.1) else None)) place
-
-has_any_behind : (first others : ℕ) (slots : List (ℕ × List ℕ)) (a b : Image) → HasPut (first + others) slots a b → HasPut first (behind others slots) a b
-has_any_behind first others slots a b has = record { size = has.size; each = λ at. has.each at ∙ ap (λ o. unwrap_or o (sector_at a at)) (any_behind first others slots at) }
-
--- those of a database behind others, up to one of them
-front_behind : (first others : ℕ) (images : List (List Row)) (numbers : List ℕ) (a b : Image) → PutsFront (first + others) (bytes_of_slots images numbers) a b → PutsFront first (bytes_behind others images numbers) a b
-front_behind first others images numbers a b puts = record {
+-- those behind others, up to one of them
+pub front_behind : (first others : ℕ) (slots : List (ℕ × List ℕ)) (a b : Image) → PutsFront (first + others) slots a b → PutsFront first (behind others slots) a b
+front_behind first others slots a b puts = record {
   front = behind others puts.front;
   rest = behind others puts.rest;
-  all = bytes_are_behind others images numbers ∙ (ap (behind others) puts.all ∙ map-append (λ slot. (others + slot.0, slot.1)) puts.front puts.rest);
-  put = has_any_behind first others puts.front a b puts.put;
+  all = ap (behind others) puts.all ∙ map-append (λ piece. (others + piece.0, piece.1)) puts.front puts.rest;
+  put = has_behind first others puts.front a b puts.put;
 }
 
 -- all of these, and then some of others in front of further ones
-front_both : (first : ℕ) (xs ys more : List (ℕ × List ℕ)) (a b c : Image) → HasPut first xs a b → PutsFront first ys b c → PutsFront first ((xs ++ ys) ++ more) a c
+pub front_both : (first : ℕ) (xs ys more : List (ℕ × List ℕ)) (a b c : Image) → HasPut first xs a b → PutsFront first ys b c → PutsFront first ((xs ++ ys) ++ more) a c
 front_both first xs ys more a b c has puts = record {
   front = xs ++ puts.front;
   rest = puts.rest ++ more;
@@ -122,23 +105,23 @@ front_both first xs ys more a b c has puts = record {
 
 -- ---- the stores up to a place
 
-one_more : (others : ℕ) (kept : List Kept) (i : ℕ) (one : Kept) → slice_get kept i ≡ Some one → kept_bytes others (take (i + 1) kept) ≡ kept_bytes others (take i kept) ++ bytes_behind (others + kept_slots (take i kept)) one.slots one.changed
+one_more : (others : ℕ) (kept : List Kept) (i : ℕ) (one : Kept) → slice_get kept i ≡ Some one → kept_bytes others (take (i + 1) kept) ≡ kept_bytes others (take i kept) ++ behind (others + kept_sectors (take i kept)) (pieces_kept one)
 one_more others [] i one found = absurd (none_of i found) where
   none_of : (n : ℕ) → slice_get {X = Kept} [] n ≡ Some one → ⊥
   none_of n e = cc
 one_more others (k ∷ kept) zero one found =
     let same : k ≡ one = cc in
-    let none : others + kept_slots (take zero (k ∷ kept)) ≡ others = omega arith in
-    append-nil (bytes_behind others k.slots k.changed)
-    ∙ ap (λ (x : Kept). bytes_behind others x.slots x.changed) same
-    ∙ ap (λ n. bytes_behind n one.slots one.changed) (sym none)
+    let none : others + kept_sectors (take zero (k ∷ kept)) ≡ others = omega arith in
+    append-nil (behind others (pieces_kept k))
+    ∙ ap (λ (x : Kept). behind others (pieces_kept x)) same
+    ∙ ap (λ n. behind n (pieces_kept one)) (sym none)
 one_more others (k ∷ kept) (suc i) one found =
     let more : suc i + 1 ≡ suc (i + 1) = omega arith in
-    let sum : (others + k.dbd.roots) + kept_slots (take i kept) ≡ others + kept_slots (take (suc i) (k ∷ kept)) = omega (arith, sum_by-cons (λ (x : Kept). x.dbd.roots) k (take i kept)) in
+    let sum : (others + k.dbd.roots * k.dbd.sectors) + kept_sectors (take i kept) ≡ others + kept_sectors (take (suc i) (k ∷ kept)) = omega (arith, sum_by-cons (λ (x : Kept). x.dbd.roots * x.dbd.sectors) k (take i kept)) in
     ap (λ n. kept_bytes others (take n (k ∷ kept))) more
-    ∙ ap (λ (l : List (ℕ × List ℕ)). bytes_behind others k.slots k.changed ++ l) (one_more (others + k.dbd.roots) kept i one found)
-    ∙ ap (λ n. bytes_behind others k.slots k.changed ++ (kept_bytes (others + k.dbd.roots) (take i kept) ++ bytes_behind n one.slots one.changed)) sum
-    ∙ sym (append_assoc (bytes_behind others k.slots k.changed) (kept_bytes (others + k.dbd.roots) (take i kept)) (bytes_behind (others + kept_slots (take (suc i) (k ∷ kept))) one.slots one.changed))
+    ∙ ap (λ (l : List (ℕ × List ℕ)). behind others (pieces_kept k) ++ l) (one_more (others + k.dbd.roots * k.dbd.sectors) kept i one found)
+    ∙ ap (λ n. behind others (pieces_kept k) ++ (kept_bytes (others + k.dbd.roots * k.dbd.sectors) (take i kept) ++ behind n (pieces_kept one))) sum
+    ∙ sym (append_assoc (behind others (pieces_kept k)) (kept_bytes (others + k.dbd.roots * k.dbd.sectors) (take i kept)) (behind (others + kept_sectors (take (suc i) (k ∷ kept))) (pieces_kept one)))
 
 behind_all : (first : ℕ) (xs some all : List (ℕ × List ℕ)) (at : ℕ) (sector : List ℕ) → (IsGivenAt first some at sector → IsGivenAt first all at sector) → IsGivenAt first (xs ++ some) at sector → IsGivenAt first (xs ++ all) at sector
 behind_all first [] some all at sector more given = more given
@@ -151,59 +134,59 @@ in_front first others [] i at sector given = absurd (nothing i given) where
   nothing (suc n) e = e
 in_front first others (k ∷ kept) zero at sector given = absurd given
 in_front first others (k ∷ kept) (suc i) at sector given =
-    behind_all first (bytes_behind others k.slots k.changed) (kept_bytes (others + k.dbd.roots) (take i kept)) (kept_bytes (others + k.dbd.roots) kept) at sector (λ e. in_front first (others + k.dbd.roots) kept i at sector e) given
+    behind_all first (behind others (pieces_kept k)) (kept_bytes (others + k.dbd.roots * k.dbd.sectors) (take i kept)) (kept_bytes (others + k.dbd.roots * k.dbd.sectors) kept) at sector (λ e. in_front first (others + k.dbd.roots * k.dbd.sectors) kept i at sector e) given
 
 -- the slots of the stores up to a place, and then the others
-up_to : (others : ℕ) (kept : List Kept) (i : ℕ) → kept_bytes others kept ≡ kept_bytes others (take i kept) ++ kept_bytes (others + kept_slots (take i kept)) (drop i kept)
+up_to : (others : ℕ) (kept : List Kept) (i : ℕ) → kept_bytes others kept ≡ kept_bytes others (take i kept) ++ kept_bytes (others + kept_sectors (take i kept)) (drop i kept)
 up_to others [] zero = refl
 up_to others [] (suc i) = refl
 up_to others (k ∷ kept) zero =
-    let none : others ≡ others + kept_slots (take zero (k ∷ kept)) = omega arith in
+    let none : others ≡ others + kept_sectors (take zero (k ∷ kept)) = omega arith in
     ap (λ n. kept_bytes n (k ∷ kept)) none
 up_to others (k ∷ kept) (suc i) =
-    let sum : (others + k.dbd.roots) + kept_slots (take i kept) ≡ others + kept_slots (take (suc i) (k ∷ kept)) = omega (arith, sum_by-cons (λ (x : Kept). x.dbd.roots) k (take i kept)) in
-    ap (λ (l : List (ℕ × List ℕ)). bytes_behind others k.slots k.changed ++ l) (up_to (others + k.dbd.roots) kept i)
-    ∙ (ap (λ n. bytes_behind others k.slots k.changed ++ (kept_bytes (others + k.dbd.roots) (take i kept) ++ kept_bytes n (drop i kept))) sum
-    ∙ sym (append_assoc (bytes_behind others k.slots k.changed) (kept_bytes (others + k.dbd.roots) (take i kept)) (kept_bytes (others + kept_slots (take (suc i) (k ∷ kept))) (drop i kept))))
+    let sum : (others + k.dbd.roots * k.dbd.sectors) + kept_sectors (take i kept) ≡ others + kept_sectors (take (suc i) (k ∷ kept)) = omega (arith, sum_by-cons (λ (x : Kept). x.dbd.roots * x.dbd.sectors) k (take i kept)) in
+    ap (λ (l : List (ℕ × List ℕ)). behind others (pieces_kept k) ++ l) (up_to (others + k.dbd.roots * k.dbd.sectors) kept i)
+    ∙ (ap (λ n. behind others (pieces_kept k) ++ (kept_bytes (others + k.dbd.roots * k.dbd.sectors) (take i kept) ++ kept_bytes n (drop i kept))) sum
+    ∙ sym (append_assoc (behind others (pieces_kept k)) (kept_bytes (others + k.dbd.roots * k.dbd.sectors) (take i kept)) (kept_bytes (others + kept_sectors (take (suc i) (k ∷ kept))) (drop i kept))))
 
 -- the slots of one store are among those of all
-pub one_is_given : (first : ℕ) (kept : List Kept) (i : ℕ) (one : Kept) → slice_get kept i ≡ Some one → (at : ℕ) (sector : List ℕ) → IsGivenAt (first + kept_slots (take i kept)) (bytes_of_slots one.slots one.changed) at sector → IsGivenAt first (kept_bytes 0 kept) at sector
+pub one_is_given : (first : ℕ) (kept : List Kept) (i : ℕ) (one : Kept) → slice_get kept i ≡ Some one → (at : ℕ) (sector : List ℕ) → IsGivenAt (first + kept_sectors (take i kept)) (pieces_kept one) at sector → IsGivenAt first (kept_bytes 0 kept) at sector
 one_is_given first kept i one found at sector given =
     in_front first 0 kept (i + 1) at sector
     (subst (λ (l : List (ℕ × List ℕ)). IsGivenAt first l at sector) (sym (one_more 0 kept i one found))
-    (is_given_back first (kept_bytes 0 (take i kept)) (bytes_behind (0 + kept_slots (take i kept)) one.slots one.changed) at sector
-    (subst (λ n. IsGivenAt first (bytes_behind n one.slots one.changed) at sector) (omega arith)
-    (is_given_behind first (kept_slots (take i kept)) one.slots one.changed at sector given))))
+    (is_given_back first (kept_bytes 0 (take i kept)) (behind (0 + kept_sectors (take i kept)) (pieces_kept one)) at sector
+    (subst (λ n. IsGivenAt first (behind n (pieces_kept one)) at sector) (omega arith)
+    (is_given_behind first (kept_sectors (take i kept)) (pieces_kept one) at sector given))))
 
-module _ (first : ℕ) (kept : List Kept) (i : ℕ) (one : Kept) (found : slice_get kept i ≡ Some one) (at : ℕ) (is : at ≡ first + kept_slots (take i kept)) where
-  may_one : (a b : Image) → MayPut at (bytes_of_slots one.slots one.changed) a b → MayPut first (kept_bytes 0 kept) a b
-  may_one a b may = may_more first at (bytes_of_slots one.slots one.changed) (kept_bytes 0 kept) a b (λ k sector given. one_is_given first kept i one found k sector (subst (λ n. IsGivenAt n (bytes_of_slots one.slots one.changed) k sector) is given)) may
+module _ (first : ℕ) (kept : List Kept) (i : ℕ) (one : Kept) (found : slice_get kept i ≡ Some one) (at : ℕ) (is : at ≡ first + kept_sectors (take i kept)) where
+  may_one : (a b : Image) → MayPut at (pieces_kept one) a b → MayPut first (kept_bytes 0 kept) a b
+  may_one a b may = may_more first at (pieces_kept one) (kept_bytes 0 kept) a b (λ k sector given. one_is_given first kept i one found k sector (subst (λ n. IsGivenAt n (pieces_kept one) k sector) is given)) may
 
-  pub next_within : (old mid new : DiskState) → Within (MayPut first (kept_bytes 0 kept)) old mid → Follows (MayPut first (kept_bytes 0 kept)) old mid → Within (MayPut at (bytes_of_slots one.slots one.changed)) mid new → Within (MayPut first (kept_bytes 0 kept)) old new
+  pub next_within : (old mid new : DiskState) → Within (MayPut first (kept_bytes 0 kept)) old mid → Follows (MayPut first (kept_bytes 0 kept)) old mid → Within (MayPut at (pieces_kept one)) mid new → Within (MayPut first (kept_bytes 0 kept)) old new
   next_within old mid new before follows after =
       within_within (MayPut first (kept_bytes 0 kept)) (MayPut first (kept_bytes 0 kept)) (MayPut first (kept_bytes 0 kept)) old mid new (λ a c may. may) (may_both first (kept_bytes 0 kept))
-      before follows (within_more (MayPut at (bytes_of_slots one.slots one.changed)) (MayPut first (kept_bytes 0 kept)) mid new may_one after)
+      before follows (within_more (MayPut at (pieces_kept one)) (MayPut first (kept_bytes 0 kept)) mid new may_one after)
 
-  pub next_follows : (old mid new : DiskState) → Follows (MayPut first (kept_bytes 0 kept)) old mid → Follows (MayPut at (bytes_of_slots one.slots one.changed)) mid new → Follows (MayPut first (kept_bytes 0 kept)) old new
+  pub next_follows : (old mid new : DiskState) → Follows (MayPut first (kept_bytes 0 kept)) old mid → Follows (MayPut at (pieces_kept one)) mid new → Follows (MayPut first (kept_bytes 0 kept)) old new
   next_follows old mid new before after =
       follows_on (MayPut first (kept_bytes 0 kept)) (MayPut first (kept_bytes 0 kept)) (MayPut first (kept_bytes 0 kept)) old mid new (may_both first (kept_bytes 0 kept)) before
-      (follows_more (MayPut at (bytes_of_slots one.slots one.changed)) (MayPut first (kept_bytes 0 kept)) mid new may_one after)
+      (follows_more (MayPut at (pieces_kept one)) (MayPut first (kept_bytes 0 kept)) mid new may_one after)
 
-  pub next_front : (a b c : Image) → HasPut first (kept_bytes 0 (take i kept)) a b → PutsFront at (bytes_of_slots one.slots one.changed) b c → PutsFront first (kept_bytes 0 kept) a c
+  pub next_front : (a b c : Image) → HasPut first (kept_bytes 0 (take i kept)) a b → PutsFront at (pieces_kept one) b c → PutsFront first (kept_bytes 0 kept) a c
   next_front a b c before puts =
-      let here : PutsFront (first + kept_slots (take i kept)) (bytes_of_slots one.slots one.changed) b c = subst (λ n. PutsFront n (bytes_of_slots one.slots one.changed) b c) is puts in
-      let later : PutsFront first (bytes_behind (0 + kept_slots (take i kept)) one.slots one.changed) b c =
-      subst (λ n. PutsFront first (bytes_behind n one.slots one.changed) b c) (omega arith) (front_behind first (kept_slots (take i kept)) one.slots one.changed b c here) in
-      let more = kept_bytes (0 + kept_slots (take (i + 1) kept)) (drop (i + 1) kept) in
+      let here : PutsFront (first + kept_sectors (take i kept)) (pieces_kept one) b c = subst (λ n. PutsFront n (pieces_kept one) b c) is puts in
+      let later : PutsFront first (behind (0 + kept_sectors (take i kept)) (pieces_kept one)) b c =
+      subst (λ n. PutsFront first (behind n (pieces_kept one)) b c) (omega arith) (front_behind first (kept_sectors (take i kept)) (pieces_kept one) b c here) in
+      let more = kept_bytes (0 + kept_sectors (take (i + 1) kept)) (drop (i + 1) kept) in
       subst (λ (l : List (ℕ × List ℕ)). PutsFront first l a c)
       (sym (up_to 0 kept (i + 1) ∙ ap (λ (l : List (ℕ × List ℕ)). l ++ more) (one_more 0 kept i one found)))
-      (front_both first (kept_bytes 0 (take i kept)) (bytes_behind (0 + kept_slots (take i kept)) one.slots one.changed) more a b c before later)
+      (front_both first (kept_bytes 0 (take i kept)) (behind (0 + kept_sectors (take i kept)) (pieces_kept one)) more a b c before later)
 
-  pub next_has : (a b c : Image) → HasPut first (kept_bytes 0 (take i kept)) a b → HasPut at (bytes_of_slots one.slots one.changed) b c → HasPut first (kept_bytes 0 (take (i + 1) kept)) a c
+  pub next_has : (a b c : Image) → HasPut first (kept_bytes 0 (take i kept)) a b → HasPut at (pieces_kept one) b c → HasPut first (kept_bytes 0 (take (i + 1) kept)) a c
   next_has a b c before after =
-      let here : HasPut (first + kept_slots (take i kept)) (bytes_of_slots one.slots one.changed) b c = subst (λ n. HasPut n (bytes_of_slots one.slots one.changed) b c) is after in
-      let behind : HasPut first (bytes_behind (0 + kept_slots (take i kept)) one.slots one.changed) b c = subst (λ n. HasPut first (bytes_behind n one.slots one.changed) b c) (omega arith) (has_behind first (kept_slots (take i kept)) one.slots one.changed b c here) in
-      subst (λ (l : List (ℕ × List ℕ)). HasPut first l a c) (sym (one_more 0 kept i one found)) (has_both first (kept_bytes 0 (take i kept)) (bytes_behind (0 + kept_slots (take i kept)) one.slots one.changed) a b c before behind)
+      let here : HasPut (first + kept_sectors (take i kept)) (pieces_kept one) b c = subst (λ n. HasPut n (pieces_kept one) b c) is after in
+      let later : HasPut first (behind (0 + kept_sectors (take i kept)) (pieces_kept one)) b c = subst (λ n. HasPut first (behind n (pieces_kept one)) b c) (omega arith) (has_behind first (kept_sectors (take i kept)) (pieces_kept one) b c here) in
+      subst (λ (l : List (ℕ × List ℕ)). HasPut first l a c) (sym (one_more 0 kept i one found)) (has_both first (kept_bytes 0 (take i kept)) (behind (0 + kept_sectors (take i kept)) (pieces_kept one)) a b c before later)
 
 -- ---- sums and lists up to a place
 
@@ -253,13 +236,13 @@ all_at P (k ∷ kept) zero one all found = let same : k ≡ one = cc in subst P 
 all_at P (k ∷ kept) (suc i) one all found = all_at P kept i one all.1 found
 
 -- the slots up to the end of a store are among all
-pub slots_within : (kept : List Kept) (i : ℕ) (one : Kept) → slice_get kept i ≡ Some one → kept_slots (take i kept) + one.dbd.roots ≤ kept_slots kept
+pub slots_within : (kept : List Kept) (i : ℕ) (one : Kept) → slice_get kept i ≡ Some one → kept_sectors (take i kept) + one.dbd.roots * one.dbd.sectors ≤ kept_sectors kept
 slots_within kept i one found =
-    omega (arith, sum_more (λ (k : Kept). k.dbd.roots) kept i one found, sum_by-take-le (λ (k : Kept). k.dbd.roots) kept (i + 1))
+    omega (arith, sum_more (λ (k : Kept). k.dbd.roots * k.dbd.sectors) kept i one found, sum_by-take-le (λ (k : Kept). k.dbd.roots * k.dbd.sectors) kept (i + 1))
 
-pub count_within : (kept : List Kept) (i : ℕ) (one : Kept) → slice_get kept i ≡ Some one → kept_count (take i kept) + length one.changed ≤ kept_count kept
+pub count_within : (kept : List Kept) (i : ℕ) (one : Kept) → slice_get kept i ≡ Some one → kept_changed (take i kept) + length one.changed * one.dbd.sectors ≤ kept_changed kept
 count_within kept i one found =
-    omega (arith, sum_more (λ (k : Kept). length k.changed) kept i one found, sum_by-take-le (λ (k : Kept). length k.changed) kept (i + 1))
+    omega (arith, sum_more (λ (k : Kept). length k.changed * k.dbd.sectors) kept i one found, sum_by-take-le (λ (k : Kept). length k.changed * k.dbd.sectors) kept (i + 1))
 
 -- ---- as the stores of a system are seen
 
@@ -272,17 +255,17 @@ partly_stored (k ∷ kept) (suc i) = ap (λ (l : List Stored). stored k ∷ l) (
 
 pub bytes_seen : (others : ℕ) (kept : List Kept) → kept_bytes others kept ≡ all_bytes others (map stored kept) (map (λ (k : Kept). k.changed) kept)
 bytes_seen others [] = refl
-bytes_seen others (k ∷ kept) = ap (λ (l : List (ℕ × List ℕ)). bytes_behind others k.slots k.changed ++ l) (bytes_seen (others + k.dbd.roots) kept)
+bytes_seen others (k ∷ kept) = ap (λ (l : List (ℕ × List ℕ)). behind others (pieces_kept k) ++ l) (bytes_seen (others + k.dbd.roots * k.dbd.sectors) kept)
 
-pub slots_seen : (kept : List Kept) → kept_slots kept ≡ slot_count (map stored kept)
+pub slots_seen : (kept : List Kept) → kept_sectors kept ≡ sector_count (map stored kept)
 slots_seen [] = refl
-slots_seen (k ∷ kept) = omega (arith, slots_seen kept, sum_by-cons (λ (x : Kept). x.dbd.roots) k kept, sum_by-cons (λ (x : Stored). x.dbd.roots) (stored k) (map stored kept))
+slots_seen (k ∷ kept) = omega (arith, slots_seen kept, sum_by-cons (λ (x : Kept). x.dbd.roots * x.dbd.sectors) k kept, sum_by-cons (λ (x : Stored). x.dbd.roots * x.dbd.sectors) (stored k) (map stored kept))
 
-pub count_seen : (kept : List Kept) → kept_count kept ≡ changed_count (map (λ (k : Kept). k.changed) kept)
+pub count_seen : (kept : List Kept) → kept_changed kept ≡ changed_sectors (map stored kept) (map (λ (k : Kept). k.changed) kept)
 count_seen [] = refl
-count_seen (k ∷ kept) = omega (arith, count_seen kept, sum_by-cons (λ (x : Kept). length x.changed) k kept, sum_by-cons (λ (x : List ℕ). length x) k.changed (map (λ (k : Kept). k.changed) kept))
+count_seen (k ∷ kept) = omega (arith, count_seen kept, sum_by-cons (λ (x : Kept). length x.changed * x.dbd.sectors) k kept)
 
-pub sectors_seen : (kept : List Kept) → AllByRecursion (λ (s : Stored). s.dbd.sectors ≤ 1) (map stored kept) → AllByRecursion (λ (k : Kept). k.dbd.sectors ≤ 1) kept
+pub sectors_seen : (kept : List Kept) → AllByRecursion (λ (s : Stored). s.dbd.sectors ≤ 8) (map stored kept) → AllByRecursion (λ (k : Kept). k.dbd.sectors ≤ 8) kept
 sectors_seen [] all = tt
 sectors_seen (k ∷ kept) all = (all.0, sectors_seen kept all.1)
 

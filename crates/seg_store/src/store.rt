@@ -7,7 +7,8 @@ ghost use Rattle.model_data.specs.Rows.{record_of, with_record, IsImage, AreRows
 ghost use Rattle.seg_rows.specs.StoreRefused.{set_refusal};
 ghost use Rattle.tm_disk.specs.Disk.{Stays, Within, Follows, WritesAtMost, FailedSince};
 ghost use Rattle.seg_store.specs.ChangedSlots.{stored, with_number, with_changed_number, slot_changed, AreChanged};
-ghost use Rattle.seg_store.specs.DataSectors.{bytes_of_slots, MayPut, HasPut, PutsFront};
+ghost use Rattle.seg_store.specs.DataSectors.{MayPut, HasPut, PutsFront};
+ghost use Rattle.seg_store.specs.WrittenSlots.{pieces_kept};
 ghost use Rattle.seg_store.specs.Slots.{image_root, slot_of_root, lowest_free, slot_for, with_root, rows_of_slots, AreSlots, free_slots, without_root};
 
 use crate::changed::add_changed;
@@ -82,11 +83,11 @@ impl Store {
         })
     }
 
-    /// How many slots there are.
-    pub(crate) fn roots(&self) -> u16
-        ensures { result ≡ self.now.dbd.roots }
+    /// How many sectors the slots have.
+    pub(crate) fn sectors(&self) -> u32
+        ensures { result ≡ self.now.dbd.roots * self.now.dbd.sectors }
     {
-        self.dbd.roots
+        u32::from(self.dbd.roots) * u32::from(self.dbd.sectors)
     }
 
     /// Whether there is a record with this root.
@@ -120,25 +121,33 @@ impl Store {
         self.changed.len() as u32
     }
 
+    // How many sectors the changed slots have.
+    fn dirty_sectors(&self) -> u32
+        ensures { result ≡ length self.now.changed * self.now.dbd.sectors }
+    {
+        let _roots = self.dbd.roots;
+        self.dirty() * u32::from(self.dbd.sectors)
+    }
+
     /// Writes the records of the changed slots into their sectors, in ascending order, where slot 0 has the sector
-    /// `first`; the answer is how many they are, and none is changed then. Nothing is synced. `Disk` comes exactly where
+    /// `first`; the answer is how many sectors those are, and none is changed then. Nothing is synced. `Disk` comes exactly where
     /// the disk failed in the call; then all of them still count as changed. The records and slots stay in any case.
     pub fn write_back<D: Disk>(&mut self, disk: &mut D, first: u32) -> Result<u32, DiskFault>
-        requires area { first + self.old.dbd.roots ≤ (D.state disk.old).size }
-        requires sectors { self.old.dbd.sectors ≤ 1 }
+        requires area { first + self.old.dbd.roots * self.old.dbd.sectors ≤ (D.state disk.old).size }
+        requires sectors { self.old.dbd.sectors ≤ 8 }
         ensures stays { Stays (D.state disk.old) (D.state disk.new) }
         // Whenever a crash comes, each sector is as it was or has the record of its changed slot.
-        ensures any_moment { Within (MayPut first (bytes_of_slots self.old.slots self.old.changed)) (D.state disk.old) (D.state disk.new) }
-        ensures follows { Follows (MayPut first (bytes_of_slots self.old.slots self.old.changed)) (D.state disk.old) (D.state disk.new) }
+        ensures any_moment { Within (MayPut first (pieces_kept self.old)) (D.state disk.old) (D.state disk.new) }
+        ensures follows { Follows (MayPut first (pieces_kept self.old)) (D.state disk.old) (D.state disk.new) }
         // Then each of them is read, and a sync makes it last.
-        ensures shown { OnOk result (IsTrue (D.state disk.old).tells → HasPut first (bytes_of_slots self.old.slots self.old.changed) (D.state disk.old).shown (D.state disk.new).shown) }
+        ensures shown { OnOk result (IsTrue (D.state disk.old).tells → HasPut first (pieces_kept self.old) (D.state disk.old).shown (D.state disk.new).shown) }
         // Where the disk fails, the slots in front are written, and none behind: so they are written in ascending order.
-        ensures ascending { OnErr result (IsTrue (D.state disk.old).tells → PutsFront first (bytes_of_slots self.old.slots self.old.changed) (D.state disk.old).shown (D.state disk.new).shown) }
-        ensures count { IfOk result (λ n. n ≡ length self.old.changed) }
-        ensures few { length self.old.changed ≤ self.old.dbd.roots }
+        ensures ascending { OnErr result (IsTrue (D.state disk.old).tells → PutsFront first (pieces_kept self.old) (D.state disk.old).shown (D.state disk.new).shown) }
+        ensures count { IfOk result (λ n. n ≡ length self.old.changed * self.old.dbd.sectors) }
+        ensures few { length self.old.changed * self.old.dbd.sectors ≤ self.old.dbd.roots * self.old.dbd.sectors }
         ensures written { OnOk result (self.new ≡ record self.old { changed = [] }) }
         ensures kept { OnErr result (self.new ≡ self.old) }
-        ensures writes { WritesAtMost (length self.old.changed) (D.state disk.old) (D.state disk.new) }
+        ensures writes { WritesAtMost (length self.old.changed * self.old.dbd.sectors) (D.state disk.old) (D.state disk.new) }
         ensures no_fault { OnOk result ((D.state disk.new).faults ≡ (D.state disk.old).faults) }
         ensures cause { OnErr result (FailedSince (D.state disk.old) (D.state disk.new)) }
     {
@@ -148,29 +157,30 @@ impl Store {
     }
 
     /// Writes the records of the changed slots into their sectors, in ascending order, where slot 0 has the sector
-    /// `first`; the answer is how many they are. They still count as changed, until `settle`. Nothing is synced. `Disk` comes
+    /// `first`; the answer is how many sectors those are. They still count as changed, until `settle`. Nothing is synced. `Disk` comes
     /// exactly where the disk failed in the call.
     pub fn write_changed<D: Disk>(&self, disk: &mut D, first: u32) -> Result<u32, DiskFault>
-        requires area { first + self.now.dbd.roots ≤ (D.state disk.old).size }
-        requires sectors { self.now.dbd.sectors ≤ 1 }
+        requires area { first + self.now.dbd.roots * self.now.dbd.sectors ≤ (D.state disk.old).size }
+        requires sectors { self.now.dbd.sectors ≤ 8 }
         ensures stays { Stays (D.state disk.old) (D.state disk.new) }
         // Whenever a crash comes, each sector is as it was or has the record of its changed slot.
-        ensures any_moment { Within (MayPut first (bytes_of_slots self.now.slots self.now.changed)) (D.state disk.old) (D.state disk.new) }
-        ensures follows { Follows (MayPut first (bytes_of_slots self.now.slots self.now.changed)) (D.state disk.old) (D.state disk.new) }
+        ensures any_moment { Within (MayPut first (pieces_kept self.now)) (D.state disk.old) (D.state disk.new) }
+        ensures follows { Follows (MayPut first (pieces_kept self.now)) (D.state disk.old) (D.state disk.new) }
         // Then each of them is read, and a sync makes it last.
-        ensures shown { OnOk result (IsTrue (D.state disk.old).tells → HasPut first (bytes_of_slots self.now.slots self.now.changed) (D.state disk.old).shown (D.state disk.new).shown) }
+        ensures shown { OnOk result (IsTrue (D.state disk.old).tells → HasPut first (pieces_kept self.now) (D.state disk.old).shown (D.state disk.new).shown) }
         // Where the disk fails, the slots in front are written, and none behind: so they are written in ascending order.
-        ensures ascending { OnErr result (IsTrue (D.state disk.old).tells → PutsFront first (bytes_of_slots self.now.slots self.now.changed) (D.state disk.old).shown (D.state disk.new).shown) }
-        ensures count { IfOk result (λ n. n ≡ length self.now.changed) }
-        ensures few { length self.now.changed ≤ self.now.dbd.roots }
-        ensures writes { WritesAtMost (length self.now.changed) (D.state disk.old) (D.state disk.new) }
+        ensures ascending { OnErr result (IsTrue (D.state disk.old).tells → PutsFront first (pieces_kept self.now) (D.state disk.old).shown (D.state disk.new).shown) }
+        ensures count { IfOk result (λ n. n ≡ length self.now.changed * self.now.dbd.sectors) }
+        ensures few { length self.now.changed * self.now.dbd.sectors ≤ self.now.dbd.roots * self.now.dbd.sectors }
+        ensures writes { WritesAtMost (length self.now.changed * self.now.dbd.sectors) (D.state disk.old) (D.state disk.new) }
         ensures no_fault { OnOk result ((D.state disk.new).faults ≡ (D.state disk.old).faults) }
         ensures cause { OnErr result (FailedSince (D.state disk.old) (D.state disk.new)) }
     {
-        if put_slots(disk, first, &self.slots, &self.changed).is_err() {
+        let sectors = self.dbd.sectors;
+        if put_slots(disk, first, sectors, &self.slots, &self.changed).is_err() {
             return Err(DiskFault::Disk);
         }
-        Ok(self.dirty())
+        Ok(self.dirty_sectors())
     }
 
     /// The slot of the record with this root, or else the lowest free slot, which the next `set` of

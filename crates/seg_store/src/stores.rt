@@ -5,7 +5,7 @@ ghost use Rattle.std.specs.List.{AllByRecursion};
 ghost use Rattle.tm_disk.specs.Disk.{Stays, Within, Follows, WritesAtMost, FailedSince};
 ghost use Rattle.seg_store.specs.Slots.{AreSlots};
 ghost use Rattle.seg_store.specs.DataSectors.{MayPut, HasPut, PutsFront};
-ghost use Rattle.seg_store.specs.WrittenSlots.{slot_count, changed_count, changed_bytes, all_written};
+ghost use Rattle.seg_store.specs.WrittenSlots.{sector_count, changed_sectors, changed_bytes, all_written};
 
 use crate::Store;
 use crate::write_back::{settle_all, write_all};
@@ -61,12 +61,12 @@ impl Stores {
     }
 
     /// Writes the records of the changed slots of all databases into their sectors, in ascending order, where the
-    /// databases' slots stand one behind the other from the sector `first` on; the answer is how many they are, and none is
+    /// databases' slots stand one behind the other from the sector `first` on; the answer is how many sectors those are, and none is
     /// changed then. Nothing is synced. `Disk` comes exactly where the disk failed in the call; then all of them still count
     /// as changed. The records and slots stay in any case.
     pub fn write_back<D: Disk>(&mut self, disk: &mut D, first: u32) -> Result<u32, DiskFault>
-        requires area { first + slot_count self.old.stores ≤ (D.state disk.old).size }
-        requires sectors { AllByRecursion (λ s. s.dbd.sectors ≤ 1) self.old.stores }
+        requires area { first + sector_count self.old.stores ≤ (D.state disk.old).size }
+        requires sectors { AllByRecursion (λ s. s.dbd.sectors ≤ 8) self.old.stores }
         ensures stays { Stays (D.state disk.old) (D.state disk.new) }
         // Whenever a crash comes, each sector is as it was or has the record of its changed slot.
         ensures any_moment { Within (MayPut first (changed_bytes self.old)) (D.state disk.old) (D.state disk.new) }
@@ -75,10 +75,10 @@ impl Stores {
         ensures shown { OnOk result (IsTrue (D.state disk.old).tells → HasPut first (changed_bytes self.old) (D.state disk.old).shown (D.state disk.new).shown) }
         // Where the disk fails, the slots in front are written, and none behind: so they are written in ascending order.
         ensures ascending { OnErr result (IsTrue (D.state disk.old).tells → PutsFront first (changed_bytes self.old) (D.state disk.old).shown (D.state disk.new).shown) }
-        ensures count { IfOk result (λ n. n ≡ changed_count self.old.changed) }
+        ensures count { IfOk result (λ n. n ≡ changed_sectors self.old.stores self.old.changed) }
         ensures written { OnOk result (self.new ≡ all_written self.old) }
         ensures kept { OnErr result (self.new ≡ self.old) }
-        ensures writes { WritesAtMost (changed_count self.old.changed) (D.state disk.old) (D.state disk.new) }
+        ensures writes { WritesAtMost (changed_sectors self.old.stores self.old.changed) (D.state disk.old) (D.state disk.new) }
         ensures no_fault { OnOk result ((D.state disk.new).faults ≡ (D.state disk.old).faults) }
         ensures cause { OnErr result (FailedSince (D.state disk.old) (D.state disk.new)) }
     {
@@ -88,12 +88,12 @@ impl Stores {
     }
 
     /// Writes the records of the changed slots of all databases into their sectors, in ascending order, where the
-    /// databases' slots stand one behind the other from the sector `first` on; the answer is how many they are. They still
+    /// databases' slots stand one behind the other from the sector `first` on; the answer is how many sectors those are. They still
     /// count as changed, until `settle`: a checkpoint lends the stores while it writes. Nothing is synced. `Disk` comes exactly
     /// where the disk failed in the call.
     pub fn write_changed<D: Disk>(&self, disk: &mut D, first: u32) -> Result<u32, DiskFault>
-        requires area { first + slot_count self.now.stores ≤ (D.state disk.old).size }
-        requires sectors { AllByRecursion (λ s. s.dbd.sectors ≤ 1) self.now.stores }
+        requires area { first + sector_count self.now.stores ≤ (D.state disk.old).size }
+        requires sectors { AllByRecursion (λ s. s.dbd.sectors ≤ 8) self.now.stores }
         ensures stays { Stays (D.state disk.old) (D.state disk.new) }
         // Whenever a crash comes, each sector is as it was or has the record of its changed slot.
         ensures any_moment { Within (MayPut first (changed_bytes self.now)) (D.state disk.old) (D.state disk.new) }
@@ -102,8 +102,8 @@ impl Stores {
         ensures shown { OnOk result (IsTrue (D.state disk.old).tells → HasPut first (changed_bytes self.now) (D.state disk.old).shown (D.state disk.new).shown) }
         // Where the disk fails, the slots in front are written, and none behind: so they are written in ascending order.
         ensures ascending { OnErr result (IsTrue (D.state disk.old).tells → PutsFront first (changed_bytes self.now) (D.state disk.old).shown (D.state disk.new).shown) }
-        ensures count { IfOk result (λ n. n ≡ changed_count self.now.changed) }
-        ensures writes { WritesAtMost (changed_count self.now.changed) (D.state disk.old) (D.state disk.new) }
+        ensures count { IfOk result (λ n. n ≡ changed_sectors self.now.stores self.now.changed) }
+        ensures writes { WritesAtMost (changed_sectors self.now.stores self.now.changed) (D.state disk.old) (D.state disk.new) }
         ensures no_fault { OnOk result ((D.state disk.new).faults ≡ (D.state disk.old).faults) }
         ensures cause { OnErr result (FailedSince (D.state disk.old) (D.state disk.new)) }
     {

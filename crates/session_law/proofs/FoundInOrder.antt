@@ -18,7 +18,7 @@ use Rattle.restart_data.specs.Rules.{first_broken, unless_rule_broken}
 use Rattle.restart_data.specs.Snapshot.{snapshot_in}
 use Rattle.model_system.specs.System.{System}
 use Rattle.model_machine.specs.Machine.{LastingState, empty_state}
-use Rattle.model_image.specs.Areas.{is_single, log_first, snapshot_area, snapshot_first}
+use Rattle.model_system.specs.Areas.{is_single, log_first, snapshot_area, snapshot_first}
 use Rattle.model_image.specs.CutRecords.{records_cut}
 use Rattle.model_image.specs.Faults.{Fault, in_sector, or_fault, unless_any, unless_fault}
 use Rattle.model_image.specs.Replay.{Replay, replay_all, replay_one}

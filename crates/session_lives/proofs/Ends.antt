@@ -17,7 +17,7 @@ use Rattle.checkpointing.specs.Counts.{CountsUpTo}
 use Rattle.checkpointing.proofs.Counted.{up_to_more}
 use Rattle.system_types.specs.ValidSystem.{IsSystem}
 use Rattle.session_law.specs.Measures.{call_raises, last_measure, lives_measure, measure}
-use Rattle.openings.specs.FirstImage.{sectors_needed}
+use Rattle.model_system.specs.Areas.{sectors_needed}
 use Rattle.disk_law.specs.KeptImages.{RecoversEither}
 use Rattle.model_session.specs.Lives.{LifeState, LastLife, last_told, last_number, AreLegal, HasAnswered, LifeLeaves, is_disk_fault, longer}
 use Rattle.model_session.specs.SessionState.{Standing, Outage, DiskEvent, DiskPast, SessionState, Stop, AreStops, LastAnswered, IsStateLeft, IsKnown, told_by, life_gone_on, broken}

@@ -26,10 +26,9 @@ use Rattle.model_session.specs.Session.{MayOpenWith, MayRefuse, OpensFirst, Open
 use Rattle.restart_data.specs.declared.restart.RestartSector.{RestartSector}
 use Rattle.restart_data.specs.Restart.{restart_in}
 use Rattle.model_machine.specs.declared.counts.Counter.{Counter}
-use Rattle.model_image.specs.Areas.{is_single, snapshot_area}
+use Rattle.model_system.specs.Areas.{is_single, sectors_needed, snapshot_area}
 use Rattle.model_image.specs.Counters.{next_sequence}
 use Rattle.model_image.specs.Text.{text_in, first_difference}
-use Rattle.openings.specs.FirstImage.{sectors_needed}
 use Rattle.checkpointing.specs.DefinitionText.{HasText, IsNumberedFrom}
 use Rattle.checkpointing.specs.Counts.{AreUpTo, CountsUpTo, RaisesCounts}
 use Rattle.checkpointing.proofs.Counted.{up_to_more, same_raises}

@@ -6,7 +6,7 @@ use Rattle.std.specs.Option.{option_map}
 use Rattle.tm_disk.specs.Disk.{Image}
 use Rattle.model_system.specs.System.{System}
 use Rattle.model_machine.specs.Machine.{LastingState}
-use Rattle.model_image.specs.Areas.{is_single, snapshot_area}
+use Rattle.model_system.specs.Areas.{is_single, snapshot_area}
 use Rattle.model_image.specs.RecoveredState.{Recovers}
 use Rattle.model_image.specs.Text.{text_in, first_difference}
 use Rattle.model_image.proofs.Answers.{zeros_are_empty}

@@ -3,7 +3,7 @@ use Rattle.std.proofs.Common.{ℕ, ◌≤◌, List, Ok, Err, refl, sym, subst, a
 use Rattle.std.specs.Prelude.{IsTrue}
 use Rattle.model_machine.specs.Machine.{LastingState}
 use Rattle.model_image.specs.RecoveredState.{Recovers}
-use Rattle.openings.specs.FirstImage.{sectors_needed}
+use Rattle.model_system.specs.Areas.{sectors_needed}
 use Rattle.checkpointing.specs.DefinitionText.{HasText}
 use Rattle.openings.specs.OpeningParts.{OpeningParts}
 use Rattle.tm_disk.specs.Disk.{Image, DiskState, IsDisk, Only}

@@ -5,7 +5,7 @@ use Rattle.tm_disk.specs.Disk.{Image, DiskState, IsSameDisk}
 use Rattle.model_system.specs.System.{System}
 use Rattle.model_session.specs.Lives.{AreLegal}
 use Rattle.model_session.specs.SessionState.{DiskEvent, SessionState, Stop, AreAllLives, AreStops, last_life}
-use Rattle.openings.specs.FirstImage.{sectors_needed}
+use Rattle.model_system.specs.Areas.{sectors_needed}
 use Rattle.tm_control.specs.ControlOnDisk.{ControlOnDisk, Lasts}
 use Rattle.tm_control.specs.ClosedControl.{Closes}
 use Rattle.openings.specs.declared.life.Life.{Life}

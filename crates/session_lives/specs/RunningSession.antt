@@ -12,7 +12,7 @@ use Rattle.model_session.specs.SessionState.Standing.{Up as StandsUp, Down as St
 use Rattle.model_session.specs.Session.{OpensFirst}
 use Rattle.model_session.specs.declared.asked.ImageRefused.{ImageRefused}
 use Rattle.model_session.specs.declared.asked.ImageRefused.TheVariants.{Rule, Text as OtherText, Size}
-use Rattle.openings.specs.FirstImage.{sectors_needed}
+use Rattle.model_system.specs.Areas.{sectors_needed}
 use Rattle.checkpointing.specs.DefinitionText.{HasText, IsNumberedFrom}
 use Rattle.checkpointing.specs.Counts.{CountsUpTo}
 use Rattle.system_types.specs.ValidSystem.{IsSystem}

@@ -54,7 +54,7 @@ some_segment line (segment ∷ segments) h = omega arith
 
 database_valid : (line : MacroLine) (content : Macro) (rest : List MacroLine) → broken_by_segment ParentAstray line content rest ≡ None → past_limit content rest ≡ None
     → IsInRange content → All (λ l. IsInRange l.content) rest → IfSome (database_in content rest) IsDatabase
-database_valid line (Database name roots) rest parents few range others =
+database_valid line (Database name roots sectors) rest parents few range others =
     let counted = types_counted (front Segments rest) [] (front_all Segments rest) in
     let some = some_segment line (front Segments rest) parents in
     let most = short_list (λ l. l.number) (front Segments rest) 16 few in
@@ -64,7 +64,8 @@ database_valid line (Database name roots) rest parents few range others =
       short = types_short (front Segments rest) [] (front_holds (λ l. IsInRange l.content) Segments rest others);
       some_root = range.0;
       few_roots = range.1;
-      sectors = refl;
+      some_sector = range.2;
+      few_sectors = range.3;
     }
 database_valid line _ rest parents few range others = tt
 
@@ -101,11 +102,11 @@ found_here : (name : List ℕ) (content : Macro) (lines : List MacroLine) → (h
     → (is_database name content || has (is_database name) lines) ≡ true
     → IsSomeAnd (find (λ d. bytes_eq d.name name) (value_and_then (database_in content lines) (databases_in lines))) (λ d. d.types ≡ types_in [] (front Segments (cond (is_database name content) lines (lines_behind_first (is_database name) lines))))
 unfolding segments_of
-found_here name (Database database roots) lines more h =
+found_here name (Database database roots sectors) lines more h =
     let b = bytes_eq database name in
-    subst (λ (ls : List MacroLine). IsSomeAnd (cond b (Some (record { name = database; roots = roots; sectors = 1; types = types_in [] (front Segments lines) })) (find (λ d. bytes_eq d.name name) (databases_in lines))) (λ d. d.types ≡ types_in [] ls))
+    subst (λ (ls : List MacroLine). IsSomeAnd (cond b (Some (record { name = database; roots = roots; sectors = sectors; types = types_in [] (front Segments lines) })) (find (λ d. bytes_eq d.name name) (databases_in lines))) (λ d. d.types ≡ types_in [] ls))
     (front_of b lines (lines_behind_first (is_database name) lines))
-    (found_by b name (record { name = database; roots = roots; sectors = 1; types = types_in [] (front Segments lines) }) (find (λ d. bytes_eq d.name name) (databases_in lines))
+    (found_by b name (record { name = database; roots = roots; sectors = sectors; types = types_in [] (front Segments lines) }) (find (λ d. bytes_eq d.name name) (databases_in lines))
     (front Segments lines) (front Segments (lines_behind_first (is_database name) lines)) refl (λ e. more (or_right b (has (is_database name) lines) h e)))
 found_here name _ lines more h = more h
 
@@ -149,7 +150,7 @@ keeps_by false lines more here there = there refl
 
 keeps_here : (name : List ℕ) (line : MacroLine) (content : Macro) (rest : List MacroLine) → broken_by_segment ParentAstray line content rest ≡ None → is_database name content ≡ true
     → KeepsParents (front Segments rest)
-keeps_here name line (Database database roots) rest h e = from_broken_in line (front Segments rest) h
+keeps_here name line (Database database roots sectors) rest h e = from_broken_in line (front Segments rest) h
 keeps_here name line _ rest h e = absurd (false≢true e)
 
 keeps_in : (all lines before : List MacroLine) (name : List ℕ) → first_line (OfSegments ParentAstray) all before lines ≡ None → KeepsParents (segments_of name lines)

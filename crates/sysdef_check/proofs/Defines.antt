@@ -7,11 +7,12 @@ use Rattle.system_types.specs.declared.definition.Macro.{Macro}
 use Rattle.system_types.specs.declared.definition.Macro.TheVariants.{Control}
 use Rattle.system_types.specs.Definitions.{IsDefinition, IsInRange, begins_well, is_control}
 use Rattle.system_types.specs.ValidSystem.{IsSystem}
-use Rattle.sysdef_rules.specs.declared.cross.CrossRule.TheVariants.{CodeTwice, TerminalTwice, DatabaseUnknown, DestinationUnknown, OfCalls, OfFormats, OfSegments, ProgramMissing, WrongCount, WrongPad}
+use Rattle.sysdef_rules.specs.declared.cross.CrossRule.TheVariants.{CodeTwice, TerminalTwice, DatabaseUnknown, DestinationUnknown, OfCalls, OfFormats, OfSegments, ProgramMissing, WrongCount, WrongPad, DiskTooLarge, LogsTooShort}
 use Rattle.sysdef_rules.specs.declared.calls.CallRule.TheVariants.{PcbMissing, SsaAstray, NoInsertPath}
 use Rattle.sysdef_rules.specs.declared.segments.SegmentRule.TheVariants.{ParentAstray}
 use Rattle.sysdef_rules.specs.Cross.{cross_rules}
-use Rattle.sysdef_check.specs.Systems.{system_of, control_in, control_of, databases_in}
+use Rattle.sysdef_rules.specs.DiskSizes.{control_in, control_of}
+use Rattle.sysdef_check.specs.Systems.{system_of, databases_in}
 use Rattle.sysdef_check.proofs.Dbds.{databases_valid}
 use Rattle.sysdef_check.proofs.Kept.{rule_kept}
 use Rattle.sysdef_check.proofs.Formats.{formats_kept}
@@ -19,6 +20,7 @@ use Rattle.sysdef_check.proofs.Limits.{few_codes, few_databases, few_formats, fe
 use Rattle.sysdef_check.proofs.Pads.{destinations_kept, pads_kept}
 use Rattle.sysdef_check.proofs.Servable.{programs_serve}
 use Rattle.sysdef_check.proofs.Served.{codes_apart, codes_served}
+use Rattle.sysdef_check.proofs.Sizes.{few_sectors, enough_logs}
 use Rattle.sysdef_check.proofs.Receivers.{receivers_known}
 use Rattle.sysdef_check.proofs.Terminals.{terminals_apart}
 use Rattle.sysdef_check.proofs.Transactions.{transactions_in_range}
@@ -45,6 +47,8 @@ defines_system lines definition kept =
       most_bytes = control.1;
       least_logs = control.2;
       most_logs = control.3;
+      enough_logs = enough_logs lines definition.first (rule_kept lines 19 LogsTooShort kept refl);
+      few_sectors = few_sectors lines control.1 control.3 counts (rule_kept lines 18 DiskTooLarge kept refl);
       few_databases = few_databases lines counts;
       databases = databases_valid lines parents counts definition.in_range;
       few_programs = few_programs (databases_in lines) lines counts;

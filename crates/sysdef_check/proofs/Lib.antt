@@ -6,6 +6,7 @@ pub mod Servable
 pub mod Types
 pub mod Kept
 pub mod Limits
+pub mod Sizes
 pub mod Formats
 pub mod Pads
 pub mod Terminals

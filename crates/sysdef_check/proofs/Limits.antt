@@ -24,7 +24,7 @@ use Rattle.sysdef_check.proofs.Made.{either_false}
 use Rattle.sysdef_check.proofs.Kept.{kept_count}
 use Rattle.tm_types.proofs.Truths.{neither}
 
-abbrev as_count : Bool → ℕ
+abbrev pub as_count : Bool → ℕ
 as_count b = cond b 1 0
 
 count_push : (kind : MacroKind) (before : List MacroLine) (line : MacroLine) → count kind (before ++ line ∷ []) ≡ count kind before + as_count (is_of_kind kind line.content)
@@ -34,7 +34,7 @@ count_push kind before line =
     let one = sum_by-cons f line [] in
     omega (arith, e, one)
 
-count_more : (kind : MacroKind) (line : MacroLine) (lines : List MacroLine) → count kind (line ∷ lines) ≡ as_count (is_of_kind kind line.content) + count kind lines
+pub count_more : (kind : MacroKind) (line : MacroLine) (lines : List MacroLine) → count kind (line ∷ lines) ≡ as_count (is_of_kind kind line.content) + count kind lines
 count_more kind line lines = sum_by-cons (λ l. as_count (is_of_kind kind l.content)) line lines
 
 -- one line more is within the limit
@@ -57,11 +57,11 @@ within_limit rule kind limit all each (line ∷ lines) before h n =
 
 few_before : (all before : List MacroLine) (content : Macro) → is_of_kind Databases content ≡ true → breaks_count all before content ≡ false → count Databases before < 8
 unfolding breaks_count
-few_before all before (Database name roots) e h = leb-false 8 (count Databases before) h
+few_before all before (Database name roots sectors) e h = leb-false 8 (count Databases before) h
 few_before all before _ e h = absurd (false≢true e)
 
 database_counted : (content : Macro) (behind : List MacroLine) (rest : List Dbd) → length (value_and_then (database_in content behind) rest) ≡ as_count (is_of_kind Databases content) + length rest
-database_counted (Database name roots) behind rest = omega arith
+database_counted (Database name roots sectors) behind rest = omega arith
 database_counted _ behind rest = omega arith
 
 databases_counted : (lines : List MacroLine) → length (databases_in lines) ≡ count Databases lines
@@ -77,7 +77,7 @@ region_counted : (content : Macro) (rest : List (List ℕ)) → length (value_an
 region_counted (Region classes) rest = omega arith
 region_counted _ rest = omega arith
 
-regions_counted : (lines : List MacroLine) → length (regions_in lines) ≡ count Regions lines
+pub regions_counted : (lines : List MacroLine) → length (regions_in lines) ≡ count Regions lines
 regions_counted [] = refl
 regions_counted (line ∷ lines) = omega (arith, region_counted line.content (regions_in lines), regions_counted lines, count_more Regions line lines)
 

@@ -5,7 +5,7 @@ use Rattle.std.specs.Str.{bytes_eq}
 use Rattle.tm_types.specs.declared.dbd.Dbd.{Dbd}
 use Rattle.tm_types.specs.declared.dbd.SegType.{SegType}
 use Rattle.system_types.specs.declared.definition.Macro.{Macro}
-use Rattle.system_types.specs.declared.definition.Macro.TheVariants.{Control, Database, Segment, Application, DatabasePcb, DestinationPcb, ModifiablePcb, Transaction, Terminal, Region, Format, Program}
+use Rattle.system_types.specs.declared.definition.Macro.TheVariants.{Database, Segment, Application, DatabasePcb, DestinationPcb, ModifiablePcb, Transaction, Terminal, Region, Format, Program}
 use Rattle.system_types.specs.declared.definition.MacroLine.{MacroLine}
 use Rattle.sysdef_rules.specs.declared.lookups.MacroKind.TheVariants.{Segments}
 use Rattle.model_system.specs.declared.code.Code.{Code}
@@ -17,6 +17,7 @@ use Rattle.model_system.specs.declared.system_program.SystemProgram.{SystemProgr
 use Rattle.model_system.specs.System.{System}
 use Rattle.sysdef_rules.specs.Lookups.{front, is_segment_named, line_number_of, pcbs_of}
 use Rattle.sysdef_rules.specs.Cross.{cross_rules}
+use Rattle.sysdef_rules.specs.DiskSizes.{control_in}
 
 -- the value before those that follow, where there is one
 abbrev pub value_and_then : {A : Type 0} → Option A → List A → List A
@@ -37,9 +38,9 @@ abbrev pub types_in : List MacroLine → List MacroLine → List SegType
 types_in before [] = []
 types_in before (line ∷ lines) = value_and_then (type_in before line.content) (types_in (before ++ line ∷ []) lines)
 
--- The segments of a database stand right behind its DBD. A record has one sector.
+-- The segments of a database stand right behind its DBD.
 abbrev pub database_in : Macro → List MacroLine → Option Dbd
-database_in (Database name roots) behind = Some (record { name = name; roots = roots; sectors = 1; types = types_in [] (front Segments behind) })
+database_in (Database name roots sectors) behind = Some (record { name = name; roots = roots; sectors = sectors; types = types_in [] (front Segments behind) })
 database_in _ behind = None
 
 -- what stands in the macros, in the order of their lines
@@ -126,15 +127,6 @@ code_in _ _ = None
 abbrev pub codes_in : Option (List ℕ) → List MacroLine → List Code
 codes_in psb [] = []
 codes_in psb (line ∷ lines) = value_and_then (code_in psb line.content) (codes_in (psb_after psb line.content) lines)
-
-abbrev pub control_of : Macro → ℕ × ℕ
-control_of (Control qbytes logs) = (qbytes, logs)
-control_of _ = (0, 0)
-
--- the operands of IMSCTRL, which is the first macro
-abbrev pub control_in : List MacroLine → ℕ × ℕ
-control_in [] = (0, 0)
-control_in (line ∷ lines) = control_of line.content
 
 abbrev pub system_of : List MacroLine → System
 system_of lines = record {

@@ -8,7 +8,7 @@ ghost use Rattle.sysdef_check.specs.Systems as spec;
 use crate::databases::{databases_in, pcbs_in};
 use model_system::{Classes, Code, Pcbs, Screen, SystemFormat, SystemProgram};
 use std::alloc::{AllocError, Global};
-use sysdef_rules::pcbs_of;
+use sysdef_rules::{control_in, pcbs_of};
 use system_types::{Macro, MacroLine, System, SystemParts};
 use tm_types::{Dbd, Name};
 
@@ -45,24 +45,6 @@ fn parts_in(alloc: Global, lines: Vec<MacroLine>) -> Result<SystemParts, AllocEr
         formats,
         regions,
     })
-}
-
-fn control_in(lines: &[MacroLine]) -> (u32, u32)
-    ensures { result ≡ spec.control_in lines.now }
-{
-    match lines {
-        [first, ..] => control_of(&first.content),
-        [] => (0, 0),
-    }
-}
-
-fn control_of(content: &Macro) -> (u32, u32)
-    ensures { result ≡ spec.control_of content.now }
-{
-    match content {
-        Macro::Control { qbytes, logs } => (*qbytes, *logs),
-        _ => (0, 0),
-    }
 }
 
 fn codes_in(alloc: Global, lines: &[MacroLine]) -> Result<Vec<Code>, AllocError>

@@ -95,10 +95,14 @@ fn database_in(
     ensures { IfOk result (λ database. database ≡ spec.database_in line.now.content behind.now) }
 {
     match &line.content {
-        Macro::Database { name, roots } => Ok(Some(Dbd {
+        Macro::Database {
+            name,
+            roots,
+            sectors,
+        } => Ok(Some(Dbd {
             name: *name,
             roots: *roots,
-            sectors: 1,
+            sectors: *sectors,
             types: types_in(alloc, front(MacroKind::Segments, behind))?,
         })),
         _ => Ok(None),

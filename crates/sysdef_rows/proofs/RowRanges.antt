@@ -18,7 +18,7 @@ use Rattle.sysdef_rows.specs.declared.pcbs.PcbForm.{PcbForm}
 use Rattle.sysdef_rows.specs.declared.pcbs.PcbForm.TheVariants.{OnDatabase, ToDestination, Modifiable}
 use Rattle.sysdef_rows.specs.Pcbs.{database_pcb, destination_pcb, pcb_form, modifiable_pcb, pcb_of, pcb_row, standing_database, standing_output}
 use Rattle.sysdef_rows.specs.Values.{message_type_in, message_type_of, priorities_in, priorities_of, response_of, segment_kind_of}
-use Rattle.sysdef_rows.specs.Rows.{application_made, application_row, code_part, limit_part, segment_part, control_made, control_row, database_made, database_row, length_part, region_made, region_row, macro_row, segment_made, segment_row, terminal_made, terminal_row, transaction_made, transaction_row}
+use Rattle.sysdef_rows.specs.Rows.{application_made, application_row, code_part, limit_part, segment_part, control_made, control_row, database_made, database_row, length_part, region_made, region_row, macro_row, segment_made, segment_row, slot_part, terminal_made, terminal_row, transaction_made, transaction_row}
 
 -- what holds of a value that is read holds where something besides is judged
 pub also_left : {A B : Type 0} (P : A → Type 0) (a : Result A ℕ) (b : Result B ℕ) → IfOk a P → IfOk (also a b) P
@@ -107,15 +107,20 @@ control_fits ops =
     (or_as_holds (λ n. (131072 ≤ n) × (n ≤ 8388608)) (codes "QBYTES") (number_between 131072 8388608) 8388608 ops (omega arith, omega arith) (number_holds 131072 8388608))
     (or_as_holds (λ n. (64 ≤ n) × (n ≤ 2048)) (codes "LOGS") (number_between 64 2048) 2048 ops (omega arith, omega arith) (number_holds 64 2048)))
 
-database_by : (parts : Result (List ℕ × ℕ) ℕ) → IfOk parts (λ p. (1 ≤ p.1) × (p.1 ≤ 4096)) → IfOk (database_made parts) (Fits Database)
-database_by (Ok (name, roots)) h = (h, refl)
+database_by : (parts : Result (List ℕ × (ℕ × ℕ)) ℕ) → IfOk parts (λ p. ((1 ≤ p.1.0) × (p.1.0 ≤ 4096)) × ((1 ≤ p.1.1) × (p.1.1 ≤ 8))) → IfOk (database_made parts) (Fits Database)
+database_by (Ok (name, (roots, sectors))) h = ((h.0.0, h.0.1, h.1.0, h.1.1), refl)
 database_by (Err rule) h = tt
+
+slot_fits : (ops : List (List ℕ)) → IfOk (slot_part ops) (λ p. ((1 ≤ p.0) × (p.0 ≤ 4096)) × ((1 ≤ p.1) × (p.1 ≤ 8)))
+unfolding slot_part
+slot_fits ops =
+    both_hold (λ n. (1 ≤ n) × (n ≤ 4096)) (λ n. (1 ≤ n) × (n ≤ 8)) _ _
+    (or_as_holds (λ n. (1 ≤ n) × (n ≤ 4096)) (codes "ROOTS") (number_between 1 4096) 4096 ops (omega arith, omega arith) (number_holds 1 4096))
+    (or_as_holds (λ n. (1 ≤ n) × (n ≤ 8)) (codes "SECTORS") (number_between 1 8) 1 ops (omega arith, omega arith) (number_holds 1 8))
 
 database_fits : (ops : List (List ℕ)) → IfOk (database_row ops) (Fits Database)
 unfolding database_row
-database_fits ops =
-    database_by _ (second_holds (λ n. (1 ≤ n) × (n ≤ 4096)) _ _
-    (or_as_holds (λ n. (1 ≤ n) × (n ≤ 4096)) (codes "ROOTS") (number_between 1 4096) 4096 ops (omega arith, omega arith) (number_holds 1 4096)))
+database_fits ops = database_by _ (second_holds (λ p. ((1 ≤ p.0) × (p.0 ≤ 4096)) × ((1 ≤ p.1) × (p.1 ≤ 8))) _ _ (slot_fits ops))
 
 segment_by : (parts : Result ((List ℕ × Option (List ℕ)) × (ℕ × ℕ)) ℕ) → IfOk parts (λ p. ((1 ≤ p.1.0) × (p.1.0 ≤ 32)) × ((1 ≤ p.1.1) × (p.1.1 ≤ 1900))) → IfOk (segment_made parts) (Fits Segment)
 segment_by (Ok ((name, parent), (key, bytes))) h = ((h.0.0, h.0.1, h.1.1), refl)

@@ -29,7 +29,7 @@ transaction_keys = codes "CODE" ∷ codes "MSGTYPE" ∷ codes "PRTY" ∷ codes "
 -- the keys that a macro has
 abbrev pub macro_keys : Kind → List (List ℕ)
 macro_keys Control = codes "QBYTES" ∷ codes "LOGS" ∷ []
-macro_keys Database = codes "NAME" ∷ codes "ROOTS" ∷ []
+macro_keys Database = codes "NAME" ∷ codes "ROOTS" ∷ codes "SECTORS" ∷ []
 macro_keys Segment = segment_keys
 macro_keys Application = codes "PSB" ∷ []
 macro_keys Pcb = pcb_keys

@@ -23,13 +23,16 @@ control_made (Err rule) = Err rule
 unfoldable pub control_row : List (List ℕ) → Result Macro ℕ
 control_row ops = control_made (both (or_as (codes "QBYTES") (number_between 131072 8388608) 8388608 ops) (or_as (codes "LOGS") (number_between 64 2048) 2048 ops))
 
--- DBD NAME, ROOTS
-abbrev pub database_made : Result (List ℕ × ℕ) ℕ → Result Macro ℕ
-database_made (Ok (name, roots)) = Ok (macro.Database name roots)
+-- DBD NAME, ROOTS, SECTORS
+abbrev pub database_made : Result (List ℕ × (ℕ × ℕ)) ℕ → Result Macro ℕ
+database_made (Ok (name, (roots, sectors))) = Ok (macro.Database name roots sectors)
 database_made (Err rule) = Err rule
 
+unfoldable pub slot_part : List (List ℕ) → Result (ℕ × ℕ) ℕ
+slot_part ops = both (or_as (codes "ROOTS") (number_between 1 4096) 4096 ops) (or_as (codes "SECTORS") (number_between 1 8) 1 ops)
+
 unfoldable pub database_row : List (List ℕ) → Result Macro ℕ
-database_row ops = database_made (both (needed (codes "NAME") name_of ops) (or_as (codes "ROOTS") (number_between 1 4096) 4096 ops))
+database_row ops = database_made (both (needed (codes "NAME") name_of ops) (slot_part ops))
 
 -- SEGM NAME, PARENT, KEY, BYTES
 abbrev pub segment_made : Result ((List ℕ × Option (List ℕ)) × (ℕ × ℕ)) ℕ → Result Macro ℕ

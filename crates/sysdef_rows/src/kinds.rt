@@ -65,7 +65,7 @@ pub fn known(kind: Kind, operands: &Operands<'_>) -> Result<(), u8>
 {
     match kind {
         Kind::Control => operands.known_among(&[b"QBYTES", b"LOGS"]),
-        Kind::Database => operands.known_among(&[b"NAME", b"ROOTS"]),
+        Kind::Database => operands.known_among(&[b"NAME", b"ROOTS", b"SECTORS"]),
         Kind::Segment => operands.known_among(&[b"NAME", b"PARENT", b"KEY", b"BYTES"]),
         Kind::Application => operands.known_among(&[b"PSB"]),
         Kind::Pcb => known_in_form(form_of(operands), operands),

@@ -49,6 +49,16 @@ fn roots(operands: &Operands<'_>) -> Result<u16, u8>
     }
 }
 
+#[tactic(auto, unfolding(text_rows::specs::Operands::or_as))]
+fn sectors(operands: &Operands<'_>) -> Result<u8, u8>
+    ensures { result ≡ or_as (codes "SECTORS") (number_between 1 8) 1 operands.now }
+{
+    match operands.only_value(b"SECTORS")? {
+        Some(text) => byte_between(1, 8, text),
+        None => Ok(1),
+    }
+}
+
 #[tactic(auto, unfolding(text_rows::specs::Operands::needed))]
 fn parent(operands: &Operands<'_>) -> Result<Option<Name>, u8>
     ensures { result ≡ needed (codes "PARENT") values.parent_of operands.now }
@@ -178,12 +188,23 @@ fn control_row(operands: &Operands<'_>) -> Result<Macro, u8>
     Ok(Macro::Control { qbytes, logs })
 }
 
+#[tactic(auto, unfolding(crate::specs::Rows::slot_part))]
+fn slot_part(operands: &Operands<'_>) -> Result<(u16, u8), u8>
+    ensures { result ≡ spec.slot_part operands.now }
+{
+    both(roots(operands), sectors(operands))
+}
+
 #[tactic(auto, unfolding(crate::specs::Rows::database_row))]
 fn database_row(operands: &Operands<'_>) -> Result<Macro, u8>
     ensures { result ≡ spec.database_row operands.now }
 {
-    let (name, roots) = both(operands.needed_name(b"NAME"), roots(operands))?;
-    Ok(Macro::Database { name, roots })
+    let (name, (roots, sectors)) = both(operands.needed_name(b"NAME"), slot_part(operands))?;
+    Ok(Macro::Database {
+        name,
+        roots,
+        sectors,
+    })
 }
 
 #[tactic(auto, unfolding(crate::specs::Rows::place_part))]

@@ -11,7 +11,7 @@ use Rattle.sysdef_rules.specs.Segments.{own_line}
 -- There are at most 8 databases, 256 codes, 64 terminals, 8 regions, 32 formats and 64 programs. The line of END
 -- breaks the rule where there is no terminal or no region.
 unfoldable pub breaks_count : List MacroLine → List MacroLine → Macro → Bool
-breaks_count all before (Database name roots) = nat_le 8 (count Databases before)
+breaks_count all before (Database name roots sectors) = nat_le 8 (count Databases before)
 breaks_count all before (Transaction transaction) = nat_le 256 (count Codes before)
 breaks_count all before (Terminal name format) = nat_le 64 (count Terminals before)
 breaks_count all before (Region classes) = nat_le 8 (count Regions before)
@@ -25,7 +25,7 @@ macro_number_at line = option_map (λ l. l.number) line
 
 -- a database has at most 16 segments, and a PSB at most 8 PCBs: the first line past that
 abbrev pub past_limit : Macro → List MacroLine → Option ℕ
-past_limit (Database name roots) behind = macro_number_at (slice_get (front Segments behind) 16)
+past_limit (Database name roots sectors) behind = macro_number_at (slice_get (front Segments behind) 16)
 past_limit (Application psb) behind = macro_number_at (slice_get (front Pcbs behind) 8)
 past_limit _ behind = None
 

@@ -8,11 +8,12 @@ use Rattle.system_types.specs.declared.definition.MacroLine.{MacroLine}
 use Rattle.sysdef_rules.specs.declared.segments.SegmentRule.TheVariants.{Twice, ParentAstray, KeyTooLong, LevelTooHigh}
 use Rattle.sysdef_rules.specs.declared.calls.CallRule.TheVariants.{PcbMissing, SsaAstray, NoInsertPath}
 use Rattle.sysdef_rules.specs.declared.cross.CrossRule.{CrossRule}
-use Rattle.sysdef_rules.specs.declared.cross.CrossRule.TheVariants.{DatabaseTwice, OfSegments, PsbTwice, DatabaseUnknown, DestinationUnknown, CodeTwice, TerminalTwice, ProgramMissing, ProgramAstray, OfCalls, OfFormats, WrongCount, WrongPad}
+use Rattle.sysdef_rules.specs.declared.cross.CrossRule.TheVariants.{DatabaseTwice, OfSegments, PsbTwice, DatabaseUnknown, DestinationUnknown, CodeTwice, TerminalTwice, ProgramMissing, ProgramAstray, OfCalls, OfFormats, WrongCount, WrongPad, DiskTooLarge, LogsTooShort}
 use Rattle.sysdef_rules.specs.Lookups.{has, is_database, is_application_named, is_code_named, is_conversational, is_terminal_named, is_format_named, is_program_named}
 use Rattle.sysdef_rules.specs.Segments.{own_line, broken_by_segment}
 use Rattle.sysdef_rules.specs.Calls.{broken_by_call}
 use Rattle.sysdef_rules.specs.Counts.{broken_by_count}
+use Rattle.sysdef_rules.specs.DiskSizes.{breaks_logs, breaks_size}
 
 -- Each rule says whether a macro breaks it, among all macros and behind those before it. The rules on
 -- segments, on calls, on formats and on counts name the line of a segment, of a call, of a format or of a PCB
@@ -20,7 +21,7 @@ use Rattle.sysdef_rules.specs.Counts.{broken_by_count}
 
 -- a database stands once
 unfoldable pub breaks_database : List MacroLine → Macro → Bool
-breaks_database before (Database name roots) = has (is_database name) before
+breaks_database before (Database name roots sectors) = has (is_database name) before
 breaks_database before _ = false
 
 -- a PSB stands once
@@ -90,6 +91,8 @@ broken_macro_line (OfCalls rule) all before line behind = broken_by_call rule al
 broken_macro_line OfFormats all before line behind = option_or (own_line line (breaks_format all before line.content)) (broken_within line line.content)
 broken_macro_line WrongCount all before line behind = broken_by_count all before line behind
 broken_macro_line WrongPad all before line behind = own_line line (breaks_pad line.content)
+broken_macro_line DiskTooLarge all before line behind = own_line line (breaks_size all line.content behind)
+broken_macro_line LogsTooShort all before line behind = own_line line (breaks_logs all line.content)
 
 -- the number of a rule
 abbrev pub rule_number : CrossRule → ℕ
@@ -111,6 +114,8 @@ rule_number (OfCalls NoInsertPath) = 15
 rule_number OfFormats = 16
 rule_number WrongCount = 17
 rule_number WrongPad = 18
+rule_number DiskTooLarge = 20
+rule_number LogsTooShort = 21
 
 -- The lowest line that breaks a rule. What belongs to a macro stands behind it and before the next
 -- macro that has such lines, so the first macro that breaks the rule has the lowest line.
@@ -139,7 +144,7 @@ abbrev pub rules : List CrossRule
 rules =
     DatabaseTwice ∷ OfSegments Twice ∷ OfSegments ParentAstray ∷ OfSegments KeyTooLong ∷ OfSegments LevelTooHigh ∷ PsbTwice ∷ DatabaseUnknown
     ∷ DestinationUnknown ∷ CodeTwice ∷ TerminalTwice ∷ ProgramMissing ∷ ProgramAstray ∷ OfCalls PcbMissing ∷ OfCalls SsaAstray ∷ OfCalls NoInsertPath
-    ∷ OfFormats ∷ WrongCount ∷ WrongPad ∷ []
+    ∷ OfFormats ∷ WrongCount ∷ WrongPad ∷ DiskTooLarge ∷ LogsTooShort ∷ []
 
 unfoldable pub cross_rules : List MacroLine → Result (Unit {0}) (ℕ × ℕ)
 cross_rules all = keeps_all rules all

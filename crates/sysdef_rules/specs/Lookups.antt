@@ -11,7 +11,7 @@ use Rattle.sysdef_rules.specs.declared.lookups.MacroKind.TheVariants.{Databases,
 
 -- the macros of one kind with a name
 abbrev pub is_database : List ℕ → Macro → Bool
-is_database name (Database database roots) = bytes_eq database name
+is_database name (Database database roots sectors) = bytes_eq database name
 is_database name _ = false
 
 abbrev pub is_segment_named : List ℕ → Macro → Bool
@@ -52,7 +52,7 @@ is_pcb _ = false
 
 -- the macros of a kind
 abbrev pub is_of_kind : MacroKind → Macro → Bool
-is_of_kind Databases (Database name roots) = true
+is_of_kind Databases (Database name roots sectors) = true
 is_of_kind Segments (Segment name parent key bytes) = true
 is_of_kind Pcbs content = is_pcb content
 is_of_kind Codes (Transaction transaction) = true

@@ -65,5 +65,5 @@ broken_in rule line segments = first_segment rule segments [] segments
 
 -- the lowest line of a database that breaks the rule; the segments stand right behind the DBD
 abbrev pub broken_by_segment : SegmentRule → MacroLine → Macro → List MacroLine → Option ℕ
-broken_by_segment rule line (Database name roots) behind = broken_in rule line (front Segments behind)
+broken_by_segment rule line (Database name roots sectors) behind = broken_in rule line (front Segments behind)
 broken_by_segment rule line _ behind = None

@@ -10,6 +10,7 @@ use crate::calls::{CallRule, broken_by_call};
 use crate::counts::broken_by_count;
 use crate::named::NamedMacros;
 use crate::segments::{SegmentRule, broken_by_segment};
+use crate::sizes::{breaks_logs, breaks_size};
 use std::alloc::{AllocError, Global};
 use system_types::{Macro, MacroLine};
 
@@ -43,6 +44,10 @@ pub enum CrossRule {
     WrongCount,
     /// A scratch pad has a length of 1 to 15 or above 1,000.
     WrongPad,
+    /// The disk would have more than 65,536 sectors.
+    DiskTooLarge,
+    /// A log area has less than 64 sectors for each that a record has.
+    LogsTooShort,
 }
 
 #[tactic(auto, unfolding(crate::specs::Cross::breaks_database))]
@@ -210,6 +215,8 @@ fn broken_line(
         CrossRule::OfFormats => broken_by_format(all, before, line),
         CrossRule::WrongCount => broken_by_count(all.lines(), before.lines(), line, behind),
         CrossRule::WrongPad => own_line(line, breaks_pad(&line.content)),
+        CrossRule::DiskTooLarge => own_line(line, breaks_size(all.lines(), &line.content, behind)),
+        CrossRule::LogsTooShort => own_line(line, breaks_logs(all.lines(), &line.content)),
     }
 }
 
@@ -235,6 +242,8 @@ fn number_of(rule: CrossRule) -> u8
         CrossRule::OfFormats => 16,
         CrossRule::WrongCount => 17,
         CrossRule::WrongPad => 18,
+        CrossRule::DiskTooLarge => 20,
+        CrossRule::LogsTooShort => 21,
     }
 }
 
@@ -304,6 +313,8 @@ pub fn cross_rules(alloc: Global, lines: &[MacroLine]) -> Result<(), CrossRefuse
         CrossRule::OfFormats,
         CrossRule::WrongCount,
         CrossRule::WrongPad,
+        CrossRule::DiskTooLarge,
+        CrossRule::LogsTooShort,
     ];
     match NamedMacros::of(alloc, lines) {
         Ok(all) => keep_all(alloc, &rules, &all),

@@ -7,6 +7,7 @@
 pub use cross::cross_rules;
 pub use lookups::{MacroKind, front, pcbs_of, segment_number};
 pub use refused::CrossRefused;
+pub use sizes::control_in;
 
 mod calls;
 mod counts;
@@ -15,3 +16,4 @@ mod lookups;
 mod named;
 mod refused;
 mod segments;
+mod sizes;

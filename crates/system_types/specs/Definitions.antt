@@ -19,7 +19,7 @@ pub record IsTransaction (transaction : Transaction) : Type 0 where
 -- the numbers of a macro lie in their ranges
 abbrev pub IsInRange : Macro → Type 0
 IsInRange (Control qbytes logs) = (131072 ≤ qbytes) × (qbytes ≤ 8388608) × (64 ≤ logs) × (logs ≤ 2048)
-IsInRange (Database name roots) = (1 ≤ roots) × (roots ≤ 4096)
+IsInRange (Database name roots sectors) = (1 ≤ roots) × (roots ≤ 4096) × (1 ≤ sectors) × (sectors ≤ 8)
 IsInRange (Segment name parent key bytes) = (1 ≤ key) × (key ≤ 32) × (bytes ≤ 1900)
 IsInRange (macro.Transaction transaction) = IsTransaction transaction
 IsInRange _ = Unit {0}

@@ -1,5 +1,5 @@
 -- What holds of each system that a definition defines: what the rules on its macros give.
-use Rattle.std.specs.Prelude.{◌≡◌, ◌⊎◌, ℕ, ◌-◌, ◌≤◌, List, [], Option, Some, None, All, IsSome, IfSome, IsSomeAnd, IsTrue, length, map, position, slice_get}
+use Rattle.std.specs.Prelude.{◌≡◌, ◌⊎◌, ℕ, ◌-◌, ◌*◌, ◌≤◌, List, [], Option, Some, None, All, IsSome, IfSome, IsSomeAnd, IsTrue, length, map, position, slice_get}
 use Rattle.std.specs.Str.{bytes_eq}
 use Rattle.tm_types.specs.declared.dbd.Dbd.{Dbd}
 use Rattle.tm_types.specs.declared.function.Function.{Function}
@@ -15,20 +15,22 @@ use Rattle.model_system.specs.Codes.{code_at, code_place}
 use Rattle.model_system.specs.Jobs.{program_at}
 use Rattle.model_system.specs.Pcbs.{pcb_at}
 use Rattle.model_system.specs.System.{System}
+use Rattle.model_system.specs.Areas.{most_sectors, sectors_needed}
 use Rattle.model_data.specs.Conditions.{AreSsasOf}
 use Rattle.model_data.specs.Search.{place_named}
 use Rattle.system_types.specs.Definitions.{IsTransaction}
 use Rattle.system_types.specs.Calls.{is_database_function, is_output_function, segment_name}
 
 -- A database has 1 to 16 segment types, each with at most 1,900 bytes, and 1 to 4,096 roots; a record
--- of it has one sector.
+-- of it has 1 to 8 sectors.
 pub record IsDatabase (dbd : Dbd) : Type 0 where
   pub some_type : 1 ≤ length dbd.types
   pub few_types : length dbd.types ≤ 16
   pub short : All (λ type. type.bytes ≤ 1900) dbd.types
   pub some_root : 1 ≤ dbd.roots
   pub few_roots : dbd.roots ≤ 4096
-  pub sectors : dbd.sectors ≡ 1
+  pub some_sector : 1 ≤ dbd.sectors
+  pub few_sectors : dbd.sectors ≤ 8
 
 -- the database of a PCB is there
 abbrev pub IsPcbOf : List Dbd → Pcb → Type 0
@@ -85,7 +87,8 @@ pub record IsServable (databases : List Dbd) (pcbs : List Pcb) (lines : List Scr
 abbrev pub AreApart : List (List ℕ) → Type 0
 AreApart names = (place : ℕ) (name : List ℕ) → slice_get names place ≡ Some name → position (λ other. bytes_eq other name) names ≡ Some place
 
--- The counts, the bytes of the queues and the sectors of a log area lie within their limits, databases
+-- The counts, the bytes of the queues and the sectors of a log area lie within their limits, the areas and the slots
+-- have at most 65,536 sectors in all, and a log area at least 64 for each that the longest record has; databases
 -- and programs are as above, each code has a program, numbers in their ranges and a scratch pad of a length as above,
 -- and codes and terminals are found by their names at their places. Each PCB for output sends to a terminal
 -- or a code, and to no code with conversations. Each format
@@ -95,6 +98,8 @@ pub record IsSystem (system : System) : Type 0 where
   pub most_bytes : system.qbytes ≤ 8388608
   pub least_logs : 64 ≤ system.logs
   pub most_logs : system.logs ≤ 2048
+  pub enough_logs : 64 * most_sectors system ≤ system.logs
+  pub few_sectors : sectors_needed system ≤ 65536
   pub few_databases : length system.databases ≤ 8
   pub databases : All IsDatabase system.databases
   pub few_programs : length system.programs ≤ 64

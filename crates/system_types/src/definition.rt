@@ -13,10 +13,11 @@ pub enum Macro {
         qbytes: u32,
         logs: u32,
     },
-    /// DBD: the name, and the most roots that the database has, 1 to 4,096.
+    /// DBD: the name, the most roots that the database has, 1 to 4,096, and the sectors of a record, 1 to 8.
     Database {
         name: Name,
         roots: u16,
+        sectors: u8,
     },
     /// SEGM: the name, the name of the parent, which a root lacks, and how many bytes the key has, 1 to
     /// 32, and the data, 1 to 1,900 with the key.

@@ -5,7 +5,7 @@ use Rattle.model_system.specs.System.{System}
 use Rattle.model_machine.specs.Machine.{start_of}
 use Rattle.model_machine.specs.History.{AscendAbove, IsLegal, moment_after}
 use Rattle.deadlock_pick.specs.NoCycles.{HasNoCycles}
-use Rattle.openings.specs.FirstImage.{sectors_needed}
+use Rattle.model_system.specs.Areas.{sectors_needed}
 use Rattle.openings.specs.declared.how.How.{How}
 use Rattle.openings.specs.LifeBeginning.{KeepsBy, BeginsLife}
 use Rattle.openings.specs.declared.life.Life.{Life}

@@ -389,7 +389,7 @@ impl<D: Disk> Control<D> {
         ensures stays { StaysSo D.state self.old self.new }
         ensures taken { IfOk result (λ number. IsTaken self.new.control.system number self.old.journal self.new.journal (D.state self.new.disk)) }
         ensures settled { OnOk result (LeavesSettled self.old.databases self.new.databases self.old.units self.new.units self.old.next_unit self.new.next_unit) }
-        ensures writes { WritesCheckpoint self.old.control.system self.old.databases.changed self.old.journal (D.state self.old.disk) (D.state self.new.disk) }
+        ensures writes { WritesCheckpoint self.old.control.system self.old.databases.stores self.old.databases.changed self.old.journal (D.state self.old.disk) (D.state self.new.disk) }
         ensures refused { IfErr result (λ refusal. ControlStaysUntaken refusal self.old self.new (Checked freeze result)) }
     {
         if let Some(counter) = self.machine.spent() {

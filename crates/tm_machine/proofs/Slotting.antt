@@ -1,5 +1,5 @@
 -- What a turn tells, and what it does to slots.
-use Rattle.std.proofs.Common.{◌≡◌, ℕ, ◌+◌, ◌-◌, ◌<◌, ◌≤◌, ◌++◌, ◌∷◌, [], List, length, length-append, suc, refl, sym, ap, ◌∙◌, subst, arith}
+use Rattle.std.proofs.Common.{◌≡◌, ℕ, ◌+◌, ◌-◌, ◌<◌, ◌≤◌, ◌++◌, ◌∷◌, [], List, length, length-append, refl, sym, ap, ◌∙◌, subst, arith}
 use Rattle.std.specs.Prelude.{Option, Some, None, IsSome, IsSomeAnd, IfOk, Result, Ok, Err, slice_get, slice_set}
 use Rattle.std.specs.List.{AllByRecursion, flat_map}
 use Rattle.std.specs.Option.{option_map_or}
@@ -7,7 +7,6 @@ use Rattle.std.proofs.lemmas.List.{append-nil, append_assoc}
 use Rattle.tm_types.specs.declared.message.Message.{Message}
 use Rattle.tm_types.specs.declared.dbd.Dbd.{Dbd}
 use Rattle.tm_types.specs.declared.resource.Resource.{Resource}
-use Rattle.system_types.specs.ValidSystem.{IsDatabase}
 use Rattle.model_messages.specs.Queue.{queued_message}
 use Rattle.model_system.specs.declared.code_state.CodeState.{CodeState}
 use Rattle.model_system.specs.Jobs.{job_of}
@@ -24,7 +23,6 @@ use Rattle.log_records.proofs.FieldLaws.{number2_length}
 use Rattle.program_rows.specs.DatabasesState.{DatabasesState}
 use Rattle.log_records.specs.ToldRecords.{spelled_records, TellsInRoom as RowsTell}
 use Rattle.program_rows.specs.SlotsState.{SlotsState, slots_state_of, GivesUpSo, HaveSlots, AreOnSlots}
-use Rattle.message_run.proofs.Calls.{all_at}
 use Rattle.message_run.specs.MessageChanges.{next_told}
 use Rattle.lasting_state.specs.Tables.{TablesState, lasting_of}
 use Rattle.region_work.specs.declared.region.Busy.{Busy}
@@ -217,15 +215,10 @@ pub have_by : (system : System) (databases : DatabasesState) → AreDatabases sy
 have_by system databases are on =
     subst (λ n. HaveSlots system.databases n (slots_state_of databases)) are.regions (subst (λ dbds. HaveSlots dbds (length databases.regions) (slots_state_of databases)) are.stores on.have)
 
-sector_each : (dbds : List Dbd) → ((i : ℕ) (d : Dbd) → slice_get dbds i ≡ Some d → IsDatabase d) → AllByRecursion (λ dbd. dbd.sectors ≤ 1) dbds
-sector_each [] h = tt
-sector_each (d ∷ dbds) h = (let one : d.sectors ≡ 1 = (h 0 d refl).sectors in omega (arith, one), sector_each dbds (λ i x q. h (suc i) x q))
-
 pub has_slots : (system : System) (tables : TablesState) (states : List CodeState) (regions : List (Option Busy)) → AreParts system tables states regions → AreOnSlots tables.databases
     → HasSlots (record { system = system; moment = record { lasting = lasting_of (settings_of states) tables; slots = work_slots regions; enqueues = tables.databases.table; raised = flags_of states }; databases = tables.databases })
 has_slots system tables states regions parts on = record {
   have = have_by system tables.databases parts.databases on;
-  one_sector = sector_each system.databases (λ i d q. all_at IsDatabase system.databases i d parts.valid.databases q);
   held = on.holds;
   compatible = on.compatible;
   table_is = refl;

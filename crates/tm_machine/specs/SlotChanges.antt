@@ -100,12 +100,11 @@ TurnsSo old new unit region (Waits resource by) = slots_now new ≡ slots_now ol
 
 -- ---- what always holds
 
--- The slots are those of the system's databases, touched by its regions, which hold them alone; a record has one sector. What
--- lasts has the rows that are committed, and the moment what the regions hold and wait for. The system is valid, and each
--- conversation is of one of its codes, with a pad for it.
+-- The slots are those of the system's databases, touched by its regions, which hold them alone. What lasts has the rows that are
+-- committed, and the moment what the regions hold and wait for. The system is valid, and each conversation is of one of its
+-- codes, with a pad for it.
 pub record HasSlots (state : PartsState) : Type 0 where
   pub have : HaveSlots state.system.databases (length state.system.regions) (slots_now state)
-  pub one_sector : AllByRecursion (λ dbd. dbd.sectors ≤ 1) state.system.databases
   pub held : (region : ℕ) → 1 ≤ region → AllByRecursion (HoldsSlot state.databases.table region) (touched_in region (slots_now state))
   pub compatible : IsTableKept state.databases.table
   pub table_is : state.databases.table ≡ state.moment.enqueues

@@ -9,9 +9,31 @@ pub const BEHIND_QUEUES: &[&[u8]] = &[DATABASE, ECHO, MACROS, SCREEN, PROGRAMS];
 /// The same where a code is serial.
 pub const SERIAL_SYSTEM: &[&[u8]] = &[QUEUES, DATABASE, SERIAL_ECHO, MACROS, SCREEN, PROGRAMS];
 
+/// The same where an account's record has two sectors.
+pub const DOUBLE_SYSTEM: &[&[u8]] = &[QUEUES, DOUBLE_DATABASE, ECHO, MACROS, SCREEN, PROGRAMS];
+
+/// The system with a code that adds 307 movements to an account, whose record has one sector.
+pub const FILLED_SYSTEM: &[&[u8]] = &[QUEUES, DATABASE, ECHO, MACROS, SCREEN, FILL, PROGRAMS];
+
+/// The same system, where an account's record has two sectors.
+pub const FILLED_DOUBLE: &[&[u8]] = &[
+    QUEUES,
+    DOUBLE_DATABASE,
+    ECHO,
+    MACROS,
+    SCREEN,
+    FILL,
+    PROGRAMS,
+];
+
 const QUEUES: &[u8] = b"IMSCTRL QBYTES=1048576,LOGS=256\n";
 
 const DATABASE: &[u8] = b"DBD NAME=ACC,ROOTS=100
+SEGM NAME=ACCT,PARENT=0,KEY=4,BYTES=12
+SEGM NAME=MOVE,PARENT=ACCT,KEY=4,BYTES=12
+";
+
+const DOUBLE_DATABASE: &[u8] = b"DBD NAME=ACC,ROOTS=100,SECTORS=2
 SEGM NAME=ACCT,PARENT=0,KEY=4,BYTES=12
 SEGM NAME=MOVE,PARENT=ACCT,KEY=4,BYTES=12
 ";
@@ -127,6 +149,26 @@ CALL CHNG 1 B
 CALL ISRT 1 C
 CALL CHNG 1 B
 CALL PURG 1
+END
+ENDPROG
+";
+
+/// A code that adds movements 0001 to 0307 to an account, and its program.
+const FILL: &[u8] = b"APPLCTN PSB=FILLP
+PCB TYPE=DB,DBDNAME=ACC,PROCOPT=A
+TRANSACT CODE=FILL
+PROGRAM FILLP
+CALL GU 0 A
+WORD B A 2
+SET N \"0\"
+SET D \"1\"
+LABEL L
+ADD N D
+SET M N
+PAD M 4
+CALL ISRT 1 M ACCT=B MOVE
+IF N <> \"307\" GOTO L
+CALL ISRT 0 M
 END
 ENDPROG
 ";

@@ -5,10 +5,13 @@ use crate::test_faults::{
     TURNS_PRINTED,
 };
 use crate::test_runs::{DRILL, compare, disk_of, expect, joined, told, told_new};
-use crate::test_system::{BEHIND_QUEUES, SERIAL_SYSTEM, SYSTEM};
+use crate::test_system::{
+    BEHIND_QUEUES, DOUBLE_SYSTEM, FILLED_DOUBLE, FILLED_SYSTEM, SERIAL_SYSTEM, SYSTEM,
+};
 use crate::worked_rows::{
-    ACCOUNT_OPENED, ACCOUNT_ROWS, BROKEN_COLD, COLD_STARTS, HALF, HALF_PRINTED, ONE_ECHO, OPENED,
-    OPENED_PRINTED, ROWS, SERIAL, SERIAL_PRINTED, TAKEN_BACK, TAKEN_BACK_PRINTED, WORDS,
+    ACCOUNT_OPENED, ACCOUNT_ROWS, BROKEN_COLD, COLD_STARTS, FILLED, FILLED_DOUBLE_PRINTED,
+    FILLED_SINGLE_PRINTED, HALF, HALF_PRINTED, ONE_ECHO, OPENED, OPENED_PRINTED, ROWS, SERIAL,
+    SERIAL_PRINTED, TAKEN_BACK, TAKEN_BACK_PRINTED, WORDS,
 };
 use std::alloc::{AllocError, Global};
 use std::test::Fail;
@@ -44,6 +47,28 @@ fn serial_codes(rt: HostRuntime) -> Result<(), Fail> {
     let disk = disk_of(alloc, 1517, &[])?;
     let report = told(alloc, DRILL, &source, (&[], &[]), disk)?;
     compare("a serial code", &report, (0, SERIAL_PRINTED))
+}
+
+/// A system whose records have two sectors needs a larger disk, and a record of it has room for 4,004 bytes.
+#[test]
+fn double_records(rt: HostRuntime) -> Result<(), Fail> {
+    let alloc = rt.alloc();
+    let system = joined(alloc, DOUBLE_SYSTEM)?;
+    let disk = disk_of(alloc, 1517, &[])?;
+    let report = told(alloc, DRILL, &system, (&[], &[]), disk)?;
+    compare("a small disk", &report, (6, b"STATUS 6 SIZE 1875 1517\n"))?;
+    let single = joined(alloc, FILLED_SYSTEM)?;
+    let source = joined(alloc, &[&single, OPENED, FILLED])?;
+    let disk = disk_of(alloc, 1517, &[])?;
+    let report = told(alloc, DRILL, &source, (&[], &[]), disk)?;
+    let printed = joined(alloc, &[OPENED_PRINTED, FILLED_SINGLE_PRINTED])?;
+    compare("a record of one sector", &report, (0, &printed))?;
+    let double = joined(alloc, FILLED_DOUBLE)?;
+    let source = joined(alloc, &[&double, OPENED, FILLED])?;
+    let disk = disk_of(alloc, 1875, &[])?;
+    let report = told(alloc, DRILL, &source, (&[], &[]), disk)?;
+    let printed = joined(alloc, &[OPENED_PRINTED, FILLED_DOUBLE_PRINTED])?;
+    compare("a record of two sectors", &report, (0, &printed))
 }
 
 /// Sets the version that a disk's restart sector tells.

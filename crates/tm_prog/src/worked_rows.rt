@@ -99,6 +99,18 @@ pub const OPENED: &[u8] = b"IN T9 1 OPEN 0001 1000\nIN T9 2 OPEN 0002 1000\nQUIE
 /// What is printed for it.
 pub const OPENED_PRINTED: &[u8] = b"ACK T9 1\nACK T9 2\nQUIET 14\n";
 
+/// An account gets 306 movements, every second turn being the other region's, and then the 307th, with which its record would have
+/// 4,004 bytes.
+pub const FILLED: &[u8] = b"IN T1 1 FILL 0001\nQUIET 616\nTURN 1\nTURN 1\nTURN 1\nRECV T1\n";
+
+/// What is printed for it where a record has one sector.
+pub const FILLED_SINGLE_PRINTED: &[u8] =
+    b"ACK T1 1\nTURNS SPENT 616\nR1 ABENDED FILL 3 U0903\nR1 IDLE\nR1 IDLE\nOUT T1 1 DFS555I TRAN FILL ABEND U0903\n";
+
+/// And where it has two.
+pub const FILLED_DOUBLE_PRINTED: &[u8] =
+    b"ACK T1 1\nTURNS SPENT 616\nR1 ISRT 1 OK\nR1 ISRT 0 OK\nR1 DONE FILL 3\nOUT T1 1 0307\n";
+
 /// One account is opened, its reply shown and acknowledged, and a checkpoint taken.
 pub const ACCOUNT_OPENED: &[u8] =
     b"IN T9 1 OPEN 0001 1000\nQUIET 100\nRECV T9\nACK T9 1\n/CHECKPOINT\n";

@@ -13,7 +13,7 @@ use Rattle.log_records.specs.RecordReader.{◌>>=◌}
 use Rattle.restart_data.specs.declared.restart.RestartSector.{RestartSector}
 use Rattle.restart_data.specs.Fields.{bytes_at, number8_at}
 use Rattle.restart_data.specs.Restart.{restart_in}
-use Rattle.model_image.specs.Areas.{is_single, snapshot_area}
+use Rattle.model_system.specs.Areas.{is_single, snapshot_area}
 use Rattle.model_image.specs.Faults.{Fault, in_sector, unless_fault}
 use Rattle.model_image.specs.Slots.{image_rows_from}
 use Rattle.model_image.specs.RecoveredState.{snapshot_from, log_in, log_from, state_from, is_later, later_sector, state_with, state_by_restart, Recovers}

@@ -1,16 +1,13 @@
 -- The slots that records name are slots of the system's databases, with bytes that fit their sectors.
-use Rattle.std.proofs.Common.{◌≡◌, ℕ, zero, suc, ◌+◌, ◌*◌, ◌<◌, ◌≤◌, Bool, true, false, List, [], ◌∷◌, length, refl, sym, ap, subst, Some, None, nat_le, IsTrue}
-use Rattle.std.specs.Prelude.{All, slice_get, if◌then◌else◌}
+use Rattle.std.proofs.Common.{◌≡◌, ℕ, ◌+◌, ◌*◌, ◌<◌, ◌≤◌, Bool, true, false, List, [], ◌∷◌, length, refl, sym, subst, Some, None, nat_le, IsTrue}
+use Rattle.std.specs.Prelude.{slice_get, if◌then◌else◌}
 use Rattle.std.specs.Option.{is_some}
 use Rattle.std.specs.List.{AllByRecursion, list_all}
 use Rattle.std.proofs.lemmas.Bool.{leb-true}
-use Rattle.std.proofs.lemmas.List.Elements.{All-head, All-tail}
-use Rattle.std.proofs.lemmas.Option.{same_Some}
 use Rattle.tm_types.specs.declared.dbd.Dbd.{Dbd}
 use Rattle.model_data.specs.Record.{record_limit}
 use Rattle.model_system.specs.System.{System}
 use Rattle.model_image.specs.Slots.{is_image, rows_by, rows_of_bytes}
-use Rattle.system_types.specs.ValidSystem.{IsSystem, IsDatabase}
 use Rattle.image_loading.specs.LoadedStore.{given_to}
 use Rattle.image_records.specs.declared.slots.NamedSlot.{NamedSlot}
 use Rattle.image_records.specs.NamedSlots.{is_slot_of, NamedSlotsAscend}
@@ -19,11 +16,6 @@ use Rattle.image_reading.proofs.Right.{IsRightSlot, in_order, right_slots}
 use Rattle.tm_restart.proofs.NamedSlots.{given_images}
 use Rattle.tm_restart.specs.GivenSlots.{GivenSlots, AreSlotsOf, AreGiven}
 use Rattle.tm_restart.proofs.GivenSectors.{to_all}
-
-pub database_at : (dbds : List Dbd) (place : ℕ) (dbd : Dbd) → All IsDatabase dbds → slice_get dbds place ≡ Some dbd → IsDatabase dbd
-database_at [] place dbd all found = absurd cc
-database_at (d ∷ dbds) zero dbd all found = subst IsDatabase (same_Some d dbd found) (All-head IsDatabase d dbds all)
-database_at (d ∷ dbds) (suc place) dbd all found = database_at dbds place dbd (All-tail IsDatabase d dbds all) found
 
 short_image : (dbd : Dbd) (bytes : List ℕ) → is_image dbd bytes ≡ true → length bytes ≤ record_limit dbd
 unfolding rows_of_bytes
@@ -36,29 +28,23 @@ all_within : (dbd : Dbd) (slots : List (ℕ × List ℕ)) → AllByRecursion (Is
 all_within dbd [] are = tt
 all_within dbd (s ∷ slots) are = (are.0.below, all_within dbd slots are.1)
 
-all_fit : (dbd : Dbd) (slots : List (ℕ × List ℕ)) → dbd.sectors ≡ 1 → AllByRecursion (IsRightSlot dbd) slots → AllByRecursion (λ (s : ℕ × List ℕ). length s.1 ≤ 4000) slots
-all_fit dbd [] one are = tt
-all_fit dbd (s ∷ slots) one are = (fits, all_fit dbd slots one are.1) where
-  limit : record_limit dbd ≡ 4000
-  limit = ap (λ n. 4000 * n) one
+all_fit : (dbd : Dbd) (slots : List (ℕ × List ℕ)) → AllByRecursion (IsRightSlot dbd) slots → AllByRecursion (λ (s : ℕ × List ℕ). length s.1 ≤ 4000 * dbd.sectors) slots
+all_fit dbd [] are = tt
+all_fit dbd (s ∷ slots) are = (short_image dbd s.1 are.0.image, all_fit dbd slots are.1)
 
-  fits : length s.1 ≤ 4000
-  fits = subst (λ n. length s.1 ≤ n) limit (short_image dbd s.1 are.0.image)
-
-are_of : (system : System) (named : List NamedSlot) (place : ℕ) (dbd : Dbd) → IsSystem system → NamedSlotsAscend named → list_all (is_slot_of system) named ≡ true → slice_get system.databases place ≡ Some dbd → AreSlotsOf dbd (of_database (place + 1) named)
-are_of system named place dbd defined ascending are found =
+are_of : (system : System) (named : List NamedSlot) (place : ℕ) (dbd : Dbd) → NamedSlotsAscend named → list_all (is_slot_of system) named ≡ true → slice_get system.databases place ≡ Some dbd → AreSlotsOf dbd (of_database (place + 1) named)
+are_of system named place dbd ascending are found =
     let right = right_slots system place dbd named found are in
-    let database = database_at system.databases place dbd defined.databases found in
     record {
       ascending = in_order (place + 1) named ascending;
       within = all_within dbd (of_database (place + 1) named) right;
-      fits = all_fit dbd (of_database (place + 1) named) database.sectors right;
+      fits = all_fit dbd (of_database (place + 1) named) right;
     }
 
-pub are_given : (system : System) (named : List NamedSlot) (given : GivenSlots) → IsSystem system → NamedSlotsAscend named → list_all (is_slot_of system) named ≡ true → AreNamedBytes (length system.databases) named given → AreGiven system given
-are_given system named given defined ascending are bytes = record {
+pub are_given : (system : System) (named : List NamedSlot) (given : GivenSlots) → NamedSlotsAscend named → list_all (is_slot_of system) named ≡ true → AreNamedBytes (length system.databases) named given → AreGiven system given
+are_given system named given ascending are bytes = record {
   count = bytes.count_is;
-  each = λ place dbd slots found there. subst (AreSlotsOf dbd) (sym (bytes.each place slots there)) (are_of system named place dbd defined ascending are found);
+  each = λ place dbd slots found there. subst (AreSlotsOf dbd) (sym (bytes.each place slots there)) (are_of system named place dbd ascending are found);
 }
 
 -- each spells a record or none

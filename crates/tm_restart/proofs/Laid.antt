@@ -1,5 +1,5 @@
 -- What the writes of a restart leave, for what was made of an image.
-use Rattle.std.proofs.Common.{◌≡◌, ℕ, ◌≤◌, false, List, [], length, refl, sym, ◌∙◌, ap, subst, inl, inr, ⊎_elim, IsTrue, arith}
+use Rattle.std.proofs.Common.{◌≡◌, ℕ, ◌≤◌, false, List, length, refl, sym, ◌∙◌, ap, subst, inl, inr, ⊎_elim, IsTrue, arith}
 use Rattle.std.proofs.lemmas.Bool.{cases_Bool}
 use Rattle.tm_disk.specs.Disk.{Image, DiskState, IsDisk, Follows, Within, Only}
 use Rattle.tm_disk.proofs.Words.{within_where, leaves_none}
@@ -7,9 +7,8 @@ use Rattle.model_system.specs.System.{System}
 use Rattle.model_machine.specs.Machine.{LastingState}
 use Rattle.restart_data.specs.declared.restart.RestartSector.{RestartSector}
 use Rattle.model_image.specs.Text.{text_in}
-use Rattle.model_image.specs.Areas.{snapshot_area}
+use Rattle.model_system.specs.Areas.{snapshot_area}
 use Rattle.model_image.specs.HeldStores.{HoldsStores}
-use Rattle.checkpointing.specs.SnapshotRecords.{snapshot_records}
 use Rattle.tm_restart.specs.GivenSlots.{GivenSlots}
 use Rattle.tm_restart.specs.LifeWrites.{IsRewritten, Rewrites}
 use Rattle.tm_restart.proofs.Behind.{rows_found}
@@ -25,7 +24,7 @@ use Rattle.tm_restart.proofs.Unreading.{unread_images}
 use Rattle.openings.specs.KeptImage.{KeepsImage}
 use Rattle.openings.specs.Renewal.{IsRenewed}
 use Rattle.tm_restart.specs.PreparedLife.{IsPrepared, IsMadeOf}
-use Rattle.tm_restart.proofs.Reopened.{is_renewed, names_none, rewrites_recover, unread_number, unread_text}
+use Rattle.tm_restart.proofs.Reopened.{is_renewed, rewrites_recover, unread_number, unread_text}
 use Rattle.tm_restart.proofs.Renewed.{same_restart}
 
 module _ (system : System) (text : List ℕ) (given : GivenSlots) (parts : OpeningParts) (state : LastingState) (bytes : List ℕ) (now : RestartSector) (prepared : IsPrepared system text given parts state bytes now) where
@@ -85,7 +84,7 @@ module _ (system : System) (text : List ℕ) (given : GivenSlots) (parts : Openi
 
   held : (a e : Image) → IsMadeOf system text given parts state now a → IsRewritten system given bytes now a e → HoldsStores system parts.stores.stores e
   held a e made done =
-      stores_held system made.restart made.snapshot given bytes now a e made.before done parts.stores.stores made.loaded (snapshot_records now.checkpoint parts.next_unit state []) (names_none system now.checkpoint parts.next_unit state) state.rows
+      stores_held system made.restart made.snapshot given bytes now a e made.before done parts.stores.stores made.loaded state.rows
       (rows_found system a made.restart made.snapshot state made.before.restart made.before.has_snapshot made.recovers)
 
   -- ---- of each image that may be left

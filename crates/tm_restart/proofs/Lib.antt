@@ -1,6 +1,7 @@
 pub mod Replayed
 pub mod GivenSectors
 pub mod AllPut
+pub mod Ascending
 pub mod Unreading
 pub mod Rewriting
 pub mod Same

@@ -3,7 +3,7 @@ use Rattle.std.proofs.Common.{◌≡◌, ℕ, ◌*◌, sym, ◌∙◌, ap, arith
 use Rattle.std.specs.Prelude.{Option}
 use Rattle.tm_disk.specs.Disk.{Image}
 use Rattle.model_system.specs.System.{System}
-use Rattle.model_image.specs.Areas.{log_first}
+use Rattle.model_system.specs.Areas.{log_first}
 use Rattle.model_image.specs.RecoveredState.{first_later}
 use Rattle.image_reading.proofs.Sectors.{in_both, later_in_both}
 

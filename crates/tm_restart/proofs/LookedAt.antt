@@ -8,7 +8,7 @@ use Rattle.restart_data.specs.declared.restart.RestartSector.{RestartSector}
 use Rattle.restart_data.specs.Restart.{restart_in}
 use Rattle.seg_store.specs.Slots.{rows_of_slots}
 use Rattle.seg_store.specs.ChangedSlots.{stored}
-use Rattle.model_image.specs.Areas.{is_single, snapshot_area, log_first}
+use Rattle.model_system.specs.Areas.{is_single, snapshot_area, log_first}
 use Rattle.model_image.specs.CutRecords.{IsRecordCutOff}
 use Rattle.model_image.specs.Faults.{Fault, unless_fault}
 use Rattle.model_image.specs.Slots.{all_slots, slot_fault, rows_of_databases}

@@ -1,5 +1,5 @@
 -- What is made of an image that was found: a life may begin with it, and it is that of the image.
-use Rattle.std.proofs.Common.{◌≡◌, ℕ, ◌+◌, ◌-◌, ◌*◌, ◌<◌, ◌≤◌, Bool, not, ◌&&◌, List, [], length, map, refl, sym, ◌∙◌, ap, subst, arith, None, Ok, nat_lt}
+use Rattle.std.proofs.Common.{◌≡◌, ℕ, ◌+◌, ◌-◌, ◌<◌, ◌≤◌, Bool, not, ◌&&◌, List, [], length, map, refl, sym, ◌∙◌, ap, subst, arith, None, Ok, nat_lt}
 use Rattle.std.specs.List.{AllByRecursion}
 use Rattle.std.proofs.lemmas.Bool.{lt-ltb, ne_eqb}
 use Rattle.tm_disk.specs.Disk.{Image}
@@ -11,15 +11,14 @@ use Rattle.restart_data.specs.Restart.{IsRestart}
 use Rattle.seg_store.specs.Slots.{Stored, rows_of_slots}
 use Rattle.seg_store.specs.ChangedSlots.{Kept, AllStores, stored, all_stores}
 use Rattle.system_types.specs.ValidSystem.{IsSystem}
-use Rattle.model_image.specs.Areas.{snapshot_area, most_sectors}
-use Rattle.image_loading.proofs.Single.{single_sectors}
-use native.Mathlib.Nat.{mul-le-mul_right}
+use Rattle.model_system.specs.Areas.{snapshot_area}
+use Rattle.model_image.proofs.Places.{slot_above}
 use Rattle.model_image.specs.Counters.{next_sequence}
 use Rattle.model_image.specs.RecoveredState.{log_in, Recovers}
 use Rattle.image_law.specs.SegmentCounts.{AreSegmentsCounted}
 use Rattle.checkpointing.specs.SnapshotRecords.{snapshot_records, IsOfSystem}
 use Rattle.checkpointing.specs.SpelledRecords.{AddsSpelled, IsWritable}
-use Rattle.checkpointing.specs.Touches.{HasOneSector}
+use Rattle.checkpointing.specs.Touches.{HasFewSectors}
 use Rattle.checkpointing.proofs.Fits.{writable}
 use Rattle.checkpointing.proofs.Judged.{AreCounts}
 use Rattle.checkpointing.proofs.Read.{no_changes}
@@ -39,7 +38,7 @@ use Rattle.tm_restart.specs.FoundImage.{IsFoundJudged, IsSeen}
 use Rattle.tm_restart.specs.PreparedLife.{state_in, sector_behind, IsPrepared, IsMadeOf}
 use Rattle.tm_restart.proofs.Limits.{all_below}
 use Rattle.tm_restart.proofs.GivenSlots.{are_given, are_images}
-use Rattle.tm_restart.proofs.ShownIn.{shown_in, writable_in, one_sector_in}
+use Rattle.tm_restart.proofs.ShownIn.{shown_in, writable_in, few_sectors_in}
 
 -- a state with the rows of these stores
 abbrev pub rows_with : LastingState → List Kept → LastingState
@@ -127,8 +126,8 @@ module _ (system : System) (text : List ℕ) (found : Found) (judged : IsFoundJu
     pub spelled_in : (parts : OpeningParts) → AreOpeningParts system state parts → IsWritable (state_in parts)
     spelled_in parts are = writable_in system state parts are of_system spelled
 
-    pub one_sector : (parts : OpeningParts) → AreOpeningParts system state parts → AllByRecursion HasOneSector parts.stores.stores
-    one_sector parts are = one_sector_in system state parts defined are
+    pub few_sectors : (parts : OpeningParts) → AreOpeningParts system state parts → AllByRecursion HasFewSectors parts.stores.stores
+    few_sectors parts are = few_sectors_in system state parts defined are
 
     counts : AreCounts (restart.checkpoint + 1) unit
     counts = record {
@@ -140,7 +139,7 @@ module _ (system : System) (text : List ℕ) (found : Found) (judged : IsFoundJu
 
     pub given_are : AreGiven system found.looked.named.given.items
     given_are =
-        are_given system found.looked.reread.replayed.slots found.looked.named.given.items defined judged.behind.behind.slots.ascending judged.behind.behind.images judged.given
+        are_given system found.looked.reread.replayed.slots found.looked.named.given.items judged.behind.behind.slots.ascending judged.behind.behind.images judged.given
 
     module _ (short : length text ≤ 262144) (parts : OpeningParts) (are : AreOpeningParts system state parts) (unit_is : parts.next_unit ≡ unit) (bytes : List ℕ)
         (adds : AddsSpelled (snapshot_records (restart.checkpoint + 1) parts.next_unit (state_in parts) []) [] bytes) where
@@ -155,10 +154,9 @@ module _ (system : System) (text : List ℕ) (found : Found) (judged : IsFoundJu
       is_whole : IsWhole system (restart.checkpoint + 1) unit state [] bytes
       is_whole = whole system (restart.checkpoint + 1) unit state [] bytes defined of_system counts keeps.sound (no_changes system) (omega arith) its_own
 
-      pub few_bytes : length bytes ≤ 16777216
+      pub few_bytes : length bytes ≤ 266338304
       few_bytes =
-          let times : 262144 * most_sectors system * length system.regions ≤ 262144 * length system.regions = mul-le-mul_right {m = 262144 * most_sectors system} {n = 262144} (length system.regions) (omega (arith, single_sectors system defined)) in
-          let area : snapshot_area system ≤ 2613 = omega (arith, times, defined.most_bytes, defined.few_regions) in
+          let area : snapshot_area system ≤ 65536 = omega (arith, slot_above system (length system.databases) 0 0, defined.few_sectors) in
           omega (arith, area, is_whole.fits)
 
       abbrev opened : OpeningParts

@@ -13,7 +13,7 @@ use Rattle.restart_data.specs.Rules.{unless_rule_broken}
 use Rattle.restart_data.specs.Restart.{IsRestart, restart_in}
 use Rattle.restart_data.specs.Snapshot.{snapshot_sectors_of, snapshot_in}
 use Rattle.model_image.specs.SectorsAhead.{NoneAhead}
-use Rattle.model_image.specs.Areas.{is_single, snapshot_area, snapshot_first, log_first}
+use Rattle.model_system.specs.Areas.{is_single, snapshot_area, snapshot_first, log_first}
 use Rattle.model_image.specs.CutRecords.{Cut, cut_of, records_cut, IsRecordCutOff}
 use Rattle.model_image.specs.Faults.{Fault, in_sector, unless_any, or_fault, unless_fault}
 use Rattle.model_image.specs.Snapshot.{snapshot_rules}

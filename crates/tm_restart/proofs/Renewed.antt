@@ -1,8 +1,9 @@
 -- What a cold start has written is the first image of a life.
-use Rattle.std.proofs.Common.{◌≡◌, ℕ, zero, suc, ◌+◌, ◌<◌, ◌≤◌, Bool, false, not, ◌||◌, List, [], ◌∷◌, length, take, drop, map, refl, sym, ◌∙◌, ap, subst, inl, inr, ⊎_elim, arith, Some, None, Ok, nat_le, nat_lt}
-use Rattle.std.specs.Prelude.{◌⊎◌, Option, Result, find, slice_get, slice_index_or}
+use Rattle.std.proofs.Common.{◌≡◌, ℕ, zero, suc, ◌+◌, ◌<◌, ◌≤◌, Bool, true, false, not, ◌&&◌, ◌||◌, List, [], ◌∷◌, ◌++◌, length, take, drop, map, refl, sym, ◌∙◌, ap, subst, inl, inr, ⊎_elim, arith, Some, None, Ok, nat_le, nat_lt}
+use Rattle.std.specs.Prelude.{◌⊎◌, Option, Result, find, slice_get, slice_index_or, if◌then◌else◌, ◌==◌}
 use Rattle.std.specs.Option.{option_map}
 use Rattle.std.specs.Int.{w16, from_be_bytes}
+use Rattle.std.proofs.lemmas.List.Concat.{flat_map-cons}
 use Rattle.std.proofs.lemmas.Option.{none-some, same_Some}
 use Rattle.tm_types.specs.declared.dbd.Dbd.{Dbd}
 use Rattle.model_data.specs.declared.row.Row.{Row}
@@ -25,10 +26,10 @@ use Rattle.seg_store.specs.Stores.{empty_store, empty_stores}
 use Rattle.system_types.specs.ValidSystem.{IsSystem}
 use Rattle.model_image.specs.SectorsAhead.{NoneAhead}
 use Rattle.model_image.specs.HeldStores.{HoldsStores}
-use Rattle.model_image.specs.Areas.{is_single, snapshot_area, log_first, data_first}
-use Rattle.model_image.specs.Slots.{used_in, slot_bytes_in, is_wrong_length}
-use Rattle.model_image.specs.Slots.Source.{Spelled}
+use Rattle.model_system.specs.Areas.{is_single, snapshot_area, log_first, slot_first, slot_size}
+use Rattle.model_image.specs.Slots.{used_in, payload_in, spelled_in, is_wrong_sector, wrong_from, sectors_from}
 use Rattle.model_image.specs.RecoveredState.{snapshot_from}
+use Rattle.model_image.proofs.Alike.{IsSlotOf}
 use Rattle.model_image.proofs.Answers.{zeros_are_empty}
 use Rattle.model_image.proofs.Places.{slot_above, slot_below, both_logs}
 use Rattle.checkpointing.specs.SnapshotRecords.{snapshot_records}
@@ -91,12 +92,39 @@ none_used : used_in blank ≡ 0
 unfolding number2_at
 none_used = ap (from_be_bytes w16) front_blank ∙ two_zeros
 
-no_bytes : slot_bytes_in blank ≡ []
+no_bytes : payload_in blank ≡ []
 no_bytes = ap (λ (n : ℕ). take n (drop 2 blank)) none_used
 
-right_length : is_wrong_length (Spelled blank) ≡ false
-right_length =
-    rw (none_used) (ap (λ (b : Bool). nat_lt 4000 0 || not b) (ap are_zeros (ap (drop 2) blank_is ∙ drop-zeros 2 4096) ∙ are_zeros-zeros 4094))
+zeros_behind : are_zeros (drop (2 + used_in blank) blank) ≡ true
+zeros_behind =
+    ap (λ (n : ℕ). are_zeros (drop (2 + n) blank)) none_used ∙ ap are_zeros (ap (drop 2) blank_is ∙ drop-zeros 2 4096) ∙ are_zeros-zeros 4094
+
+none_wrong : (full : Bool) → not full && nat_lt 0 0 ≡ false
+none_wrong true = refl
+none_wrong false = refl
+
+blank_right : (full : Bool) → is_wrong_sector full blank ≡ false
+blank_right full =
+    ap (λ (n : ℕ). nat_lt 4000 n || not (are_zeros (drop (2 + used_in blank) blank)) || (not full && nat_lt 0 n)) none_used
+    ∙ ap (λ (b : Bool). nat_lt 4000 0 || not b || (not full && nat_lt 0 0)) zeros_behind
+    ∙ none_wrong full
+
+-- sectors of zeros, so many
+all_right : (n : ℕ) (full : Bool) (at first : ℕ) (image : Image) → ((k : ℕ) → k < n → sector_at image (first + k) ≡ blank) → wrong_from full at (sectors_from image first n) ≡ None
+all_right zero full at first image blanks = refl
+all_right (suc n) full at first image blanks =
+    let here : sector_at image first ≡ blank = ap (sector_at image) (omega arith) ∙ blanks 0 (omega arith) in
+    let right : is_wrong_sector full (sector_at image first) ≡ false = ap (is_wrong_sector full) here ∙ blank_right full in
+    ap (λ (b : Bool). if b then Some at else wrong_from (full && (used_in (sector_at image first) == 4000)) (at + 1) (sectors_from image (first + 1) n)) right
+    ∙ all_right n (full && (used_in (sector_at image first) == 4000)) (at + 1) (first + 1) image (λ k lt. ap (sector_at image) (omega arith) ∙ blanks (suc k) (omega (arith, lt)))
+
+all_empty : (n first : ℕ) (image : Image) → ((k : ℕ) → k < n → sector_at image (first + k) ≡ blank) → spelled_in (sectors_from image first n) ≡ []
+all_empty zero first image blanks = refl
+all_empty (suc n) first image blanks =
+    let here : sector_at image first ≡ blank = ap (sector_at image) (omega arith) ∙ blanks 0 (omega arith) in
+    flat_map-cons payload_in (sector_at image first) (sectors_from image (first + 1) n)
+    ∙ ap (λ (l : List ℕ). l ++ spelled_in (sectors_from image (first + 1) n)) (ap payload_in here ∙ no_bytes)
+    ∙ all_empty n (first + 1) image (λ k lt. ap (sector_at image) (omega arith) ∙ blanks (suc k) (omega (arith, lt)))
 
 free_at : (roots number : ℕ) → slice_index_or (free_slots roots) number [] ≡ []
 free_at zero number = refl
@@ -140,7 +168,7 @@ module _ (system : System) (text bytes : List ℕ) (parts : OpeningParts) (state
     none_ahead : NoneAhead system image now.epoch now.sequence
     none_ahead = record {
       none = λ x n lt le small.
-          ap (λ (s : List ℕ). opened_payload now.epoch n s) (is.blanks (log_first system 0 + x) (omega arith) (omega (arith, lt, both_logs system, slot_above system (length system.databases) 0)))
+          ap (λ (s : List ℕ). opened_payload now.epoch n s) (is.blanks (log_first system 0 + x) (omega arith) (omega (arith, lt, both_logs system, slot_above system (length system.databases) 0 0)))
           ∙ opened-blank now.epoch n;
     }
 
@@ -165,11 +193,13 @@ module _ (system : System) (text bytes : List ℕ) (parts : OpeningParts) (state
           let at = empty_at system.databases place store (ap (λ (stores : List Stored). slice_get stores place) (sym made.stores) ∙ found) in
           let fewer : number < at.dbd.roots = omega (arith, below, ap (λ (s : Stored). s.dbd.roots) at.is) in
           let none : slice_index_or store.slots number [] ≡ [] = ap (λ (s : Stored). slice_index_or s.slots number []) at.is ∙ free_at at.dbd.roots number in
-          let is_blank : sector_at image (data_first system place + number) ≡ blank =
-          is.blanks (data_first system place + number) (omega (arith, slot_above system place number, both_logs system)) (slot_below system place number (record { dbd = at.dbd; found = at.found; below = fewer })) in
+          let slot : IsSlotOf system place number = record { dbd = at.dbd; found = at.found; below = fewer } in
+          let first : ℕ = slot_first system place number in
+          let blanks : (k : ℕ) → k < slot_size system place → sector_at image (first + k) ≡ blank =
+          λ k lt. is.blanks (first + k) (omega (arith, slot_above system place number k, both_logs system)) (slot_below system place number k slot lt) in
           record {
-            right = ap (λ (s : List ℕ). is_wrong_length (Spelled s)) is_blank ∙ right_length;
-            spelled = ap slot_bytes_in is_blank ∙ no_bytes ∙ sym (ap (λ (rows : List Row). rows_spelling rows) none);
+            right = λ n. all_right (slot_size system place) true n first image blanks;
+            spelled = all_empty (slot_size system place) first image blanks ∙ sym (ap (λ (rows : List Row). rows_spelling rows) none);
           };
     }
 

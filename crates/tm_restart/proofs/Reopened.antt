@@ -14,7 +14,7 @@ use Rattle.restart_data.specs.Restart.{restart_in, restart_of}
 use Rattle.model_image.specs.AlikeImages.{RecoversAlike}
 use Rattle.model_image.specs.Faults.{Fault}
 use Rattle.model_image.proofs.Answers.{one_answer_of}
-use Rattle.model_image.specs.Areas.{is_single, snapshot_area, snapshot_first}
+use Rattle.model_system.specs.Areas.{is_single, snapshot_area, snapshot_first}
 use Rattle.model_image.specs.CutRecords.{records_cut}
 use Rattle.model_image.specs.RecoveredState.{Recovers}
 use Rattle.model_image.specs.Slots.{named_by}
@@ -70,7 +70,7 @@ module _ (system : System) (r : RestartSector) (snapshot : List Record) (given :
       ⊎_elim (λ (in_ : InArea (snapshot_first system now.snapshot) (snapshot_area system) k). absurd (omega (arith, in_.low, high)))
       (λ (w : IsGiven system given k (sector_at e k)).
       let slot = named_slot system r snapshot given now a before k (sector_at e k) w in
-      absurd (omega (arith, high, slot.sector, slot_above system slot.place slot.number, log_above system 2)))
+      absurd (omega (arith, high, slot.sector, slot_above system slot.place slot.number slot.index, log_above system 2)))
       others)
       written)
       (done.elsewhere k)
@@ -112,7 +112,7 @@ module _ (system : System) (r : RestartSector) (snapshot : List Record) (given :
       ⊎_elim
       (λ (w : IsGiven system given k (sector_at e k)).
       let slot = named_slot system r snapshot given now a before k (sector_at e k) w in
-      absurd (omega (arith, high, slot.sector, slot_above system slot.place slot.number, log_above system 2)))
+      absurd (omega (arith, high, slot.sector, slot_above system slot.place slot.number slot.index, log_above system 2)))
       (λ (in_ : InArea (snapshot_first system now.snapshot) (snapshot_area system) k). absurd (omega (arith, in_.low, high)))
       other)
       (changes.each k)

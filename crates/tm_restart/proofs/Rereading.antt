@@ -13,7 +13,7 @@ use Rattle.restart_data.specs.declared.restart.RestartSector.{RestartSector}
 use Rattle.restart_data.specs.Restart.{restart_in}
 use Rattle.restart_data.specs.Rules.{first_broken, unless_rule_broken}
 use Rattle.restart_data.specs.Snapshot.{snapshot_in}
-use Rattle.model_image.specs.Areas.{is_single, snapshot_area, snapshot_first, log_first}
+use Rattle.model_system.specs.Areas.{is_single, snapshot_area, snapshot_first, log_first}
 use Rattle.model_image.specs.Counters.{next_sequence}
 use Rattle.model_image.specs.CutRecords.{cut_of, records_cut, IsRecordCutOff}
 use Rattle.model_image.specs.Faults.{Fault, in_sector, unless_any, or_fault}

@@ -11,8 +11,8 @@ use Rattle.restart_data.specs.Restart.{IsRestart, restart_sector}
 use Rattle.restart_data.specs.Snapshot.{snapshot_sectors_of}
 use Rattle.restart_data.specs.WrittenSectors.{Saves, Restarts}
 use Rattle.restart_data.proofs.ImageLaws.{restart_either, others_stay, restart_keeps_snapshots}
-use Rattle.model_image.specs.Areas.{snapshot_area, snapshot_first, log_first, data_first}
-use Rattle.model_image.proofs.Places.{snapshot_below, log_above, slot_above}
+use Rattle.model_system.specs.Areas.{snapshot_area, snapshot_first, log_first, data_first, slot_first, slot_size}
+use Rattle.model_image.proofs.Places.{snapshot_below, log_above, slot_above, slot_same}
 use Rattle.checkpointing.specs.Checkpoint.{InArea}
 use Rattle.checkpointing.proofs.Calls.{within_then}
 use Rattle.tm_restart.specs.GivenSlots.{GivenSlots, IsGiven, MayPutAll, HasPutAll}
@@ -70,10 +70,12 @@ module _ (system : System) (given : GivenSlots) (bytes : List ℕ) (now : Restar
           restart = whole.two.read;
           snapshot = restart_keeps_snapshots now c d whole.two (snapshot_sectors_of (length bytes)) (snapshot_first system now.snapshot) now.checkpoint (omega arith) ∙ whole.one.two.read;
           holds = λ place number slots given_bytes lt found to.
-              let k = data_first system place + number in
-              let above = slot_above system place number in
+              slot_same (slot_size system place) b d (slot_first system place number)
+              (λ i within.
+              let k = slot_first system place number + i in
+              let above = slot_above system place number i in
               others_stay now c d whole.two k (omega (arith, above, log_above system 2))
-              ∙ whole.one.two.changes.above k (omega (arith, above, area_end, log_above system 2))
+              ∙ whole.one.two.changes.above k (omega (arith, above, area_end, log_above system 2)))
               ∙ whole.one.one.holds place number slots given_bytes lt found to;
           size = ap (length {A = List ℕ}) whole.two.set ∙ length-set c 0 (restart_sector now) ∙ unread.size;
           elsewhere = elsewhere a c d unread whole.two;
@@ -82,7 +84,7 @@ module _ (system : System) (given : GivenSlots) (bytes : List ℕ) (now : Restar
     -- ---- on a disk
     module _ (sectors : now.sectors ≡ snapshot_sectors_of (length bytes)) (old : DiskState) (disk : IsDisk old) (areas : data_first system (length system.databases) ≤ old.size) where
       area_small : snapshot_area system < old.size
-      area_small = omega (arith, areas, slot_above system (length system.databases) 0)
+      area_small = omega (arith, areas, slot_above system (length system.databases) 0 0)
 
       sized : (image : Image) → old.may_leave image → 0 < length image
       sized image left = omega (arith, area_small, disk.image_size old.clock image (disk.now_counts old.clock image (omega arith) left))

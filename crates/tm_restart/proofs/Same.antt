@@ -6,11 +6,11 @@ use Rattle.std.specs.List.{list_any}
 use Rattle.model_data.specs.declared.row.Row.{Row}
 use Rattle.seg_store.specs.Slots.{is_slot_free, image_root, has_root, rows_of_slots}
 use Rattle.model_image.specs.Faults.{Fault, unless_fault}
-use Rattle.model_image.specs.Slots.{SlotOnImage, slots_by, has_wrong_length, has_no_record, slot_rows, have_one_root, first_shared, fault_of, first_in, slot_fault, rows_of_databases}
+use Rattle.model_image.specs.Slots.{SlotOnImage, slots_by, wrong_sector, has_no_record, slot_rows, have_one_root, first_shared, place_in, first_wrong, first_no_record, first_doubled, fault_of, first_in, slot_fault, rows_of_databases}
 
 -- A slot breaks no rule that the other keeps, and has the same rows.
 pub record SameSlot (s t : SlotOnImage) : Type 0 where
-  pub wrong : has_wrong_length s ≡ false → has_wrong_length t ≡ false
+  pub wrong : wrong_sector s ≡ None → wrong_sector t ≡ None
   pub none : has_no_record s ≡ false → has_no_record t ≡ false
   pub rows : slot_rows t ≡ slot_rows s
 
@@ -36,17 +36,34 @@ kept_by : (b c : Bool) (s t : SlotOnImage) (rest other : Option SlotOnImage) →
 kept_by true c s t rest other one more e = cc
 kept_by false c s t rest other one more e = ap (λ (x : Bool). if x then Some t else other) (one refl) ∙ more e
 
-wrong_none : (ss ts : List SlotOnImage) → AreSame ss ts → find has_wrong_length ss ≡ None → find has_wrong_length ts ≡ None
+pub left_none : {A : Type 0} (a b : Option A) → option_or a b ≡ None → a ≡ None
+left_none None b e = refl
+left_none (Some x) b e = cc
+
+pub right_none : {A : Type 0} (a b : Option A) → option_or a b ≡ None → b ≡ None
+right_none None b e = e
+right_none (Some x) b e = cc
+
+wrong_none : (ss ts : List SlotOnImage) → AreSame ss ts → first_wrong ss ≡ None → first_wrong ts ≡ None
 wrong_none [] [] same e = refl
 wrong_none [] (t ∷ ts) same e = absurd same
 wrong_none (s ∷ ss) [] same e = absurd same
-wrong_none (s ∷ ss) (t ∷ ts) same e = kept_by (has_wrong_length s) (has_wrong_length t) s t (find has_wrong_length ss) (find has_wrong_length ts) same.0.wrong (wrong_none ss ts same.1) e
+wrong_none (s ∷ ss) (t ∷ ts) same e =
+    ap (λ (o : Option ℕ). option_or o (first_wrong ts)) (same.0.wrong (left_none (wrong_sector s) (first_wrong ss) e))
+    ∙ wrong_none ss ts same.1 (right_none (wrong_sector s) (first_wrong ss) e)
 
-record_none : (ss ts : List SlotOnImage) → AreSame ss ts → find has_no_record ss ≡ None → find has_no_record ts ≡ None
-record_none [] [] same e = refl
-record_none [] (t ∷ ts) same e = absurd same
-record_none (s ∷ ss) [] same e = absurd same
-record_none (s ∷ ss) (t ∷ ts) same e = kept_by (has_no_record s) (has_no_record t) s t (find has_no_record ss) (find has_no_record ts) same.0.none (record_none ss ts same.1) e
+found_none : (ss ts : List SlotOnImage) → AreSame ss ts → find has_no_record ss ≡ None → find has_no_record ts ≡ None
+found_none [] [] same e = refl
+found_none [] (t ∷ ts) same e = absurd same
+found_none (s ∷ ss) [] same e = absurd same
+found_none (s ∷ ss) (t ∷ ts) same e = kept_by (has_no_record s) (has_no_record t) s t (find has_no_record ss) (find has_no_record ts) same.0.none (found_none ss ts same.1) e
+
+pub no_place : (o : Option SlotOnImage) → place_in o ≡ None → o ≡ None
+no_place None e = refl
+no_place (Some s) e = cc
+
+record_none : (ss ts : List SlotOnImage) → AreSame ss ts → first_no_record ss ≡ None → first_no_record ts ≡ None
+record_none ss ts same e = ap place_in (found_none ss ts same (no_place (find has_no_record ss) e))
 
 one_root : (s t a b : SlotOnImage) → slot_rows t ≡ slot_rows s → slot_rows b ≡ slot_rows a → have_one_root t b ≡ have_one_root s a
 one_root s t a b left right =
@@ -68,41 +85,36 @@ shared_none (s ∷ ss) [] same e = absurd same
 shared_none (s ∷ ss) (t ∷ ts) same e =
     kept_by (list_any (have_one_root s) ss) (list_any (have_one_root t) ts) s t (first_shared ss) (first_shared ts) (λ none. any_same s t same.0.rows ss ts same.1 ∙ none) (shared_none ss ts same.1) e
 
+doubled_none : (ss ts : List SlotOnImage) → AreSame ss ts → first_doubled ss ≡ None → first_doubled ts ≡ None
+doubled_none ss ts same e = ap place_in (shared_none ss ts same (no_place (first_shared ss) e))
+
 -- ---- of all databases
 
-pub left_none : {A : Type 0} (a b : Option A) → option_or a b ≡ None → a ≡ None
-left_none None b e = refl
-left_none (Some x) b e = cc
-
-pub right_none : {A : Type 0} (a b : Option A) → option_or a b ≡ None → b ≡ None
-right_none None b e = e
-right_none (Some x) b e = cc
-
-first_none : (test : List SlotOnImage → Option SlotOnImage) → ((ss ts : List SlotOnImage) → AreSame ss ts → test ss ≡ None → test ts ≡ None)
+first_none : (test : List SlotOnImage → Option ℕ) → ((ss ts : List SlotOnImage) → AreSame ss ts → test ss ≡ None → test ts ≡ None)
     → (sss tss : List (List SlotOnImage)) → AllSame sss tss → first_in test sss ≡ None → first_in test tss ≡ None
 first_none test kept [] [] same e = refl
 first_none test kept [] (t ∷ ts) same e = absurd same
 first_none test kept (s ∷ ss) [] same e = absurd same
 first_none test kept (s ∷ ss) (t ∷ ts) same e =
-    ap (λ (o : Option SlotOnImage). option_or o (first_in test ts)) (kept s t same.0 (left_none (test s) (first_in test ss) e))
+    ap (λ (o : Option ℕ). option_or o (first_in test ts)) (kept s t same.0 (left_none (test s) (first_in test ss) e))
     ∙ first_none test kept ss ts same.1 (right_none (test s) (first_in test ss) e)
 
-pub no_slot : (rule : ℕ) (o : Option SlotOnImage) → fault_of rule o ≡ None → o ≡ None
-no_slot rule None e = refl
-no_slot rule (Some s) e = cc
+pub no_sector : (rule : ℕ) (o : Option ℕ) → fault_of rule o ≡ None → o ≡ None
+no_sector rule None e = refl
+no_sector rule (Some s) e = cc
 
 fault_none : (sss tss : List (List SlotOnImage)) → AllSame sss tss → slot_fault sss ≡ None → slot_fault tss ≡ None
 fault_none sss tss same e =
-    let one = first_in (find has_wrong_length) sss in
-    let two = first_in (find has_no_record) sss in
-    let three = first_in first_shared sss in
+    let one = first_in first_wrong sss in
+    let two = first_in first_no_record sss in
+    let three = first_in first_doubled sss in
     let rest = right_none (fault_of 20 one) (option_or (fault_of 21 two) (fault_of 22 three)) e in
-    let first = first_none (find has_wrong_length) wrong_none sss tss same (no_slot 20 one (left_none (fault_of 20 one) (option_or (fault_of 21 two) (fault_of 22 three)) e)) in
-    let second = first_none (find has_no_record) record_none sss tss same (no_slot 21 two (left_none (fault_of 21 two) (fault_of 22 three) rest)) in
-    let third = first_none first_shared shared_none sss tss same (no_slot 22 three (right_none (fault_of 21 two) (fault_of 22 three) rest)) in
-    ap (λ (o : Option SlotOnImage). option_or (fault_of 20 o) (option_or (fault_of 21 (first_in (find has_no_record) tss)) (fault_of 22 (first_in first_shared tss)))) first
-    ∙ ap (λ (o : Option SlotOnImage). option_or (fault_of 21 o) (fault_of 22 (first_in first_shared tss))) second
-    ∙ ap (λ (o : Option SlotOnImage). fault_of 22 o) third
+    let first = first_none first_wrong wrong_none sss tss same (no_sector 20 one (left_none (fault_of 20 one) (option_or (fault_of 21 two) (fault_of 22 three)) e)) in
+    let second = first_none first_no_record record_none sss tss same (no_sector 21 two (left_none (fault_of 21 two) (fault_of 22 three) rest)) in
+    let third = first_none first_doubled doubled_none sss tss same (no_sector 22 three (right_none (fault_of 21 two) (fault_of 22 three) rest)) in
+    ap (λ (o : Option ℕ). option_or (fault_of 20 o) (option_or (fault_of 21 (first_in first_no_record tss)) (fault_of 22 (first_in first_doubled tss)))) first
+    ∙ ap (λ (o : Option ℕ). option_or (fault_of 21 o) (fault_of 22 (first_in first_doubled tss))) second
+    ∙ ap (λ (o : Option ℕ). fault_of 22 o) third
 
 rows_same : (ss ts : List SlotOnImage) → AreSame ss ts → map slot_rows ts ≡ map slot_rows ss
 rows_same [] [] same = refl

@@ -9,7 +9,7 @@ use Rattle.restart_data.specs.declared.restart.RestartSector.{RestartSector}
 use Rattle.restart_data.specs.Restart.{restart_in}
 use Rattle.seg_store.specs.Slots.{rows_of_slots}
 use Rattle.seg_store.specs.ChangedSlots.{stored}
-use Rattle.model_image.specs.Areas.{is_single, snapshot_area}
+use Rattle.model_system.specs.Areas.{is_single, snapshot_area}
 use Rattle.model_image.specs.Text.{text_in, first_difference}
 use Rattle.model_image.specs.RecoveredState.{Recovers}
 use Rattle.image_records.specs.KeptState.{KeptState}

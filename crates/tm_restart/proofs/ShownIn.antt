@@ -1,5 +1,5 @@
 -- The tables of a life that begins show its state, which can be spelled.
-use Rattle.std.proofs.Common.{◌≡◌, ℕ, suc, Bool, false, List, [], ◌∷◌, length, map, refl, sym, ◌∙◌, ap, subst, arith, replicate, None}
+use Rattle.std.proofs.Common.{◌≡◌, ℕ, suc, Bool, false, List, [], ◌∷◌, length, map, refl, sym, ◌∙◌, ap, subst, replicate, None}
 use Rattle.std.specs.Prelude.{All}
 use Rattle.std.specs.List.{AllByRecursion}
 use Rattle.std.proofs.lemmas.List.{length-map}
@@ -14,7 +14,7 @@ use Rattle.seg_store.specs.Slots.{Stored}
 use Rattle.system_types.specs.ValidSystem.{IsSystem, IsDatabase}
 use Rattle.checkpointing.specs.SnapshotRecords.{IsOfSystem}
 use Rattle.checkpointing.specs.SpelledRecords.{IsWritable}
-use Rattle.checkpointing.specs.Touches.{HasOneSector}
+use Rattle.checkpointing.specs.Touches.{HasFewSectors}
 use Rattle.checkpointing.proofs.Viewed.{free_messages, settings_shown}
 use Rattle.openings.specs.OpeningParts.{OpeningParts, AreOpeningParts}
 use Rattle.tm_restart.specs.PreparedLife.{state_in}
@@ -58,11 +58,10 @@ without_rows state is = record {
 pub writable_in : (system : System) (state : LastingState) (parts : OpeningParts) → AreOpeningParts system state parts → IsOfSystem system state → IsWritable state → IsWritable (state_in parts)
 writable_in system state parts are of is = subst IsWritable (sym (shown_in system state parts are of)) (without_rows state is)
 
-one_sector_each : (stores : List Stored) → All IsDatabase (map (λ (s : Stored). s.dbd) stores) → AllByRecursion HasOneSector stores
-one_sector_each [] all = tt
-one_sector_each (s ∷ stores) all =
-    let one = (All-head IsDatabase s.dbd (map (λ (s : Stored). s.dbd) stores) all).sectors in
-    (omega (arith, one), one_sector_each stores (All-tail IsDatabase s.dbd (map (λ (s : Stored). s.dbd) stores) all))
+few_sectors_each : (stores : List Stored) → All IsDatabase (map (λ (s : Stored). s.dbd) stores) → AllByRecursion HasFewSectors stores
+few_sectors_each [] all = tt
+few_sectors_each (s ∷ stores) all =
+    ((All-head IsDatabase s.dbd (map (λ (s : Stored). s.dbd) stores) all).few_sectors, few_sectors_each stores (All-tail IsDatabase s.dbd (map (λ (s : Stored). s.dbd) stores) all))
 
-pub one_sector_in : (system : System) (state : LastingState) (parts : OpeningParts) → IsSystem system → AreOpeningParts system state parts → AllByRecursion HasOneSector parts.stores.stores
-one_sector_in system state parts defined are = one_sector_each parts.stores.stores (subst (λ (dbds : List Dbd). All IsDatabase dbds) (sym are.databases) defined.databases)
+pub few_sectors_in : (system : System) (state : LastingState) (parts : OpeningParts) → IsSystem system → AreOpeningParts system state parts → AllByRecursion HasFewSectors parts.stores.stores
+few_sectors_in system state parts defined are = few_sectors_each parts.stores.stores (subst (λ (dbds : List Dbd). All IsDatabase dbds) (sym are.databases) defined.databases)

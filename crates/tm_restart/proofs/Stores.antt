@@ -9,7 +9,7 @@ use Rattle.model_system.specs.System.{System}
 use Rattle.log_records.specs.declared.record.Record.{Record}
 use Rattle.seg_store.specs.Slots.{Stored, rows_of_slots}
 use Rattle.seg_store.specs.ChangedSlots.{Kept, stored}
-use Rattle.model_image.specs.Areas.{data_first}
+use Rattle.model_system.specs.Areas.{data_first}
 use Rattle.model_image.specs.Faults.{unless_fault}
 use Rattle.model_image.specs.Slots.{SlotOnImage, slots_by, image_slot_in, all_slots, slot_fault, slot_rows, rows_of_databases, image_rows_from}
 use Rattle.checkpointing.proofs.Slots.{dbd_found}

@@ -1,5 +1,5 @@
 -- Until the restart sector is written, an image recovers as the one before.
-use Rattle.std.proofs.Common.{◌≡◌, ℕ, ◌+◌, ◌-◌, ◌<◌, List, [], ◌∷◌, length, refl, sym, ◌∙◌, ap, subst, inl, inr, ⊎_elim, arith, Some, Ok, IsSome, zero, suc}
+use Rattle.std.proofs.Common.{◌≡◌, ℕ, ◌+◌, ◌-◌, ◌<◌, List, [], ◌∷◌, length, refl, sym, ◌∙◌, ap, subst, inl, inr, ⊎_elim, arith, Some, None, Ok, IsSome, zero, suc}
 use Rattle.std.specs.Prelude.{Option, slice_get}
 use Rattle.std.proofs.lemmas.Option.{slice_get_within}
 use Rattle.tm_disk.specs.Disk.{Image, sector_at}
@@ -7,11 +7,12 @@ use Rattle.model_system.specs.System.{System}
 use Rattle.log_records.specs.declared.record.Record.{Record}
 use Rattle.restart_data.specs.declared.restart.RestartSector.{RestartSector}
 use Rattle.model_image.specs.AlikeImages.{RecoversAlike}
-use Rattle.model_image.specs.Areas.{snapshot_area, snapshot_first, data_first}
+use Rattle.model_system.specs.Areas.{snapshot_area, snapshot_first, data_first, slot_size}
 use Rattle.model_image.specs.Slots.{named_by}
 use Rattle.model_image.specs.RecoveredState.{log_in}
 use Rattle.model_image.proofs.Alike.{ImagesAlike, recovers_alike}
 use Rattle.model_image.proofs.Unread.{InFreeSnapshot, OfNamedSlot, unread_alike}
+use Rattle.image_loading.specs.LoadedStore.{given_to}
 use Rattle.checkpointing.specs.Checkpoint.{InArea}
 use Rattle.tm_restart.specs.GivenSlots.{GivenSlots, IsGiven}
 use Rattle.tm_restart.specs.LifeWrites.{ChangesUnreadSectors}
@@ -28,22 +29,32 @@ there [] place lt = absurd (omega (arith, lt))
 there (x ∷ xs) zero lt = record { element = x; found = refl }
 there (x ∷ xs) (suc place) lt = let w = there xs place (omega (arith, lt)) in record { element = w.element; found = w.found }
 
+has_bytes : (o : Option (List ℕ)) (bytes : List ℕ) → o ≡ Some bytes → IsSome o
+has_bytes None bytes e = cc
+has_bytes (Some x) bytes e = refl
+
 module _ (system : System) (r : RestartSector) (snapshot : List Record) (given : GivenSlots) (now : RestartSector) (image : Image) (is : IsUnprepared system r snapshot given now image) where
+  is_named : (place number : ℕ) (slots : List (ℕ × List ℕ)) (bytes : List ℕ) → slice_get given place ≡ Some slots → given_to number slots ≡ Some bytes → IsSome (named_by snapshot (log_in system image r).records (place + 1) number)
+  is_named place number slots bytes found to = has_bytes (named_by snapshot (log_in system image r).records (place + 1) number) bytes (sym (is.named place number slots found) ∙ to)
+
   -- a sector that is given is that of a slot that a record names
   pub named_slot : (k : ℕ) (sector : List ℕ) → IsGiven system given k sector → OfNamedSlot system r image k
   named_slot k sector w =
       let dbd = there system.databases w.place (omega (arith, slice_get_within given w.place w.slots w.found, is.are.count)) in
-      let slot = at_slot (data_first system w.place) dbd.element.roots w.slots k sector (is.are.each w.place dbd.element w.slots dbd.found w.found).within w.is in
+      let are = is.are.each w.place dbd.element w.slots dbd.found w.found in
+      let slot = at_slot (λ n. n < dbd.element.roots) (slot_size system w.place) (data_first system w.place) w.slots k sector are.ascending are.within w.is in
       record {
         place = w.place;
         number = slot.number;
         slot = record { dbd = dbd.element; found = dbd.found; below = slot.below };
-        sector = slot.is;
+        index = slot.index;
+        within = slot.within;
+        sector = omega (arith, slot.is);
         named = λ others read.
             let both : Ok snapshot ≡ Ok others = sym is.has_snapshot ∙ read in
             let same : snapshot ≡ others = cc in
             subst (λ (l : List Record). IsSome (named_by l (log_in system image r).records (w.place + 1) slot.number)) same
-            (subst (λ (o : Option (List ℕ)). IsSome o) (is.named w.place slot.number w.slots w.found) slot.some);
+            (is_named w.place slot.number w.slots slot.bytes w.found slot.to);
       }
 
   free_area : (k : ℕ) → InArea (snapshot_first system now.snapshot) (snapshot_area system) k → InFreeSnapshot system r k

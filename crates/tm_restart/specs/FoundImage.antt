@@ -6,9 +6,8 @@ use Rattle.model_machine.specs.Machine.{LastingState}
 use Rattle.restart_data.specs.declared.restart.RestartSector.{RestartSector}
 use Rattle.restart_data.specs.Restart.{restart_in}
 use Rattle.restart_data.specs.WrittenSectors.{IsValid}
-use Rattle.model_image.specs.Areas.{is_single, snapshot_area}
+use Rattle.model_system.specs.Areas.{is_single, snapshot_area, sectors_needed}
 use Rattle.model_image.specs.Text.{text_in, first_difference}
-use Rattle.openings.specs.FirstImage.{sectors_needed}
 use Rattle.image_reading.specs.NamedBytes.{AreNamedBytes}
 use Rattle.image_loading.specs.LoadedStores.{AreAllMade}
 use Rattle.tm_restart.specs.declared.looking.Looked.{Looked}

@@ -15,7 +15,7 @@ pub use Rattle.checkpointing.specs.Touches
 pub use Rattle.image_loading.specs.LoadedStore
 pub use Rattle.image_reading.specs.NamedBytes
 pub use Rattle.image_records.specs.NamedSlots
-pub use Rattle.model_image.specs.Areas
+pub use Rattle.model_system.specs.Areas
 pub use Rattle.model_image.specs.HeldStores
 pub use Rattle.model_image.specs.RecoveredState
 pub use Rattle.model_image.specs.Text

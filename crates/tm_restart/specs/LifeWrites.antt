@@ -1,13 +1,14 @@
 -- What stands on the disk while a life is prepared, and once it may begin.
-use Rattle.std.specs.Prelude.{◌≡◌, ◌⊎◌, ℕ, Bool, ◌+◌, ◌<◌, ◌≤◌, List, length, Some, Ok, slice_get}
+use Rattle.std.specs.Prelude.{◌≡◌, ◌⊎◌, ℕ, Bool, ◌<◌, ◌≤◌, List, length, Some, Ok, slice_get}
 use Rattle.tm_disk.specs.Disk.{Image, sector_at}
 use Rattle.model_system.specs.System.{System}
 use Rattle.restart_data.specs.declared.restart.RestartSector.{RestartSector}
 use Rattle.restart_data.specs.Restart.{restart_in}
 use Rattle.restart_data.specs.Snapshot.{snapshot_sectors_of, snapshot_in}
 use Rattle.restart_data.specs.WrittenSectors.{Saves, Restarts}
-use Rattle.model_image.specs.Areas.{snapshot_area, snapshot_first, data_first}
-use Rattle.seg_store.specs.DataSectors.{data_sector}
+use Rattle.model_system.specs.Areas.{snapshot_area, snapshot_first, slot_size}
+use Rattle.model_image.specs.Slots.{slot_at}
+use Rattle.seg_store.specs.DataSectors.{slot_spelling}
 use Rattle.image_loading.specs.LoadedStore.{given_to}
 use Rattle.checkpointing.specs.Checkpoint.{InArea}
 use Rattle.checkpointing.specs.CheckpointSteps.{Then}
@@ -38,7 +39,7 @@ pub record IsRewritten (system : System) (given : GivenSlots) (bytes : List ℕ)
   pub restart : (most : ℕ) (single : Bool) → now.sectors ≤ most → restart_in most single after ≡ Ok (Some now)
   pub snapshot : snapshot_in (snapshot_sectors_of (length bytes)) after (snapshot_first system now.snapshot) now.checkpoint ≡ Ok bytes
   pub holds : (place number : ℕ) (slots : List (ℕ × List ℕ)) (given_bytes : List ℕ) → place < length system.databases → slice_get given place ≡ Some slots → given_to number slots ≡ Some given_bytes
-      → sector_at after (data_first system place + number) ≡ data_sector given_bytes
+      → slot_at system after place number ≡ slot_spelling (slot_size system place) given_bytes
   pub size : length after ≡ length before
   pub elsewhere : (k : ℕ) → (sector_at after k ≡ sector_at before k) ⊎ IsSectorWritten system given now k (sector_at after k)
 

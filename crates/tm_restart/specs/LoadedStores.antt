@@ -5,7 +5,7 @@ use Rattle.tm_disk.specs.Disk.{Image}
 use Rattle.model_system.specs.System.{System}
 use Rattle.log_records.specs.declared.record.Record.{Record}
 use Rattle.seg_store.specs.Slots.{Stored}
-use Rattle.model_image.specs.Areas.{data_first}
+use Rattle.model_system.specs.Areas.{data_first}
 use Rattle.model_image.specs.Slots.{slots_by, image_slot_in, slot_rows}
 
 -- The stores are those of the system's databases, and each has in its slots what the image has there, by the records of the

@@ -5,7 +5,7 @@ use Rattle.model_system.specs.System.{System}
 use Rattle.model_machine.specs.Machine.{LastingState}
 use Rattle.log_records.specs.declared.record.Record.{Record}
 use Rattle.restart_data.specs.declared.restart.RestartSector.{RestartSector}
-use Rattle.model_image.specs.Areas.{log_first}
+use Rattle.model_system.specs.Areas.{log_first}
 use Rattle.model_image.specs.Counters.{next_sequence}
 use Rattle.model_image.specs.CutRecords.{IsRecordCutOff}
 use Rattle.model_image.specs.RecoveredState.{snapshot_from, log_in, first_later, Recovers}

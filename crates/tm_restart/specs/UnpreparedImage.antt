@@ -6,7 +6,7 @@ use Rattle.model_system.specs.System.{System}
 use Rattle.log_records.specs.declared.record.Record.{Record}
 use Rattle.restart_data.specs.declared.restart.RestartSector.{RestartSector}
 use Rattle.restart_data.specs.Restart.{restart_in}
-use Rattle.model_image.specs.Areas.{is_single, snapshot_area}
+use Rattle.model_system.specs.Areas.{is_single, snapshot_area}
 use Rattle.model_image.specs.Slots.{is_image, named_by}
 use Rattle.model_image.specs.RecoveredState.{snapshot_from, log_in}
 use Rattle.image_loading.specs.LoadedStore.{given_to}

@@ -3,7 +3,7 @@ ghost use Rattle.std.specs.Prelude.{◌≡◌, ◌≤◌, true, List, IsTrue, If
 ghost use Rattle.std.specs.List.{list_all};
 ghost use Rattle.log_records.specs.declared.record.Record.{Record as OneRecord};
 ghost use Rattle.tm_disk.specs.Disk.{Keeps};
-ghost use Rattle.model_image.specs.Areas.{data_first};
+ghost use Rattle.model_system.specs.Areas.{data_first};
 ghost use Rattle.model_image.specs.Slots.{all_slots};
 ghost use Rattle.image_loading.specs.LoadedStore.{LoadCause};
 ghost use Rattle.image_records.specs.NamedSlots.{is_slot_of, NamedSlotsAscend, AreSlotsNamed};

@@ -4,9 +4,8 @@ ghost use Rattle.tm_disk.specs.Disk.{Keeps};
 ghost use Rattle.model_machine.specs.Machine.{LastingState as OneState};
 ghost use Rattle.restart_data.specs.Restart.{restart_in};
 ghost use Rattle.restart_data.specs.WrittenSectors.{IsValid};
-ghost use Rattle.model_image.specs.Areas.{is_single, snapshot_area};
+ghost use Rattle.model_system.specs.Areas.{is_single, snapshot_area, sectors_needed};
 ghost use Rattle.model_image.specs.Text as texts;
-ghost use Rattle.openings.specs.FirstImage.{sectors_needed};
 ghost use Rattle.openings.specs.OpenedImage.{counters, first_spent};
 ghost use Rattle.tm_restart.specs.FoundImage.{SizeKnown, TellsFound, TellsFind, FoundAlways, FindAlways, FoundCause};
 

@@ -2,7 +2,7 @@
 ghost use Rattle.std.specs.Prelude.{◌≡◌, ◌*◌, ◌≤◌, IsTrue, IfOk, OnOk, OnErr, length};
 ghost use Rattle.tm_disk.specs.Disk.{Keeps, FailedSince};
 ghost use Rattle.restart_data.specs.WrittenSectors.{IsValid};
-ghost use Rattle.model_image.specs.Areas as areas;
+ghost use Rattle.model_system.specs.Areas as areas;
 ghost use Rattle.model_image.specs.RecoveredState as recovered;
 
 use image_loading::log_first;

@@ -3,7 +3,7 @@
 //! `cold`: the size is looked at first, and `TooSmall` and `Memory` come before any write; whatever a stop leaves is
 //! the image before, or one of the definition's text that recovers to the empty state; once it has answered, each image
 //! recovers to the empty state, with the restart sector that is answered, the text, and no log sector of this life, and
-//! each slot stands in its sector.
+//! each slot stands in its sectors.
 //!
 //! `recover` looks at the size, the restart sector, the text, the rest of the image and the counters, in this order;
 //! each refusal has its cause in the image, and has written nothing. An image whose sector 0 is all zeros is begun
@@ -11,7 +11,7 @@
 //! whether to a state or not, and is the image before, or both are of the definition's text; once it has answered, each
 //! image recovers to the state that is answered, with the next epoch and checkpoint, the other areas, the sequence
 //! behind the log, the text, a snapshot without changes of open units, and no log sector of this life, and each slot
-//! stands in its sector. Where the epoch, the log's next sequence, the checkpoint and the next unit of the image before
+//! stands in its sectors. Where the epoch, the log's next sequence, the checkpoint and the next unit of the image before
 //! are all up to a bound, those of whatever a stop leaves of either are up to one above it (`Counts` of
 //! `checkpointing`).
 //!

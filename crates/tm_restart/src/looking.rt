@@ -3,7 +3,7 @@ ghost use Rattle.std.specs.Prelude.{◌≡◌, ◌+◌, ◌≤◌, Some, Ok, IsT
 ghost use Rattle.tm_disk.specs.Disk.{Keeps};
 ghost use Rattle.restart_data.specs.Restart.{restart_in};
 ghost use Rattle.restart_data.specs.WrittenSectors.{IsValid};
-ghost use Rattle.model_image.specs.Areas.{is_single, snapshot_area, data_first};
+ghost use Rattle.model_system.specs.Areas.{is_single, snapshot_area, data_first};
 ghost use Rattle.image_reading.specs.NamedBytes.{AreNamedBytes};
 ghost use Rattle.image_loading.specs.LoadedStores.{AreAllMade};
 ghost use Rattle.tm_restart.specs.ReplayedImage.{ComesBehind};

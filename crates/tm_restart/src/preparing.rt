@@ -9,7 +9,7 @@ ghost use Rattle.seg_store.specs.ChangedSlots.{all_stores, stored};
 ghost use Rattle.seg_store.specs.Stores.{no_changed};
 ghost use Rattle.checkpointing.specs.SnapshotRecords.{snapshot_records};
 ghost use Rattle.checkpointing.specs.SpelledRecords.{AddsSpelled, IsWritable};
-ghost use Rattle.checkpointing.specs.Touches.{HasOneSector};
+ghost use Rattle.checkpointing.specs.Touches.{HasFewSectors};
 ghost use Rattle.openings.specs.OpeningParts.{AreOpeningParts};
 ghost use Rattle.openings.specs.OpeningState.{shown_state};
 ghost use Rattle.tm_restart.specs.FoundImage.{IsFoundJudged, IsSeen};
@@ -62,7 +62,7 @@ fn tables(
 // The bytes of the snapshot of these tables.
 fn snapshot_bytes(alloc: Global, parts: &Parts, checkpoint: u64) -> Result<Vec<u8>, Memory>
     requires state { IsWritable (state_in parts.now) }
-    requires one_sector { AllByRecursion HasOneSector parts.now.stores.stores }
+    requires few_sectors { AllByRecursion HasFewSectors parts.now.stores.stores }
     ensures { IfOk result (λ bytes. AddsSpelled (snapshot_records checkpoint parts.entry.now.next_unit (state_in parts.entry.now) []) [] bytes.items) }
 {
     let view = SnapshotView {
@@ -95,7 +95,7 @@ fn next_sector(restart: &RestartSector, sequence: u64, bytes: usize, text: u32) 
     requires log { restart.now.log ≤ 1 }
     requires epoch { restart.now.epoch < 1000000000000000000 }
     requires checkpoint { restart.now.checkpoint < 1000000000000000000 }
-    requires few { bytes ≤ 16777216 }
+    requires few { bytes ≤ 266338304 }
     ensures { result ≡ sector_behind restart.now sequence bytes text }
 {
     RestartSector {
@@ -126,7 +126,7 @@ fn sector_for(restart: &RestartSector, sequence: u64, bytes: &[u8], text: &[u8])
     requires log { restart.now.log ≤ 1 }
     requires epoch { restart.now.epoch < 1000000000000000000 }
     requires checkpoint { restart.now.checkpoint < 1000000000000000000 }
-    requires few { length bytes.now ≤ 16777216 }
+    requires few { length bytes.now ≤ 266338304 }
     requires text { length text.now ≤ 262144 }
     ensures { result ≡ sector_behind restart.now sequence (length bytes.now) (length text.now) }
 {

@@ -1,8 +1,9 @@
 //! Slots of all databases are written.
 ghost use Rattle.std.specs.Prelude.{◌≡◌, ◌≤◌, length, IsTrue, OnOk, OnErr};
 ghost use Rattle.tm_disk.specs.Disk.{Stays, Within, Follows, Only, FailedSince};
-ghost use Rattle.model_image.specs.Areas.{data_first};
-ghost use Rattle.tm_restart.specs.GivenSlots.{AreGiven, MayPutAll, HasPutAll};
+ghost use Rattle.model_system.specs.Areas.{data_first};
+ghost use Rattle.seg_store.specs.DataSectors.{PutsFront};
+ghost use Rattle.tm_restart.specs.GivenSlots.{all_pieces, AreGiven, MayPutAll, HasPutAll};
 
 use image_loading::{Slots, data_first, write_slots};
 use system_types::System;
@@ -17,6 +18,8 @@ fn put_all<D: Disk>(disk: &mut D, system: &System, given: &[Slots]) -> Result<()
     ensures any_moment { Within (MayPutAll system.now given.now) (D.state disk.old) (D.state disk.new) }
     ensures follows { Follows (MayPutAll system.now given.now) (D.state disk.old) (D.state disk.new) }
     ensures shown { OnOk result (IsTrue (D.state disk.old).tells → HasPutAll system.now given.now (D.state disk.old).shown (D.state disk.new).shown) }
+    // Where the disk fails, the sectors in front are written, and none behind: so they are written in ascending order.
+    ensures ascending { OnErr result (IsTrue (D.state disk.old).tells → PutsFront 0 (all_pieces system.now given.now) (D.state disk.old).shown (D.state disk.new).shown) }
     ensures no_fault { OnOk result ((D.state disk.new).faults ≡ (D.state disk.old).faults) }
     ensures cause { OnErr result (FailedSince (D.state disk.old) (D.state disk.new)) }
 {
@@ -27,7 +30,7 @@ fn put_all<D: Disk>(disk: &mut D, system: &System, given: &[Slots]) -> Result<()
         if write_slots(disk, dbd, first, &given[place]).is_err() {
             return Err(DiskFault::Disk);
         }
-        first += u32::from(dbd.roots);
+        first += u32::from(dbd.roots) * u32::from(dbd.sectors);
     }
     Ok(())
 }

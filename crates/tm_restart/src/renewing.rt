@@ -3,7 +3,7 @@ ghost use Rattle.std.specs.Prelude.{◌≡◌, ◌*◌, ◌<◌, ◌≤◌, ◌^
 ghost use Rattle.tm_disk.specs.Disk.{Stays, Within, Follows, Only, FailedSince};
 ghost use Rattle.restart_data.specs.Restart.{IsRestart};
 ghost use Rattle.restart_data.specs.Snapshot.{snapshot_sectors_of};
-ghost use Rattle.model_image.specs.Areas.{snapshot_area, data_first};
+ghost use Rattle.model_system.specs.Areas.{snapshot_area, data_first};
 ghost use Rattle.tm_restart.specs.GivenSlots.{AreGiven};
 ghost use Rattle.tm_restart.specs.LifeWrites.{ChangesUnreadSectors, WritesLifeSnapshot, IsRewritten, Rewrites};
 

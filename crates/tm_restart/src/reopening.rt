@@ -2,7 +2,7 @@
 ghost use Rattle.std.specs.Prelude.{◌≤◌, length, IsTrue, IfOk, OnOk};
 ghost use Rattle.tm_disk.specs.Disk.{Image, Stays, Within, Only};
 ghost use Rattle.model_image.specs.HeldStores.{HoldsStores};
-ghost use Rattle.openings.specs.FirstImage.{sectors_needed};
+ghost use Rattle.model_system.specs.Areas.{sectors_needed};
 ghost use Rattle.openings.specs.OpeningParts.{AreOpeningParts};
 ghost use Rattle.checkpointing.specs.Counts.{RaisesCounts};
 ghost use Rattle.openings.specs.KeptImage.{KeepsImage};

@@ -5,7 +5,7 @@ ghost use Rattle.log_records.specs.declared.record.Record.{Record as OneRecord};
 ghost use Rattle.tm_disk.specs.Disk.{Keeps};
 ghost use Rattle.restart_data.specs.Restart.{restart_in};
 ghost use Rattle.restart_data.specs.WrittenSectors.{IsValid};
-ghost use Rattle.model_image.specs.Areas.{is_single, snapshot_area, data_first};
+ghost use Rattle.model_system.specs.Areas.{is_single, snapshot_area, data_first};
 ghost use Rattle.model_image.specs.Slots.{is_image_of};
 ghost use Rattle.image_records.specs.RecordAnswers.{IsSnapshotStateOf, TellsLog};
 ghost use Rattle.image_reading.specs.ReadLog.{IsCutInto, ComesFromBytes};

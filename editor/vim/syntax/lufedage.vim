@@ -10,7 +10,7 @@ syntax match lufedageComment "^\*.*$"
 
 " The definition.
 syntax match lufedageMacro "^\%(IMSCTRL\|DBD\|SEGM\|APPLCTN\|PCB\|TRANSACT\|NAME\|REGION\|FMT\|FMTEND\|DFLD\|MSG\|SEG\|MFLD\|PROGRAM\|ENDPROG\|END\)\>"
-syntax match lufedageOperand "\%([ ,]\)\@<=\%(QBYTES\|LOGS\|NAME\|ROOTS\|PARENT\|KEY\|BYTES\|PSB\|TYPE\|DBDNAME\|PROCOPT\|LTERM\|MODIFY\|CODE\|MSGTYPE\|PRTY\|PROCLIM\|SPA\|SEGNO\|SEGSIZE\|SERIAL\|FORMAT\|CLASS\|POS\|LTH\|SRC\|JUST\|FILL\|LIT\)="me=e-1
+syntax match lufedageOperand "\%([ ,]\)\@<=\%(QBYTES\|LOGS\|NAME\|ROOTS\|SECTORS\|PARENT\|KEY\|BYTES\|PSB\|TYPE\|DBDNAME\|PROCOPT\|LTERM\|MODIFY\|CODE\|MSGTYPE\|PRTY\|PROCLIM\|SPA\|SEGNO\|SEGSIZE\|SERIAL\|FORMAT\|CLASS\|POS\|LTH\|SRC\|JUST\|FILL\|LIT\)="me=e-1
 syntax region lufedageText start=+'+ end=+'+ oneline
 syntax region lufedageText start=+"+ end=+"+ oneline
 

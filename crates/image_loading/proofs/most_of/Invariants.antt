@@ -1,5 +1,5 @@
 use Rattle.std.proofs.Common.{◌≡◌, drop}
-use Rattle.model_image.specs.Areas.{most_sectors_from}
+use Rattle.model_system.specs.Areas.{most_sectors_from}
 use Rattle.image_loading.proofs.most_of.Given as goal
 
 abbrev pub invariant-loop-dbd : goal.invariant-loop-dbd

@@ -6,7 +6,7 @@ use Rattle.log_writer.specs.ForcedLog.{AddsAll}
 use Rattle.checkpointing.specs.CheckpointParts.{checkpoint_parts_of}
 use Rattle.seg_store.specs.DataSectors.{MayPut, HasPut}
 use Rattle.seg_store.specs.WrittenSlots.{changed_bytes}
-use Rattle.model_image.specs.Areas.{data_first}
+use Rattle.model_system.specs.Areas.{data_first}
 use Rattle.checkpointing.proofs.Preparing.{sectors_fit, within_slots, follows_slots, within_snapshot}
 use Rattle.checkpointing.proofs.steps.prepare.Goals as goal
 use Rattle.tm_disk.proofs.States.{at_ok}

@@ -9,4 +9,4 @@ returns-in-None-clause-value c =
 
 pub returns-in-None-clause-short : goal.returns-in-None-clause-short
 returns-in-None-clause-short c =
-    image_short c.args.stores.now.stores c.args.db c.args.slot (stored c.store.result.now) c.requires.one_sector c.store.ensures.stored_is c.in-None.ensures.valid
+    image_short c.args.stores.now.stores c.args.db c.args.slot (stored c.store.result.now) c.requires.few_sectors c.store.ensures.stored_is c.in-None.ensures.valid

@@ -1,4 +1,4 @@
-use Rattle.std.proofs.Common.{◌≡◌, ◌+◌, ◌∷◌, ◌++◌, [], suc, length, length-append, append_assoc, drop, refl, sym, ◌∙◌, ap, subst, arith, None, Some, cond}
+use Rattle.std.proofs.Common.{◌≡◌, ◌+◌, ◌*◌, ◌∷◌, ◌++◌, [], suc, length, length-append, append_assoc, drop, refl, sym, ◌∙◌, ap, subst, arith, None, Some, cond}
 use Rattle.std.specs.List.{AllByRecursion, slice_get}
 use Rattle.std.proofs.lemmas.List.{nil_from_length}
 use Rattle.model_data.proofs.Lists.{all_front, all_back}
@@ -42,8 +42,8 @@ loop-image-preserved c =
       slots = c.add-found.ensures.slots
           ∙ ((λ i. with_new (number i) image (slots_are i)) ∙ (slots_more k image later ∙ ap (λ xs. free_slots k ++ apart xs) (sym next)));
       found = c.add-found.ensures.found
-          ∙ ((λ i. cond (is_root_there image (slots_are i)) (Some (c.args.first + number i)) ((inv.found ∙ ap (λ n. shared_at (c.args.first + n) later) count) i))
-          ∙ (found_more c.args.first k image later ∙ ap (shared_at (c.args.first + k)) (sym next)));
+          ∙ ((λ i. cond (is_root_there image (slots_are i)) (Some (c.args.first + (c.from.ensures ∙ number) i * c.from-in-Some.ensures i)) ((inv.found ∙ ap (λ n. shared_at dbd.sectors (c.args.first + n * dbd.sectors) later) count) i))
+          ∙ (found_more dbd.sectors c.args.first k image later ∙ ap (shared_at dbd.sectors (c.args.first + k * dbd.sectors)) (sym next)));
       valid = c.add-found.ensures.valid;
       database = c.add-found.ensures.database ∙ inv.database;
     }
@@ -53,8 +53,9 @@ returns-in-None-clause-slots c =
     let none : c.loop-image.images.items ≡ [] = nil_from_length c.loop-image.images.items (omega (arith, c.loop-image.images.ok, c.in_default-pop.ensures.cases)) in
     let zero : length c.loop-image.images.items ≡ 0 = ap length none in
     let all = c.args.images.items in
-    let at : c.args.first + 0 ≡ c.args.first = omega arith in
-    let shared : shared_at c.args.first all ≡ None =
-    ap (λ n. shared_at n all) (sym at) ∙ (ap (λ n. shared_at (c.args.first + n) (drop n all)) (sym zero) ∙ (sym c.loop-image.invariant.found ∙ c.in-None.is)) in
+    let sectors = c.args.dbd.now.sectors in
+    let at : c.args.first + 0 * sectors ≡ c.args.first = omega arith in
+    let shared : shared_at sectors c.args.first all ≡ None =
+    ap (λ n. shared_at sectors n all) (sym at) ∙ (ap (λ n. shared_at sectors (c.args.first + n * sectors) (drop n all)) (sym zero) ∙ (sym c.loop-image.invariant.found ∙ c.in-None.is)) in
     ap (λ (s : Kept). s.slots) c.settle.ensures
-    ∙ (c.loop-image.invariant.slots ∙ (ap (λ n. free_slots n ++ apart (drop n all)) zero ∙ all_apart c.args.first all shared))
+    ∙ (c.loop-image.invariant.slots ∙ (ap (λ n. free_slots n ++ apart (drop n all)) zero ∙ all_apart sectors c.args.first all shared))

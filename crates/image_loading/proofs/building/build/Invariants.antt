@@ -1,4 +1,4 @@
-use Rattle.std.proofs.Common.{◌≡◌, ◌+◌, ◌++◌, length, drop}
+use Rattle.std.proofs.Common.{◌≡◌, ◌+◌, ◌*◌, ◌++◌, length, drop}
 use Rattle.std.specs.List.{AllByRecursion}
 use Rattle.seg_store.specs.Slots.{AreSlots, IsSlot, free_slots}
 use Rattle.image_loading.specs.SharedRoots.{shared_at, apart}
@@ -11,7 +11,7 @@ invariant-loop-image l =
       whole : l.images.items ++ later ≡ l.initial.images.items;
       each : AllByRecursion (IsSlot l.dbd) l.images.items;
       slots : l.store.slots ≡ free_slots (length l.images.items) ++ apart later;
-      found : l.found ≡ shared_at (l.first + length l.images.items) later;
+      found : l.found ≡ shared_at l.dbd.sectors (l.first + length l.images.items * l.dbd.sectors) later;
       valid : AreSlots l.store.dbd l.store.slots;
       database : l.store.dbd ≡ l.dbd;
     }

@@ -1,12 +1,13 @@
-use Rattle.std.proofs.Common.{◌≡◌, ◌+◌, ◌∷◌, ◌++◌, [], Some, length, take, refl, sym, ◌∙◌, ap, subst, arith, IsTrue}
+use Rattle.std.proofs.Common.{◌≡◌, ◌+◌, ◌*◌, ◌∷◌, ◌++◌, [], Some, length, take, refl, sym, ◌∙◌, ap, subst, arith, IsTrue}
 use Rattle.std.specs.List.{slice_get}
 use Rattle.std.proofs.lemmas.List.{take_all}
 use Rattle.std.proofs.lemmas.Option.{slice_get_read}
 use Rattle.tm_disk.proofs.Words.{keeps_on}
-use Rattle.model_image.specs.Areas.{data_first}
+use Rattle.model_system.specs.Areas.{data_first}
 use Rattle.model_image.specs.Slots.{slot_fault}
 use Rattle.image_loading.specs.LoadedStore.{image_slots_in}
 use Rattle.image_loading.proofs.Following.{next_first, first_fits}
+use Rattle.image_loading.proofs.MostSectors.{database_few}
 use Rattle.image_loading.specs.Databases.{slots_of_databases}
 use Rattle.image_loading.specs.LoadedStores.{AreAllMade, AreSlotted}
 use Rattle.image_loading.proofs.Adding.{take_next, database_at, count_databases}
@@ -20,6 +21,13 @@ add-requires-clause-given g c =
     let there : slice_get c.args.given.now place ≡ Some c.index-given-place.result = slice_get_read c.args.given.now (length c.args.given.now) place c.index-given-place.result refl (omega (arith, c.loop-place-test.true, ap length c.databases-databases.ensures.value, c.requires.count)) c.index-given-place.is in
     c.requires.images place dbd c.index-given-place.result found there
 
+pub add-requires-clause-few : goal.add-requires-clause-few
+add-requires-clause-few g c =
+    let place = c.loop-place.place in
+    let dbd = c.index-databases-place.result in
+    let found : slice_get c.args.system.now.databases place ≡ Some dbd = subst (λ l. slice_get l place ≡ Some dbd) c.databases-databases.ensures.value (slice_get_read c.databases-databases.result.now (length c.databases-databases.result.now) place dbd refl c.loop-place-test.true c.index-databases-place.is) in
+    database_few c.args.system.now place dbd c.databases-databases.ensures.valid found
+
 pub overflow_add-first : goal.overflow_add-first
 overflow_add-first g c =
     let place = c.loop-place.place in
@@ -27,7 +35,8 @@ overflow_add-first g c =
     let found : slice_get c.args.system.now.databases place ≡ Some dbd = subst (λ l. slice_get l place ≡ Some dbd) c.databases-databases.ensures.value (slice_get_read c.databases-databases.result.now (length c.databases-databases.result.now) place dbd refl c.loop-place-test.true c.index-databases-place.is) in
     let old = g.D.Disk.state c.args.disk.now in
     let disk = g.met.D.Disk.is_disk c.args.disk.now in
-    omega (arith, c.from-first.ensures, c.loop-place.invariant.first, disk.size_fits, first_fits c.args.system.now place dbd old.size found c.requires.areas)
+    let sectors : c.from.result * c.from-in-loop-place.result ≡ dbd.roots * dbd.sectors = λ i. c.from.ensures i * c.from-in-loop-place.ensures i in
+    omega (arith, sectors, c.loop-place.invariant.first, disk.size_fits, first_fits c.args.system.now place dbd old.size found c.requires.areas)
 
 pub loop-place-preserved : goal.loop-place-preserved
 loop-place-preserved g c =
@@ -46,10 +55,11 @@ loop-place-preserved g c =
     let here = image_slots_in old.shown dbd (data_first system place) slots in
     let next : take (place + 1) all ≡ take place all ++ here ∷ [] = take_next all place here (database_at system old.shown given place system.databases dbd slots found there) in
     let same : image_slots_in mid.shown dbd c.loop-place.first slots ≡ here = ap (λ i. image_slots_in i dbd c.loop-place.first slots) keeps.shown ∙ ap (λ k. image_slots_in old.shown dbd k slots) c.loop-place.invariant.first in
+    let sectors : c.from.result * c.from-in-loop-place.result ≡ dbd.roots * dbd.sectors = λ i. c.from.ensures i * c.from-in-loop-place.ensures i in
     record {
       keeps = keeps_on old mid new (g.met.D.Disk.is_disk c.args.disk.now) keeps c.in-Ok.ensures.keeps;
       faults = c.in-Ok.ensures.cause ∙ c.loop-place.invariant.faults;
-      first = omega (arith, c.from-first.ensures, c.loop-place.invariant.first, next_first system place dbd found);
+      first = omega (arith, sectors, c.loop-place.invariant.first, next_first system place dbd found);
       made = λ none.
           subst (λ l. AreAllMade l c.add.new.loaded.stores) (sym (take_next system.databases place dbd found))
           (c.in-Ok.ensures.made (take place system.databases) c.loop-place.invariant.made none);

@@ -1,6 +1,6 @@
 use Rattle.std.proofs.Common.{◌≡◌, None, take, IsTrue}
 use Rattle.tm_disk.specs.Disk.{Keeps}
-use Rattle.model_image.specs.Areas.{data_first}
+use Rattle.model_system.specs.Areas.{data_first}
 use Rattle.model_image.specs.Slots.{slot_fault}
 use Rattle.image_loading.specs.Databases.{slots_of_databases}
 use Rattle.image_loading.specs.LoadedStores.{AreAllMade, AreSlotted}

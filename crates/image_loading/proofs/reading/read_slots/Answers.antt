@@ -1,5 +1,6 @@
-use Rattle.std.proofs.Common.{◌+◌, ◌-◌, ◌∷◌, [], refl, sym, ◌∙◌, subst, arith, IsTrue, None}
+use Rattle.std.proofs.Common.{◌≡◌, ◌+◌, ◌-◌, ◌*◌, ◌∷◌, [], refl, sym, ◌∙◌, ap, subst, arith, cond, IsTrue, None, Some}
 use Rattle.std.specs.List.{AllByRecursion}
+use Rattle.std.specs.Option.{option_or, is_some}
 use Rattle.tm_disk.proofs.Words.{keeps_same, keeps_on}
 use Rattle.model_data.proofs.Lists.{all_append}
 use Rattle.model_image.specs.Slots.{is_image, slots_by}
@@ -32,7 +33,7 @@ returns-in-Err-clause-value g c tells =
     let number = c.loop-number.number in
     let all = image_slots_in old.shown c.args.dbd.now c.args.first c.args.given.now in
     let left = slots_by (slot_from old.shown c.args.dbd.now c.args.first c.args.given.now) (c.args.dbd.now.roots - (number + 1)) (number + 1) in
-    wrong_here old.shown mid.shown c.args.dbd.now c.args.first number (c.args.first + number) c.args.given.now c.loop-number.rest.now _ c.head_given-bytes.ensures inv.ahead inv.keeps.shown refl
+    wrong_here old.shown mid.shown c.args.dbd.now c.args.first number (c.args.first + c.from.result * c.from-in-loop-number.result) c.args.given.now c.loop-number.rest.now _ c.head_given-bytes.ensures inv.ahead inv.keeps.shown (λ i. c.args.first + c.from.ensures i * c.from-in-loop-number.ensures i)
     c.in-Err.fault all left c.loop-number.images.items c.loop-number.broken
     (c.in-Err.ensures.value (subst (λ b. IsTrue b) (sym inv.keeps.stays.tells) tells))
     (subst (λ xs. IsReadTo all xs c.loop-number.images.items c.loop-number.broken) (left_next (slot_from old.shown c.args.dbd.now c.args.first c.args.given.now) c.args.dbd.now.roots number c.loop-number-test.true) (inv.read tells))
@@ -49,6 +50,7 @@ loop-number-preserved g c =
     let all = image_slots_in old.shown dbd c.args.first c.args.given.now in
     let slot = slot_from old.shown dbd c.args.first c.args.given.now in
     let left = slots_by slot (dbd.roots - (number + 1)) (number + 1) in
+    let place : c.args.first + c.from.result * c.from-in-loop-number.result ≡ c.args.first + number * dbd.sectors = λ i. c.args.first + c.from.ensures i * c.from-in-loop-number.ensures i in
     record {
       keeps = keeps_on old mid new (g.met.D.Disk.is_disk c.args.disk.now) inv.keeps c.in-Ok-slot_rows.ensures.keeps;
       until_stop = c.in-Ok-slot_rows.ensures.until_stop ∙ inv.until_stop;
@@ -60,9 +62,9 @@ loop-number-preserved g c =
       len = omega (arith, c.push_reserved.ensures.len, inv.len);
       room = omega (arith, c.push_reserved.ensures.capacity, inv.room);
       read = λ tells.
-          let here = rows_here old.shown mid.shown dbd c.args.first number (c.args.first + number) c.args.given.now c.loop-number.rest.now _ c.head_given-bytes.ensures inv.ahead inv.keeps.shown refl
+          let here = rows_here old.shown mid.shown dbd c.args.first number (c.args.first + c.from.result * c.from-in-loop-number.result) c.args.given.now c.loop-number.rest.now _ c.head_given-bytes.ensures inv.ahead inv.keeps.shown place
           rows (c.in-Ok-slot_rows.ensures.value (subst (λ b. IsTrue b) (sym inv.keeps.stays.tells) tells)) in
           let before = subst (λ xs. IsReadTo all xs c.loop-number.images.items c.loop-number.broken) (left_next slot dbd.roots number c.loop-number-test.true) (inv.read tells) in
           read_next all left (slot number) c.loop-number.images.items c.loop-number.broken rows before here c.or_none.result c.push_reserved.new.self.items c.first_broken-broken.result
-          c.push_reserved.ensures.items c.or_none.ensures c.first_broken-broken.ensures;
+          c.push_reserved.ensures.items c.or_none.ensures (c.first_broken-broken.ensures ∙ ap (λ p. option_or c.loop-number.broken (cond (is_some rows) None (Some p))) place);
     }

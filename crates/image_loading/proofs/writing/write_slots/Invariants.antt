@@ -1,6 +1,6 @@
-use Rattle.std.proofs.Common.{◌≡◌, ◌+◌, ◌≤◌, take, IsTrue}
+use Rattle.std.proofs.Common.{◌≡◌, ◌+◌, ◌*◌, ◌≤◌, take, IsTrue}
 use Rattle.tm_disk.specs.Disk.{Stays, Within, Follows}
-use Rattle.seg_store.specs.DataSectors.{MayPut, HasPut}
+use Rattle.seg_store.specs.DataSectors.{MayPut, HasPut, pieces_of}
 use Rattle.image_loading.proofs.writing.write_slots.Given as goal
 
 abbrev pub invariant-loop-slot : goal.invariant-loop-slot
@@ -9,9 +9,9 @@ invariant-loop-slot g l =
     let now = g.D.Disk.state l.disk in
     record {
       stays : Stays old now;
-      within : Within (MayPut l.first l.slots) old now;
-      follows : Follows (MayPut l.first l.slots) old now;
-      shown : IsTrue old.tells → HasPut l.first (take l.slot-index l.slots) old.shown now.shown;
+      within : Within (MayPut l.first (pieces_of l.dbd.sectors l.given)) old now;
+      follows : Follows (MayPut l.first (pieces_of l.dbd.sectors l.given)) old now;
+      shown : IsTrue old.tells → HasPut l.first (pieces_of l.dbd.sectors (take l.slot-index l.given)) old.shown now.shown;
       faults : now.faults ≡ old.faults;
-      writes : now.writes ≤ old.writes + l.slot-index;
+      writes : now.writes ≤ old.writes + l.slot-index * l.dbd.sectors;
     }

@@ -2,7 +2,7 @@ use Rattle.std.proofs.Common.{sym, subst, length, ◌+◌}
 use Rattle.tm_disk.specs.Disk.{WritesAtMost}
 use Rattle.log_writer.specs.ForcedLog.{log_sectors_of}
 use Rattle.restart_data.specs.Snapshot as snapshot
-use Rattle.seg_store.specs.WrittenSlots.{changed_count}
+use Rattle.seg_store.specs.WrittenSlots.{changed_sectors}
 use Rattle.model_system.specs.System.{System}
 use Rattle.seg_store.specs.ChangedSlots.{AllStores}
 use Rattle.program_rows.specs.SlotsState.{slots_stores}
@@ -27,5 +27,5 @@ returns-clause-logged g c = λ text units next h counted s.
 pub returns-clause-writes : goal.returns-clause-writes
 returns-clause-writes g c =
     most c.args.parts.now.system c.args.journal.now (slots_stores (slots_now c.args.parts.now)) c.args.bytes.now (g.D.Disk.state c.args.disk.now) (g.D.Disk.state c.checkpoint.new.disk) c.requires.can
-    (subst (λ (a : AllStores). WritesAtMost (log_sectors_of (length c.args.journal.now.log.appended) + changed_count a.changed + snapshot.snapshot_sectors_of (length c.args.bytes.now) + 1) (g.D.Disk.state c.args.disk.now) (g.D.Disk.state c.checkpoint.new.disk))
+    (subst (λ (a : AllStores). WritesAtMost (log_sectors_of (length c.args.journal.now.log.appended) + changed_sectors a.stores a.changed + snapshot.snapshot_sectors_of (length c.args.bytes.now) + 1) (g.D.Disk.state c.args.disk.now) (g.D.Disk.state c.checkpoint.new.disk))
     c.stores.ensures.value c.checkpoint.ensures.writes)

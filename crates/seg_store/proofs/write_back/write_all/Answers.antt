@@ -1,4 +1,4 @@
-use Rattle.std.proofs.Common.{◌≡◌, ◌<◌, ◌≤◌, length, sym, ◌∙◌, ap, subst, arith, IsTrue}
+use Rattle.std.proofs.Common.{◌≡◌, ◌*◌, ◌<◌, ◌≤◌, length, sym, ◌∙◌, ap, subst, arith, IsTrue}
 use Rattle.std.proofs.lemmas.Option.{get_or_from_slice_get}
 use Rattle.tm_disk.proofs.Words.{stays_on}
 use Rattle.seg_store.specs.ChangedSlots.{Kept}
@@ -21,7 +21,7 @@ write_one-requires-clause-sectors g c one found =
     let inv = c.loop-place.invariant in
     let lt : i < length kept = omega (arith, c.loop-place-test.true, c.len-place-end.ensures, c.args.stores.now.ok) in
     let f = found_at kept i lt in
-    all_at (λ (k : Kept). k.dbd.sectors ≤ 1) kept i one c.requires.sectors found
+    all_at (λ (k : Kept). k.dbd.sectors ≤ 8) kept i one c.requires.sectors found
 
 pub overflow_add-count : goal.overflow_add-count
 overflow_add-count g c =
@@ -41,9 +41,9 @@ overflow_add-at g c =
     let lt : i < length kept = omega (arith, c.loop-place-test.true, c.len-place-end.ensures, c.args.stores.now.ok) in
     let f = found_at kept i lt in
     let indexed : c.index.result.now ≡ f.one = c.index.ensures ∙ get_or_from_slice_get c.args.stores.now.items i f.one _ f.is in
-    let roots : c.roots-roots.result ≡ f.one.dbd.roots = c.roots-roots.ensures ∙ ap (λ (k : Kept). k.dbd.roots) indexed in
+    let area : c.sectors-area.result ≡ f.one.dbd.roots * f.one.dbd.sectors = c.sectors-area.ensures ∙ ap (λ (k : Kept). k.dbd.roots * k.dbd.sectors) indexed in
     let disk = g.met.D.Disk.is_disk c.args.disk.now in
-    omega (arith, inv.at, roots, slots_within kept i f.one f.is, c.requires.area, disk.size_fits)
+    omega (arith, inv.at, area, slots_within kept i f.one f.is, c.requires.area, disk.size_fits)
 
 pub returns-in-Err-clause-any_moment : goal.returns-in-Err-clause-any_moment
 returns-in-Err-clause-any_moment g c =
@@ -98,18 +98,18 @@ loop-place-preserved g c =
     let lt : i < length kept = omega (arith, c.loop-place-test.true, c.len-place-end.ensures, c.args.stores.now.ok) in
     let f = found_at kept i lt in
     let indexed : c.index.result.now ≡ f.one = c.index.ensures ∙ get_or_from_slice_get c.args.stores.now.items i f.one _ f.is in
-    let roots : c.roots-roots.result ≡ f.one.dbd.roots = c.roots-roots.ensures ∙ ap (λ (k : Kept). k.dbd.roots) indexed in
+    let area : c.sectors-area.result ≡ f.one.dbd.roots * f.one.dbd.sectors = c.sectors-area.ensures ∙ ap (λ (k : Kept). k.dbd.roots * k.dbd.sectors) indexed in
     let old = g.D.Disk.state c.args.disk.now in
     let mid = g.D.Disk.state c.loop-place.disk in
     let new = g.D.Disk.state c.write_one.new.disk in
     record {
-      at = omega (arith, inv.at, roots, sum_more (λ (k : Kept). k.dbd.roots) kept i f.one f.is);
-      few = omega (arith, inv.few, c.write_one.ensures.few f.one f.is, sum_more (λ (k : Kept). k.dbd.roots) kept i f.one f.is, sum_more (λ (k : Kept). length k.changed) kept i f.one f.is);
-      count = omega (arith, inv.count, c.in-Ok.ensures.count f.one f.is, sum_more (λ (k : Kept). length k.changed) kept i f.one f.is);
+      at = omega (arith, inv.at, area, sum_more (λ (k : Kept). k.dbd.roots * k.dbd.sectors) kept i f.one f.is);
+      few = omega (arith, inv.few, c.write_one.ensures.few f.one f.is, sum_more (λ (k : Kept). k.dbd.roots * k.dbd.sectors) kept i f.one f.is, sum_more (λ (k : Kept). length k.changed * k.dbd.sectors) kept i f.one f.is);
+      count = omega (arith, inv.count, c.in-Ok.ensures.count f.one f.is, sum_more (λ (k : Kept). length k.changed * k.dbd.sectors) kept i f.one f.is);
       stays = stays_on old mid new inv.stays c.write_one.ensures.stays;
       within = next_within c.args.first kept i f.one f.is c.loop-place.at inv.at old mid new inv.within inv.follows (c.write_one.ensures.any_moment f.one f.is);
       follows = next_follows c.args.first kept i f.one f.is c.loop-place.at inv.at old mid new inv.follows (c.write_one.ensures.follows f.one f.is);
       shown = λ tells. next_has c.args.first kept i f.one f.is c.loop-place.at inv.at old.shown mid.shown new.shown (inv.shown tells) (c.in-Ok.ensures.shown f.one f.is (subst (λ b. IsTrue b) (sym inv.stays.tells) tells));
       faults = c.in-Ok.ensures.no_fault ∙ inv.faults;
-      writes = omega (arith, inv.writes, c.write_one.ensures.writes f.one f.is, sum_more (λ (k : Kept). length k.changed) kept i f.one f.is);
+      writes = omega (arith, inv.writes, c.write_one.ensures.writes f.one f.is, sum_more (λ (k : Kept). length k.changed * k.dbd.sectors) kept i f.one f.is);
     }

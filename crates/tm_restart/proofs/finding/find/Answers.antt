@@ -2,7 +2,7 @@ use Rattle.std.proofs.Common.{ℕ, Bool, Ok, Err, sym, subst, ap, ◌∙◌}
 use Rattle.tm_disk.specs.Disk.{Image}
 use Rattle.tm_disk.proofs.Words.{keeps_on}
 use Rattle.restart_data.specs.Restart.{restart_in}
-use Rattle.model_image.specs.Areas.{is_single}
+use Rattle.model_system.specs.Areas.{is_single}
 use Rattle.restart_data.specs.WrittenSectors.{TellsRestart}
 use Rattle.tm_restart.specs.FoundImage.{TellsFound}
 use Rattle.tm_restart.proofs.Seen.{bad_first}

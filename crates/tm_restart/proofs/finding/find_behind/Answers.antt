@@ -2,7 +2,7 @@ use Rattle.std.proofs.Common.{◌≡◌, Ok, Some, None, sym, ◌∙◌, arith}
 use Rattle.tm_disk.specs.Disk.{Image}
 use Rattle.tm_disk.proofs.Words.{keeps_on}
 use Rattle.restart_data.specs.Restart.{restart_in}
-use Rattle.model_image.specs.Areas.{is_single, snapshot_area}
+use Rattle.model_system.specs.Areas.{is_single, snapshot_area}
 use Rattle.model_image.specs.Text.{text_in, first_difference}
 use Rattle.tm_restart.specs.FoundImage.{TellsFound}
 use Rattle.tm_restart.proofs.Seen.{other_seen}

@@ -1,7 +1,7 @@
 use Rattle.std.proofs.Common.{Ok, Err, ◌*◌, sym, ◌∙◌, ap, subst, IsTrue}
 use Rattle.tm_disk.specs.Disk.{Image}
 use Rattle.tm_disk.proofs.Words.{keeps_on}
-use Rattle.model_image.specs.Areas.{log_first}
+use Rattle.model_system.specs.Areas.{log_first}
 use Rattle.model_image.specs.RecoveredState.{log_in, first_later}
 use Rattle.model_image.specs.Slots.{all_slots}
 use Rattle.image_records.specs.NamedSlots.{AreSlotsNamed}

@@ -7,7 +7,7 @@ use Rattle.checkpointing.specs.SpelledRecords.{AddsSpelled}
 use Rattle.openings.specs.OpeningState.{shown_state}
 use Rattle.openings.proofs.StoresMade.{dbds_made, none_changed_made}
 use Rattle.tm_restart.specs.PreparedLife.{state_in, sector_behind}
-use Rattle.tm_restart.proofs.MadeReady.{epoch_below, checkpoint_below, unit_below, tabled, spelled_in, one_sector, few_bytes, prepared, made_by}
+use Rattle.tm_restart.proofs.MadeReady.{epoch_below, checkpoint_below, unit_below, tabled, spelled_in, few_sectors, few_bytes, prepared, made_by}
 use Rattle.tm_restart.proofs.preparing.prepare.Goals as goal
 
 pub next_unit-unit-requires : goal.next_unit-unit-requires
@@ -31,10 +31,10 @@ snapshot_bytes-requires-clause-state c =
     let are = tabled c.args.system.now c.args.text.now c.args.found c.requires.judged c.kept_in-kept.result c.kept_in-kept.ensures c.stores_in-stores.result.items c.stores_in-stores.ensures c.in_ok-tabled.tabled.parts c.in_ok-tabled.ensures.are in
     spelled_in c.args.system.now c.args.text.now c.args.found c.requires.judged c.terminals-terminals.ensures.valid c.in_ok-tabled.tabled.parts are
 
-pub snapshot_bytes-requires-clause-one_sector : goal.snapshot_bytes-requires-clause-one_sector
-snapshot_bytes-requires-clause-one_sector c =
+pub snapshot_bytes-requires-clause-few_sectors : goal.snapshot_bytes-requires-clause-few_sectors
+snapshot_bytes-requires-clause-few_sectors c =
     let are = tabled c.args.system.now c.args.text.now c.args.found c.requires.judged c.kept_in-kept.result c.kept_in-kept.ensures c.stores_in-stores.result.items c.stores_in-stores.ensures c.in_ok-tabled.tabled.parts c.in_ok-tabled.ensures.are in
-    one_sector c.args.system.now c.args.text.now c.args.found c.requires.judged c.terminals-terminals.ensures.valid c.in_ok-tabled.tabled.parts are
+    few_sectors c.args.system.now c.args.text.now c.args.found c.requires.judged c.terminals-terminals.ensures.valid c.in_ok-tabled.tabled.parts are
 
 pub sector_for-now-requires-clause-epoch : goal.sector_for-now-requires-clause-epoch
 sector_for-now-requires-clause-epoch c = epoch_below c.args.system.now c.args.text.now c.args.found c.requires.judged
@@ -51,7 +51,7 @@ sector_for-now-requires-clause-few c =
     let are = tabled system text c.args.found c.requires.judged c.kept_in-kept.result c.kept_in-kept.ensures c.stores_in-stores.result.items c.stores_in-stores.ensures parts c.in_ok-tabled.ensures.are in
     let unit_is = c.in_ok-tabled.ensures.next_unit ∙ c.next_unit-unit.ensures in
     let adds = subst (λ (n : ℕ). AddsSpelled (snapshot_records n parts.next_unit (state_in parts) []) [] bytes) c.behind-checkpoint.ensures c.in_ok-bytes.ensures in
-    let few : length bytes ≤ 16777216 = few_bytes system text c.args.found c.requires.judged c.terminals-terminals.ensures.valid c.requires.text parts are unit_is bytes adds in
+    let few : length bytes ≤ 266338304 = few_bytes system text c.args.found c.requires.judged c.terminals-terminals.ensures.valid c.requires.text parts are unit_is bytes adds in
     omega (arith, few, ap (λ (l : List ℕ). length l) c.deref.ensures.value)
 
 pub returns-clause-prepared : goal.returns-clause-prepared

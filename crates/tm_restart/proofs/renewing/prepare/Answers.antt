@@ -1,7 +1,7 @@
 use Rattle.std.proofs.Common.{sym, subst}
 use Rattle.tm_disk.specs.Disk.{Within, Follows, ChangesOnly}
 use Rattle.restart_data.specs.Snapshot.{snapshot_sectors_of}
-use Rattle.model_image.specs.Areas.{snapshot_area}
+use Rattle.model_system.specs.Areas.{snapshot_area}
 use Rattle.seg_store.proofs.Putting.{at_ok}
 use Rattle.tm_restart.specs.GivenSlots.{HasPutAll}
 use Rattle.tm_restart.proofs.Rewriting.{sectors_fit, prepared_within}

@@ -1,6 +1,6 @@
 use Rattle.std.proofs.Common.{sym, length}
 use Rattle.tm_disk.specs.Disk.{Follows}
-use Rattle.model_image.specs.Areas.{snapshot_area}
+use Rattle.model_system.specs.Areas.{snapshot_area}
 use Rattle.restart_data.specs.WrittenSectors.{Restarts}
 use Rattle.seg_store.proofs.Putting.{at_ok}
 use Rattle.tm_restart.specs.LifeWrites.{WritesLifeSnapshot, IsRewritten}

@@ -27,4 +27,4 @@ returns-in-Some-clause-counts g c =
     rw (sym c.self.view_is) (nothing_counted g.D.Disk.state (record { machine = c.self.inside.parts; text = c.self.inside.text; served = c.self.inside.served; journal = c.self.inside.journal; units = c.self.inside.units.items; next_unit = c.self.inside.next_unit; disk = c.self.inside.disk }) (2 * c.self.inside.parts.system.logs))
 
 pub returns-in-Some-clause-writes : goal.returns-in-Some-clause-writes
-returns-in-Some-clause-writes g c = most_same c.args.self.now.machine.system c.args.self.now.machine.databases.changed c.args.self.now.journal (g.D.Disk.state c.args.self.now.disk)
+returns-in-Some-clause-writes g c = most_same c.args.self.now.machine.system c.args.self.now.machine.databases.stores c.args.self.now.machine.databases.changed c.args.self.now.journal (g.D.Disk.state c.args.self.now.disk)

@@ -1,6 +1,7 @@
 -- Where the areas of a system's disk stand: the restart sector, 64 sectors of the definition's text, two areas for
--- snapshots, two for logs, and a sector for each slot of each database.
-use Rattle.std.specs.Prelude.{ℕ, ◌+◌, ◌*◌, ◌/◌, max, Bool, nat_le, List, [], ◌∷◌, length, take, sum_by}
+-- snapshots, two for logs, and the sectors of each slot of each database.
+use Rattle.std.specs.Prelude.{ℕ, ◌+◌, ◌*◌, ◌/◌, max, Bool, nat_le, List, [], ◌∷◌, length, take, sum_by, slice_get}
+use Rattle.std.specs.Option.{option_map_or}
 use Rattle.tm_types.specs.declared.dbd.Dbd.{Dbd}
 use Rattle.model_system.specs.System.{System}
 
@@ -30,4 +31,16 @@ log_first system area = 65 + 2 * snapshot_area system + area * system.logs
 
 -- where the slots of a database begin, the first database having the place 0
 abbrev pub data_first : System → ℕ → ℕ
-data_first system place = log_first system 2 + sum_by (λ dbd. dbd.roots) (take place system.databases)
+data_first system place = log_first system 2 + sum_by (λ dbd. dbd.roots * dbd.sectors) (take place system.databases)
+
+-- how many sectors a disk of the system has
+abbrev pub sectors_needed : System → ℕ
+sectors_needed system = data_first system (length system.databases)
+
+-- how many sectors each slot of the database at a place has
+abbrev pub slot_size : System → ℕ → ℕ
+slot_size system place = option_map_or (λ dbd. dbd.sectors) (slice_get system.databases place) 1
+
+-- where a slot of it begins: its sectors stand one after the other
+abbrev pub slot_first : System → ℕ → ℕ → ℕ
+slot_first system place number = data_first system place + number * slot_size system place
