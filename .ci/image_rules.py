@@ -579,18 +579,19 @@ class Life:
         self.image = done(image, self.steps)
         opened = recover(system, self.image)
         self.now, self.state, self.stores = opened.now, opened.state, opened.values
-        self.used, self.pending, self.units, self.dirty = 0, b"", {}, set()
+        self.used, self.pending, self.waits, self.units, self.dirty = 0, b"", False, {}, set()
 
     def write(self, steps):
         self.steps += steps
         self.image = done(self.image, steps)
 
     def append(self, records):
-        """A call's records: a checkpoint goes before where it is due, and all but changes alone are forced."""
+        """A call's records, which wait for a force: a checkpoint goes before where it is due."""
         payload = b"".join(map(spell, records))
         if payload and self.system.log_sectors - self.used - len(pieces(self.pending + payload)) < 32:
             self.checkpoint()
         self.pending += payload
+        self.waits |= any(type(record) is not Change for record in records)
         for record in records:
             self.state.do(record)
             if type(record) is Change:
@@ -602,8 +603,6 @@ class Life:
                 self.take_back(record.unit)
             elif type(record) is SyncPoint:
                 self.units.pop(record.unit, None)
-        if any(type(record) is not Change for record in records):
-            self.force()
         if isinstance(records, RolledBack):
             self.units.pop(records[0].unit, None)
 
@@ -614,7 +613,7 @@ class Life:
         first = self.system.logs[self.now.log] + self.used
         sealed = [(first + at, log_sector(self.now.epoch, self.now.sequence + at, piece)) for at, piece in enumerate(pieces(self.pending))]
         self.write([*sealed, None] if sealed else [])
-        self.used, self.pending = self.used + len(sealed), b""
+        self.used, self.pending, self.waits = self.used + len(sealed), b"", False
         self.now = self.now._replace(sequence=self.now.sequence + len(sealed))
 
     def checkpoint(self):

@@ -1,37 +1,31 @@
--- A unit changes slots, or ends without a sync point: each image of the life is one of the life that this leaves.
-use Rattle.std.proofs.Common.{◌≡◌, ℕ, zero, suc, ◌+◌, ◌-◌, ◌<◌, Bool, true, false, not, ◌&&◌, ◌||◌, List, [], ◌∷◌, ◌++◌, refl, sym, ◌∙◌, ap, subst, arith, Some, None, IsSome, append_assoc, append-nil, nat_lt}
+-- A unit changes slots, or ends without a sync point: the life that this leaves, and its records.
+use Rattle.std.proofs.Common.{◌≡◌, ℕ, zero, suc, ◌+◌, ◌-◌, ◌<◌, Bool, true, false, ◌&&◌, List, [], ◌∷◌, ◌++◌, refl, sym, ◌∙◌, ap, subst, arith, Some, None, IsSome, append-nil, nat_lt}
 use Rattle.std.specs.Prelude.{Option, if◌then◌else◌, ◌==◌, slice_get, reverse}
-use Rattle.std.specs.List.{list_any, flat_map}
+use Rattle.std.specs.List.{flat_map}
 use Rattle.std.specs.Option.{option_map_or}
 use Rattle.std.proofs.lemmas.Bool.{eq-eqb, eqb-true, ltb-true}
 use Rattle.std.proofs.lemmas.Grind.{flat_map-append}
 use Rattle.std.proofs.lemmas.List.Concat.{flat_map-cons}
-use Rattle.std.proofs.lemmas.List.Elements.{filter-append}
-use Rattle.std.proofs.lemmas.List.Folds.{list_any-append}
 use Rattle.tm_types.specs.declared.dbd.Dbd.{Dbd}
 use Rattle.tm_disk.specs.Disk.{Image}
 use Rattle.model_system.specs.System.{System}
 use Rattle.log_records.specs.declared.record.Record.{Record}
 use Rattle.log_records.specs.RecordSpelling.{record_spelling, IsLogRecord}
 use Rattle.log_records.proofs.Takes.{IsBytes}
-use Rattle.model_image.specs.Slots.{is_change_of, is_sync_point_of, is_synced, is_image, are_images, is_image_of, named_by}
-use Rattle.image_law.specs.Records.{is_change_record}
-use Rattle.image_law.proofs.Bools.{first_of, second_of, neither_first}
+use Rattle.model_image.specs.Slots.{is_change_of, is_image, are_images, is_image_of, named_by}
+use Rattle.image_law.proofs.Bools.{first_of, second_of}
 use Rattle.image_law.proofs.Lists.{all_more}
+use Rattle.image_law.proofs.Replayed.{appended}
 use Rattle.disk_law.specs.CommittedBytes.{Touch, Touches, Bytes, changes_of_slot, IsLast, AreCommitted, is_place, touched}
 use Rattle.disk_law.proofs.Slots.{change_keeps, ended_keeps}
 use Rattle.disk_law.specs.Life.{LifeOnDisk, IsLifeOnDisk, AreBeside}
-use Rattle.disk_law.specs.KeptImages.{IsImageKept, StandsAt}
+use Rattle.disk_law.specs.KeptImages.{AreRecordsOf, StandsAt, beginning}
 use Rattle.disk_law.specs.SlotChanges.{SlotChange, change_record, with_slot_change, MayChange, with_slot_changes, MayChangeAll, life_without_unit, MarksBack}
-use Rattle.disk_law.proofs.Naming.{all_behind, unnamed_changes, named_stays}
-use Rattle.disk_law.proofs.Front.{all_both}
+use Rattle.disk_law.specs.LifeSteps.{done_to}
+use Rattle.disk_law.proofs.Naming.{all_behind, unnamed_before, unnamed_changes, named_stays}
+use Rattle.disk_law.proofs.Front.{all_both, bytes_both}
 
--- ---- lists of bytes
-
-pub bytes_both : (xs ys : List ℕ) → IsBytes xs → IsBytes ys → IsBytes (xs ++ ys)
-bytes_both [] ys one other i = other i
-bytes_both (x ∷ xs) ys one other zero = one zero
-bytes_both (x ∷ xs) ys one other (suc i) = bytes_both xs ys (λ j. one (suc j)) other i
+-- ---- records that are spelled
 
 pub spelled_more : (records : List Record) (r : Record) → flat_map record_spelling (records ++ r ∷ []) ≡ flat_map record_spelling records ++ record_spelling r
 spelled_more records r =
@@ -198,85 +192,45 @@ module _ (unit : ℕ) (c : SlotChange) (life : LifeOnDisk) (l : IsLifeOnDisk lif
       fits = may.fits;
       spelled = ap (λ (b : List ℕ). b ++ record_spelling its_record) l.appended.spelled ∙ sym (spelled_more life.appended its_record);
       records = all_both IsLogRecord life.appended (its_record ∷ []) l.appended.records (may.is_record, tt);
-      changes = filter-append (λ r. not (is_change_record r)) life.appended (its_record ∷ []) ∙ ap (λ (rs : List Record). rs ++ []) l.appended.changes;
-      images = all_more (is_image_of life.system) life.appended its_record l.appended.images may.image;
+      bytes = subst IsBytes (sym (spelled_more life.appended its_record)) (bytes_both (flat_map record_spelling life.appended) (record_spelling its_record) l.appended.bytes may.bytes);
     };
     sound = l.sound;
     rows = l.rows;
     slots = beside_after;
   }
 
-  module _ (a : Image) (k : IsImageKept life a) where
-    abbrev so_far : List Record
-    so_far = k.log ++ life.appended
-
-    joined : so_far ++ its_record ∷ [] ≡ k.log ++ (life.appended ++ its_record ∷ [])
-    joined = append_assoc k.log life.appended (its_record ∷ [])
-
-    unsynced : list_any (is_sync_point_of unit) k.log ≡ false
-    unsynced =
-        neither_first (list_any (is_sync_point_of unit) k.log) (list_any (is_sync_point_of unit) life.appended)
-        (sym (list_any-append (is_sync_point_of unit) k.log life.appended) ∙ k.slots.open_yet unit may.may)
-
-    slots_after : AreCommitted k.snapshot (k.log ++ life_after.appended) life.may_sync life_after.touches life.committed
-    slots_after =
-        subst (λ (records : List Record). AreCommitted k.snapshot records life.may_sync life_after.touches life.committed) joined
-        (change_keeps k.snapshot so_far life.may_sync life.touches life.committed k.slots unit c.database c.slot c.before c.after may.may may.alone was_committed)
-
-    here_named : (d s : ℕ) → is_here d s ≡ true → IsSome (named_by k.snapshot (k.log ++ life_after.appended) d s)
+  module _ (snapshot log : List Record) (a : Image) (k : AreRecordsOf life snapshot log a) where
+    here_named : (d s : ℕ) → is_here d s ≡ true → IsSome (named_by snapshot (log ++ its_record ∷ []) d s)
     here_named d s here =
-        subst (λ (records : List Record). IsSome (named_by k.snapshot records d s)) joined
-        (named_last k.snapshot so_far its_record d s
-        (let same = same_place c.database c.slot d s here in rw (eq-eqb c.database d (sym same.0), eq-eqb c.slot s (sym same.1)) refl))
+        named_last snapshot log its_record d s
+        (let same = same_place c.database c.slot d s here in rw (eq-eqb c.database d (sym same.0), eq-eqb c.slot s (sym same.1)) refl)
 
-    there_named : (d s : ℕ) → IsSome (named_by k.snapshot so_far d s) → IsSome (named_by k.snapshot (k.log ++ life_after.appended) d s)
-    there_named d s some =
-        subst (λ (records : List Record). IsSome (named_by k.snapshot records d s)) joined (named_stays k.snapshot so_far (its_record ∷ []) d s some)
-
-    -- A unit changes a slot.
-    pub change_kept : IsImageKept life_after a
-    change_kept = record {
-      restart = k.restart;
-      has_text = k.has_text;
-      snapshot = k.snapshot;
-      log = k.log;
-      has_snapshot = k.has_snapshot;
-      has_log = k.has_log;
-      records = k.records;
-      bytes =
-          subst IsBytes (sym (spelled_more so_far its_record) ∙ ap (λ (records : List Record). flat_map record_spelling records) joined)
-          (bytes_both (flat_map record_spelling so_far) (record_spelling its_record) k.bytes may.bytes);
-      lasts = k.lasts;
-      open_yet =
-          list_any-append (is_synced k.log) life.appended (its_record ∷ [])
-          ∙ ap (λ b. b || (list_any (is_sync_point_of unit) k.log || false)) k.open_yet
-          ∙ ap (λ b. b || false) unsynced;
-      slots = slots_after;
-      unnamed = k.unnamed;
+    -- The change is appended to them, and leaves what lasts.
+    pub change_records : AreRecordsOf life_after snapshot (log ++ its_record ∷ []) a
+    change_records = record {
+      lasts = appended life.system log (its_record ∷ []) [] (beginning life.system snapshot) (done_to life.system life.lasting) (done_to life.system life.lasting) k.lasts l.sound (all_more (is_image_of life.system) [] its_record refl may.image) refl refl;
+      slots = change_keeps snapshot log life.may_sync life.touches life.committed k.slots unit c.database c.slot c.before c.after may.may may.alone was_committed;
+      unnamed = λ place number dbd found below none. k.unnamed place number dbd found below (unnamed_before snapshot log (its_record ∷ []) (place + 1) number none);
       written = λ place number dbd found below. by_here_written place number dbd found below (is_here (place + 1) number) refl;
       named = λ place number dbd found below. by_here_named place number dbd found below (is_here (place + 1) number) refl;
-      not_later = k.not_later;
-      none_ahead = k.none_ahead;
     } where
       by_here_written : (place number : ℕ) (dbd : Dbd) → slice_get life.system.databases place ≡ Some dbd → number < dbd.roots → (h : Bool) → is_here (place + 1) number ≡ h →
-          (if h then true else life.changed (place + 1) number) ≡ false → StandsAt life.system a place number (if h then c.after else life.present (place + 1) number)
-      by_here_written place number dbd found below true here unchanged = absurd cc
+          (if h then c.marked else life.changed (place + 1) number) ≡ false → StandsAt life.system a place number (if h then c.after else life.present (place + 1) number)
+      by_here_written place number dbd found below true here unchanged =
+          let same = may.same unchanged in
+          subst (λ (v : List ℕ). StandsAt life.system a place number v) (at_same life.present c.database c.slot (place + 1) number here ∙ sym may.stood ∙ sym same.1)
+          (k.written place number dbd found below (at_same life.changed c.database c.slot (place + 1) number here ∙ same.0))
       by_here_written place number dbd found below false here unchanged = k.written place number dbd found below unchanged
 
       by_here_named : (place number : ℕ) (dbd : Dbd) → slice_get life.system.databases place ≡ Some dbd → number < dbd.roots → (h : Bool) → is_here (place + 1) number ≡ h →
-          (if h then true else life.changed (place + 1) number) ≡ true → IsSome (named_by k.snapshot (k.log ++ life_after.appended) (place + 1) number)
+          (if h then c.marked else life.changed (place + 1) number) ≡ true → IsSome (named_by snapshot (log ++ its_record ∷ []) (place + 1) number)
       by_here_named place number dbd found below true here changed = here_named (place + 1) number here
-      by_here_named place number dbd found below false here changed = there_named (place + 1) number (k.named place number dbd found below changed)
+      by_here_named place number dbd found below false here changed = named_stays snapshot log (its_record ∷ []) (place + 1) number (k.named place number dbd found below changed)
 
 -- one change after another
 pub changes_life : (unit : ℕ) (changes : List SlotChange) (life : LifeOnDisk) → IsLifeOnDisk life → MayChangeAll unit changes life → IsLifeOnDisk (with_slot_changes unit changes life)
 changes_life unit [] life l may = l
 changes_life unit (c ∷ changes) life l may = changes_life unit changes (with_slot_change unit c life) (change_life unit c life l may.0) may.1
-
-pub changes_kept : (unit : ℕ) (changes : List SlotChange) (life : LifeOnDisk) → IsLifeOnDisk life → MayChangeAll unit changes life → (a : Image) → IsImageKept life a → IsImageKept (with_slot_changes unit changes life) a
-changes_kept unit [] life l may a k = k
-changes_kept unit (c ∷ changes) life l may a k =
-    changes_kept unit changes (with_slot_change unit c life) (change_life unit c life l may.0) may.1 a (change_kept unit c life l may.0 a k)
 
 -- ---- the end of a unit without a sync point
 
@@ -328,32 +282,20 @@ module _ (unit : ℕ) (changed : ℕ → ℕ → Bool) (life : LifeOnDisk) (l : 
     };
   }
 
-  module _ (a : Image) (k : IsImageKept life a) where
+  module _ (snapshot log : List Record) (a : Image) (k : AreRecordsOf life snapshot log a) where
     changed_named : (place number : ℕ) (dbd : Dbd) → slice_get life.system.databases place ≡ Some dbd → number < dbd.roots → changed (place + 1) number ≡ true → (o : Option Touch) → life.touches unit (place + 1) number ≡ o →
-        IsSome (named_by k.snapshot (k.log ++ life.appended) (place + 1) number)
+        IsSome (named_by snapshot log (place + 1) number)
     changed_named place number dbd found below is None none = k.named place number dbd found below (marks.only place number dbd found below is none)
-    changed_named place number dbd found below is (Some t) there =
-        touched_named k.snapshot (k.log ++ life.appended) life.may_sync life.touches life.committed k.slots unit (place + 1) number t there
+    changed_named place number dbd found below is (Some t) there = touched_named snapshot log life.may_sync life.touches life.committed k.slots unit (place + 1) number t there
 
-    -- It ends, with its slots put back.
-    pub without_kept : IsImageKept life_without a
-    without_kept = record {
-      restart = k.restart;
-      has_text = k.has_text;
-      snapshot = k.snapshot;
-      log = k.log;
-      has_snapshot = k.has_snapshot;
-      has_log = k.has_log;
-      records = k.records;
-      bytes = k.bytes;
+    -- The records stay as they are, with the unit's slots put back.
+    pub without_records : AreRecordsOf life_without snapshot log a
+    without_records = record {
       lasts = k.lasts;
-      open_yet = k.open_yet;
-      slots = ended_keeps k.snapshot (k.log ++ life.appended) life.may_sync life.touches life.committed k.slots unit;
+      slots = ended_keeps snapshot log life.may_sync life.touches life.committed k.slots unit;
       unnamed = k.unnamed;
       written = λ place number dbd found below is.
           let both = marks.same place number dbd found below is in
           subst (λ (v : List ℕ). StandsAt life.system a place number v) (sym both.1) (k.written place number dbd found below both.0);
       named = λ place number dbd found below is. changed_named place number dbd found below is (life.touches unit (place + 1) number) refl;
-      not_later = k.not_later;
-      none_ahead = k.none_ahead;
     }

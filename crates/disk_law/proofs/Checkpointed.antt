@@ -1,14 +1,13 @@
--- A checkpoint of a life: its images have what it asks for, and the image behind it is one of the life behind it.
-use Rattle.std.proofs.Common.{◌≡◌, ℕ, ◌+◌, ◌-◌, ◌*◌, ◌<◌, ◌≤◌, Bool, true, false, List, [], ◌∷◌, ◌++◌, length, get_or, refl, sym, ◌∙◌, ap, subst, ⊎_elim, arith, Some, Ok, IsSome}
+-- A checkpoint of a life of which nothing waits: its images have what it asks for, and the image behind it is one of the life behind it.
+use Rattle.std.proofs.Common.{◌≡◌, ℕ, ◌+◌, ◌-◌, ◌*◌, ◌<◌, ◌≤◌, Bool, true, false, List, [], ◌∷◌, ◌++◌, length, get_or, refl, sym, ◌∙◌, ap, subst, ⊎_elim, arith, append-nil, Some, Ok, IsSome}
 use Rattle.std.specs.Prelude.{Option, Result, slice_index_or}
 use Rattle.std.specs.List.{flat_map}
-use Rattle.std.proofs.lemmas.Grind.{flat_map-append}
 use Rattle.tm_disk.specs.Disk.{Image, sector_at}
 use Rattle.tm_types.specs.declared.dbd.Dbd.{Dbd}
 use Rattle.model_data.specs.Record as rows
 use Rattle.model_machine.specs.Machine.{LastingState}
 use Rattle.log_records.specs.declared.record.Record.{Record}
-use Rattle.log_records.specs.RecordSpelling.{record_spelling, IsLogRecord}
+use Rattle.log_records.specs.RecordSpelling.{record_spelling}
 use Rattle.log_records.specs.RecordReader.{◌>>=◌}
 use Rattle.log_records.proofs.Takes.{IsBytes}
 use Rattle.log_sectors.specs.Chain.{joined_payloads}
@@ -43,7 +42,9 @@ use Rattle.disk_law.specs.KeptImages.{IsImageKept, StandsAt}
 use Rattle.disk_law.proofs.Naming.{unnamed_changes}
 use Rattle.disk_law.proofs.Recovering.{all_at}
 use Rattle.disk_law.proofs.Forcing.{text_same}
-use Rattle.disk_law.proofs.Front.{all_both, recovers, front_recovers}
+use Rattle.disk_law.proofs.Front.{recovers}
+use Rattle.disk_law.proofs.Pending.{front_one}
+use Rattle.disk_law.proofs.OnDisk.{one_recovers}
 use Rattle.disk_law.specs.LifeCheckpoint.{is_slot_changed, parts_with, MayCheckpoint, after_checkpoint}
 use Rattle.disk_law.proofs.Anew.{begins_anew, none_told}
 use Rattle.disk_law.proofs.Stored.{store_of, bytes_of_store, slot_short, dirty_changed, changed_dirty}
@@ -66,7 +67,20 @@ no_bytes i = nothing i where
   nothing : (i : ℕ) → get_or [] i 0 < 256
   nothing i = omega arith
 
-module _ (bytes : List ℕ) (stores : AllStores) (touches : Touches) (told : List Record) (life : LifeOnDisk) (l : IsLifeOnDisk life) (may : MayCheckpoint bytes stores touches told life) where
+-- The parts of the life behind a checkpoint agree.
+pub checkpoint_life : (bytes : List ℕ) (stores : AllStores) (touches : Touches) (told : List Record) (life : LifeOnDisk) → IsLifeOnDisk life → MayCheckpoint bytes stores touches told life → IsLifeOnDisk (after_checkpoint bytes touches life)
+checkpoint_life bytes stores touches told life l may = record {
+  in_range = may.next;
+  few = l.few;
+  writer = record { first = refl; count = refl; sequence = refl; epoch = refl };
+  appended = record { fits = omega arith; spelled = refl; records = tt; bytes = no_bytes };
+  sound = l.sound;
+  rows = l.rows;
+  slots = may.forgets.slots;
+}
+
+module _ (bytes : List ℕ) (stores : AllStores) (touches : Touches) (told : List Record) (life : LifeOnDisk) (l : IsLifeOnDisk life) (may : MayCheckpoint bytes stores touches told life)
+    (nothing : life.appended ≡ []) where
   abbrev parts : CheckpointParts
   parts = parts_with bytes life
 
@@ -79,12 +93,12 @@ module _ (bytes : List ℕ) (stores : AllStores) (touches : Touches) (told : Lis
   module _ (a : Image) (k : IsImageKept life a) where
     -- ---- what it asks for
 
-    same_records : (cut_of (log_of_writer life.log a ++ life.log.appended)).records ≡ k.log ++ life.appended
+    same_records : (cut_of (log_of_writer life.log a ++ life.log.appended)).records ≡ k.log
     same_records =
-        let valid = all_both IsLogRecord k.log life.appended k.records l.appended.records in
-        let same : log_of_writer life.log a ++ life.log.appended ≡ flat_map record_spelling (k.log ++ life.appended) =
-        ap (λ (old : List ℕ). old ++ life.log.appended) k.has_log ∙ ap (λ (new : List ℕ). flat_map record_spelling k.log ++ new) l.appended.spelled ∙ sym (flat_map-append record_spelling k.log life.appended) in
-        ap (λ (b : List ℕ). (cut_of b).records) same ∙ cut_is (cut_of (flat_map record_spelling (k.log ++ life.appended))) (k.log ++ life.appended) (records_whole (k.log ++ life.appended) valid)
+        let none : life.log.appended ≡ [] = l.appended.spelled ∙ ap (λ (rs : List Record). flat_map record_spelling rs) nothing in
+        let same : log_of_writer life.log a ++ life.log.appended ≡ flat_map record_spelling k.log =
+        ap (λ (old : List ℕ). old ++ life.log.appended) k.has_log ∙ ap (λ (new : List ℕ). flat_map record_spelling k.log ++ new) none ∙ append-nil (flat_map record_spelling k.log) in
+        ap (λ (b : List ℕ). (cut_of b).records) same ∙ cut_is (cut_of (flat_map record_spelling k.log)) k.log (records_whole k.log k.records)
 
     -- Each slot that was changed is named.
     pub changed_named : (snapshot : List Record) → snapshot_from life.system a life.now ≡ Ok snapshot → (place number : ℕ) → DirtySlot stores place number → IsSome (named_by snapshot (cut_of (log_of_writer life.log a ++ life.log.appended)).records (place + 1) number)
@@ -92,17 +106,17 @@ module _ (bytes : List ℕ) (stores : AllStores) (touches : Touches) (told : Lis
         let of_ = dirty_slot life.system stores may.slots.are_of place number slot in
         let changed : life.changed (place + 1) number ≡ true = may.slots.changed place number of_.dbd of_.found of_.below ∙ dirty_changed stores place number slot in
         subst (λ (s : List Record). IsSome (named_by s (cut_of (log_of_writer life.log a ++ life.log.appended)).records (place + 1) number)) (one_value k.snapshot snapshot (sym k.has_snapshot ∙ read))
-        (subst (λ (rs : List Record). IsSome (named_by k.snapshot rs (place + 1) number)) (sym same_records) (k.named place number of_.dbd of_.found of_.below changed))
+        (subst (λ (rs : List Record). IsSome (named_by k.snapshot rs (place + 1) number)) (sym same_records) (k.are.named place number of_.dbd of_.found of_.below changed))
 
     pub stands : Stands parts life.log stores a
     stands = record { now = k.restart; free = free; over = over; room = l.appended.fits; of_ = may.slots.are_of; fits = may.fits; named = changed_named }
 
-    -- Whatever the image recovers to, one with a front of what was appended does.
+    -- Whatever the image recovers to, one within a force, with nothing to force, does.
     pub force_keeps : (b : Image) → AddsFront life.log a b → KeepsRecovery life.system a b
     force_keeps b front state recovered =
         subst (λ (answer : Result LastingState Fault). Recovers life.system b answer)
         (one_answer_of life.system a (Ok life.lasting) (Ok state) (recovers life l a k) recovered)
-        (front_recovers life l a k b front)
+        (one_recovers life.system life.lasting b (front_one life l nothing [] tt a k b front))
 
     pub ahead_behind : NoneAhead life.system a life.now.epoch (sequence_behind life.log)
     ahead_behind = ahead_more life.system a life.now.epoch (life.log.sequence + life.log.place) (sequence_behind life.log) (omega arith) k.none_ahead
@@ -183,7 +197,7 @@ module _ (bytes : List ℕ) (stores : AllStores) (touches : Touches) (told : Lis
             (data_holds size (rows.rows_spelling image) short))
         by_changed false is =
             subst (λ (sectors : List (List ℕ)). HoldsBytes (life.present (place + 1) number) sectors) (sym (unchanged_stays place number (record { dbd = dbd; found = found; below = below }) is))
-            (k.written place number dbd found below (may.slots.changed place number dbd found below ∙ is))
+            (k.are.written place number dbd found below (may.slots.changed place number dbd found below ∙ is))
 
       pub has_snapshot : snapshot_from life.system e now_after ≡ Ok told
       has_snapshot =
@@ -198,7 +212,7 @@ module _ (bytes : List ℕ) (stores : AllStores) (touches : Touches) (told : Lis
       slots_after : Rattle.disk_law.specs.CommittedBytes.AreCommitted told [] life.may_sync touches life.committed
       slots_after =
           begins_anew told life.may_sync touches life.committed may.is_snapshot.tells
-          (λ unit d s t is. k.slots.live unit d s t (may.forgets.kept unit d s t is))
+          (λ unit d s t is. k.are.slots.live unit d s t (may.forgets.kept unit d s t is))
           (λ unit d s t is. may.forgets.slots.firsts unit d s t is)
 
       -- It is an image of the life behind it.
@@ -212,38 +226,27 @@ module _ (bytes : List ℕ) (stores : AllStores) (touches : Touches) (told : Lis
         has_log = ap joined_payloads (ahead_empty life.system e life.now.epoch (sequence_behind life.log) (1 - life.now.log) none_ahead_after (omega arith) (omega (arith, may.next.sequence.1)));
         records = tt;
         bytes = no_bytes;
-        lasts = ap (λ (lasting : LastingState). Some (record { lasting = lasting; waiting = [] })) may.is_snapshot.state_is;
-        open_yet = refl;
-        slots = slots_after;
-        unnamed = λ place number dbd found below none.
-            subst (λ (v : List ℕ). StandsAt life.system e place number v)
-            (sym (may.forgets.slots.untouched place number dbd found below
-            (none_told told life.may_sync touches life.committed may.is_snapshot.tells
-            (λ unit d s t is. k.slots.live unit d s t (may.forgets.kept unit d s t is))
-            (λ unit d s t is. may.forgets.slots.firsts unit d s t is)
-            (place + 1) number (unnamed_changes told [] (place + 1) number none))))
-            (all_stand place number dbd found below);
-        written = λ place number dbd found below is. all_stand place number dbd found below;
-        named = λ place number dbd found below is. absurd cc;
+        are = record {
+          lasts = ap (λ (lasting : LastingState). Some (record { lasting = lasting; waiting = [] })) may.is_snapshot.state_is;
+          slots = slots_after;
+          unnamed = λ place number dbd found below none.
+              subst (λ (v : List ℕ). StandsAt life.system e place number v)
+              (sym (may.forgets.slots.untouched place number dbd found below
+              (none_told told life.may_sync touches life.committed may.is_snapshot.tells
+              (λ unit d s t is. k.are.slots.live unit d s t (may.forgets.kept unit d s t is))
+              (λ unit d s t is. may.forgets.slots.firsts unit d s t is)
+              (place + 1) number (unnamed_changes told [] (place + 1) number none))))
+              (all_stand place number dbd found below);
+          written = λ place number dbd found below is. all_stand place number dbd found below;
+          named = λ place number dbd found below is. absurd cc;
+        };
         not_later = later_behind parts life.log stores a e stands done (omega (arith, l.in_range.epoch.1)) life.lasting (recovers life l a k);
         none_ahead = subst (λ n. NoneAhead life.system e life.now.epoch n) (omega arith) none_ahead_after;
       }
-
-  -- The parts of the life behind it agree.
-  pub checkpoint_life : IsLifeOnDisk (after_checkpoint bytes touches life)
-  checkpoint_life = record {
-    in_range = may.next;
-    few = l.few;
-    writer = record { first = refl; count = refl; sequence = refl; epoch = refl };
-    appended = record { fits = omega arith; spelled = refl; records = tt; changes = refl; images = refl };
-    sound = l.sound;
-    rows = l.rows;
-    slots = may.forgets.slots;
-  }
 
   -- And so, whatever the image before recovers to, the one behind does.
   pub snapshot_keeps : (a e : Image) → IsImageKept life a → IsCheckpointed parts life.log stores a e → KeepsRecovery life.system a e
   snapshot_keeps a e k done state recovered =
       subst (λ (answer : Result LastingState Fault). Recovers life.system e answer)
       (one_answer_of life.system a (Ok life.lasting) (Ok state) (recovers life l a k) recovered)
-      (recovers (after_checkpoint bytes touches life) checkpoint_life e (checkpoint_kept a k e done))
+      (recovers (after_checkpoint bytes touches life) (checkpoint_life bytes stores touches told life l may) e (checkpoint_kept a k e done))

@@ -1,15 +1,15 @@
 -- What images count on while records are forced behind a life's log.
-use Rattle.std.proofs.Common.{◌≡◌, ℕ, zero, suc, ◌+◌, ◌-◌, ◌<◌, ◌≤◌, List, [], ◌∷◌, ◌++◌, length, get_or, take, max, refl, sym, ◌∙◌, ap, subst, inl, inr, arith, append_assoc, append-nil, Some, Ok}
+use Rattle.std.proofs.Common.{◌≡◌, ℕ, zero, suc, ◌+◌, ◌<◌, ◌≤◌, List, [], ◌∷◌, ◌++◌, take, max, refl, sym, ◌∙◌, ap, subst, inl, inr, arith, append_assoc, append-nil, Some, Ok}
 use Rattle.std.specs.Prelude.{Result}
 use Rattle.std.specs.List.{flat_map, AllByRecursion}
 use Rattle.std.proofs.lemmas.Grind.{flat_map-append}
-use Rattle.tm_disk.specs.Disk.{Image}
+use Rattle.tm_disk.specs.Disk.{Image, DiskState}
 use Rattle.model_system.specs.System.{System}
+use Rattle.model_machine.specs.Machine.{LastingState}
 use Rattle.log_records.specs.declared.record.Record.{Record}
 use Rattle.log_records.specs.RecordSpelling.{record_spelling, IsLogRecord}
-use Rattle.log_records.proofs.Takes.{IsBytes}
 use Rattle.log_writer.specs.Writer.{Writer}
-use Rattle.log_writer.specs.ForcedLog.{log_of_writer, log_sectors_of, AddsFront, AddsAll}
+use Rattle.log_writer.specs.ForcedLog.{log_of_writer, AddsFront, AddsAll}
 use Rattle.restart_data.specs.declared.restart.RestartSector.{RestartSector}
 use Rattle.restart_data.specs.Restart.{IsRestart, restart_in}
 use Rattle.model_image.specs.SectorsAhead.{NoneAhead}
@@ -19,24 +19,27 @@ use Rattle.model_image.specs.CutRecords.{cut_of, where_none_left}
 use Rattle.model_image.specs.RecoveredState.{snapshot_from, log_in}
 use Rattle.model_image.proofs.Cutting.{records_whole}
 use Rattle.checkpointing.specs.Counts.{AreUpTo, CountsUpTo}
-use Rattle.checkpointing.specs.CheckpointParts.{CheckpointParts, next_restart, next_writer}
+use Rattle.checkpointing.specs.CheckpointParts.{CheckpointParts, next_restart, next_writer, forced_writer}
 use Rattle.checkpointing.specs.Checkpoint.{IsCheckpointed}
 use Rattle.checkpointing.specs.CheckpointSteps.{Takes}
 use Rattle.checkpointing.proofs.Counted.{alike_up_to, begun_up_to, sequence_most, one_restart}
-use Rattle.checkpointing.proofs.Keeping.{all_front, is_checkpointed, next_restart_in, unread_images}
+use Rattle.checkpointing.proofs.Keeping.{Stands, all_front, is_checkpointed, next_restart_in, unread_images}
 use Rattle.seg_store.specs.ChangedSlots.{AllStores}
 use Rattle.disk_law.specs.CommittedBytes.{Touches}
 use Rattle.log_sectors.specs.Chain.{joined_payloads}
 use Rattle.model_image.proofs.Ahead.{ahead_empty}
 use Rattle.disk_law.specs.LifeCheckpoint.{MayCheckpoint, parts_with}
+use Rattle.disk_law.specs.LifeSteps.{forced_life}
+use Rattle.disk_law.specs.PendingMoves.{PendsBehind}
 use Rattle.disk_law.proofs.Checkpointed.{has_snapshot, none_ahead_after, stands}
-use Rattle.disk_law.specs.Life.{LifeOnDisk, IsLifeOnDisk, IsWriterOf}
+use Rattle.disk_law.proofs.CheckpointOnDisk.{may_forced, next_forced}
+use Rattle.disk_law.specs.Life.{LifeOnDisk, IsLifeOnDisk}
 use Rattle.disk_law.specs.KeptImages.{IsImageKept}
 use Rattle.disk_law.specs.SlotChanges.{with_bytes_behind}
 use Rattle.disk_law.specs.JournalState.{JournalState}
-use Rattle.disk_law.proofs.Changing.{bytes_both}
-use Rattle.disk_law.proofs.Forcing.{CutsBehind, restart_stays, snapshot_stays}
-use Rattle.disk_law.proofs.Front.{all_both, cut}
+use Rattle.disk_law.proofs.Forcing.{CutsBehind}
+use Rattle.disk_law.proofs.Front.{HasForcedOf, has_forced, all_both, cut, front_restart, front_snapshot, all_snapshot, forced_is_life}
+use Rattle.disk_law.proofs.OnDisk.{pending_life, pending_has}
 use Rattle.disk_law.specs.UnitCounts.{TellsUnits}
 
 -- ---- units of records
@@ -94,97 +97,98 @@ one_value x r s one other = cc
 abbrev pub log_kept : LifeOnDisk → Writer → JournalState
 log_kept life log = record { log = log; restart = life.now }
 
--- ---- a life, with these records behind what it appended
+-- ---- a life of which records may wait
 
-module _ (life : LifeOnDisk) (l : IsLifeOnDisk life) (a : Image) (k : IsImageKept life a) (next : ℕ) (tells : TellsUnits life.system (log_kept life life.log) next a) where
-  its_units : greatest_unit (k.log ++ life.appended) < next
-  its_units =
-      subst (λ (rs : List Record). greatest_unit rs < next)
-      (ap (λ (b : List ℕ). (cut_of b).records) (ap (λ (x : List ℕ). x ++ life.log.appended) k.has_log ∙ ap (λ (y : List ℕ). flat_map record_spelling k.log ++ y) l.appended.spelled ∙ sym (flat_map-append record_spelling k.log life.appended))
-      ∙ cut_again (k.log ++ life.appended) (all_both IsLogRecord k.log life.appended k.records l.appended.records))
-      tells.log
+module _ (life : LifeOnDisk) (l : IsLifeOnDisk life) (snapshot log : List Record) (a : Image) (h : HasForcedOf life snapshot log a) (next : ℕ) (tells : TellsUnits life.system (log_kept life life.log) next a) where
+  its_valid : AllByRecursion IsLogRecord (log ++ life.appended)
+  its_valid = all_both IsLogRecord log life.appended h.records l.appended.records
 
-  told : told_unit k.snapshot ≤ next
-  told = tells.snapshot k.snapshot k.has_snapshot
+  its_bytes : log_of_writer life.log a ++ life.log.appended ≡ flat_map record_spelling (log ++ life.appended)
+  its_bytes =
+      ap (λ (x : List ℕ). x ++ life.log.appended) h.has_log ∙ ap (λ (y : List ℕ). flat_map record_spelling log ++ y) l.appended.spelled ∙ sym (flat_map-append record_spelling log life.appended)
 
-  module _ (records : List Record) (valid : AllByRecursion IsLogRecord records) (bytes : IsBytes (flat_map record_spelling records)) (fits : life.log.place + log_sectors_of (length (life.log.appended ++ flat_map record_spelling records)) ≤ life.log.count)
-      (more : ℕ) (later : next ≤ more) (fresh : greatest_unit records < more) where
+  its_units : greatest_unit (log ++ life.appended) < next
+  its_units = subst (λ (rs : List Record). greatest_unit rs < next) (ap (λ (b : List ℕ). (cut_of b).records) its_bytes ∙ cut_again (log ++ life.appended) its_valid) tells.log
+
+  -- ---- records are appended
+  module _ (records : List Record) (valid : AllByRecursion IsLogRecord records) (more : ℕ) (later : next ≤ more) (fresh : greatest_unit records < more) where
     abbrev writer : Writer
     writer = with_bytes_behind (flat_map record_spelling records) life.log
 
-    over : IsWriterOf life.system life.now writer
-    over = record { first = l.writer.first; count = l.writer.count; sequence = l.writer.sequence; epoch = l.writer.epoch }
+    all_below : greatest_unit ((log ++ life.appended) ++ records) < more
+    all_below = below_both more (log ++ life.appended) records (omega (arith, its_units, later)) fresh
 
-    abbrev behind : List Record
-    behind = life.appended ++ records
-
-    spelled : writer.appended ≡ flat_map record_spelling behind
-    spelled = ap (λ (b : List ℕ). b ++ flat_map record_spelling records) l.appended.spelled ∙ sym (flat_map-append record_spelling life.appended records)
-
-    all_valid : AllByRecursion IsLogRecord behind
-    all_valid = all_both IsLogRecord life.appended records l.appended.records valid
-
-    all_below : greatest_unit (k.log ++ behind) < more
-    all_below =
-        let old : greatest_unit (k.log ++ life.appended) < more = omega (arith, its_units, later) in
-        subst (λ (rs : List Record). greatest_unit rs < more) (append_assoc k.log life.appended records)
-        (below_both more (k.log ++ life.appended) records old fresh)
-
-    cut_all : (cut_of (log_of_writer writer a ++ writer.appended)).records ≡ k.log ++ behind
-    cut_all =
-        ap (λ (b : List ℕ). (cut_of b).records) (ap (λ (x : List ℕ). x ++ writer.appended) k.has_log ∙ ap (λ (y : List ℕ). flat_map record_spelling k.log ++ y) spelled ∙ sym (flat_map-append record_spelling k.log behind))
-        ∙ cut_again (k.log ++ behind) (all_both IsLogRecord k.log behind k.records all_valid)
-
-    all_bytes : IsBytes (flat_map record_spelling (k.log ++ behind))
+    all_bytes : log_of_writer writer a ++ writer.appended ≡ flat_map record_spelling ((log ++ life.appended) ++ records)
     all_bytes =
-        subst IsBytes (sym (flat_map-append record_spelling (k.log ++ life.appended) records) ∙ ap (λ (rs : List Record). flat_map record_spelling rs) (append_assoc k.log life.appended records))
-        (bytes_both (flat_map record_spelling (k.log ++ life.appended)) (flat_map record_spelling records) k.bytes bytes)
+        sym (append_assoc (log_of_writer life.log a) life.log.appended (flat_map record_spelling records))
+        ∙ ap (λ (x : List ℕ). x ++ flat_map record_spelling records) its_bytes
+        ∙ sym (flat_map-append record_spelling (log ++ life.appended) records)
 
-    -- Nothing is written: what was appended tells no unit from the next one on.
-    pub appended_tells : TellsUnits life.system (log_kept life writer) more a
-    appended_tells = record {
-      snapshot = λ snapshot read. omega (arith, tells.snapshot snapshot read, later);
-      log = subst (λ (rs : List Record). greatest_unit rs < more) (sym cut_all) all_below;
+    -- What was appended tells no unit from the next one on.
+    pub tells_appended : TellsUnits life.system (log_kept life writer) more a
+    tells_appended = record {
+      snapshot = λ found read. omega (arith, tells.snapshot found read, later);
+      log =
+          subst (λ (rs : List Record). greatest_unit rs < more)
+          (sym (ap (λ (b : List ℕ). (cut_of b).records) all_bytes ∙ cut_again ((log ++ life.appended) ++ records) (all_both IsLogRecord (log ++ life.appended) records its_valid valid)))
+          all_below;
     }
 
-    -- All is forced.
-    module _ (b : Image) (all : AddsAll writer a b) where
-      log_now : log_of_writer writer b ++ [] ≡ log_of_writer writer a ++ writer.appended
-      log_now = append-nil (log_of_writer writer b) ∙ all.log
+  -- ---- all is forced
+  module _ (b : Image) (all : AddsAll life.log a b) where
+    log_now : log_of_writer life.log b ++ [] ≡ log_of_writer life.log a ++ life.log.appended
+    log_now = append-nil (log_of_writer life.log b) ∙ all.log
 
-      pub forced_tells : TellsUnits life.system (log_kept life (record writer { place = writer.place + log_sectors_of (length writer.appended); appended = [] })) more b
-      forced_tells = record {
-        snapshot = λ snapshot read.
-            omega (arith, tells.snapshot snapshot (sym (snapshot_stays life.system life.now writer over l.in_range fits a b all.changes all.each k.restart) ∙ read), later);
-        log = subst (λ (rs : List Record). greatest_unit rs < more) (sym (ap (λ (x : List ℕ). (cut_of x).records) log_now ∙ cut_all)) all_below;
-      }
+    -- The image tells the same next unit then.
+    pub tells_forced : TellsUnits life.system (log_kept life (forced_writer life.log)) next b
+    tells_forced = record {
+      snapshot = λ found read. omega (arith, tells.snapshot found (sym (all_snapshot life l snapshot log a h b all) ∙ read));
+      log = subst (λ (x : List ℕ). greatest_unit (cut_of x).records < next) (sym log_now) tells.log;
+    }
 
-    -- A front of it is forced.
-    module _ (b : Image) (front : AddsFront writer a b) (high : ℕ) (epoch : life.now.epoch ≤ high) (sequence : life.now.sequence + life.system.logs ≤ high) (checkpoint : life.now.checkpoint ≤ high) (unit : more ≤ high) where
-      abbrev behind_cut : CutsBehind k.log behind (log_in life.system b life.now)
-      behind_cut = cut life l a k writer over fits k.has_log behind spelled all_valid all_bytes b front
+  -- ---- a front is forced
+  module _ (b : Image) (front : AddsFront life.log a b) (high : ℕ) (epoch : life.now.epoch ≤ high) (sequence : life.now.sequence + life.system.logs ≤ high) (checkpoint : life.now.checkpoint ≤ high) (unit : next ≤ high) where
+    abbrev its_cut : CutsBehind log life.appended (log_in life.system b life.now)
+    its_cut = cut life l snapshot log a h b front
 
-      read_below : greatest_unit (log_in life.system b life.now).records < more
-      read_below =
-          subst (λ (rs : List Record). greatest_unit rs < more) (sym behind_cut.are)
-          (below_both more k.log (take behind_cut.count behind) (below_left more k.log behind all_below) (below_take more behind_cut.count behind (below_right more k.log behind all_below)))
+    read_below : greatest_unit (log_in life.system b life.now).records < next
+    read_below =
+        subst (λ (rs : List Record). greatest_unit rs < next) (sym its_cut.are)
+        (below_both next log (take its_cut.count life.appended) (below_left next log life.appended its_units) (below_take next its_cut.count life.appended (below_right next log life.appended its_units)))
 
-      pub front_up_to : CountsUpTo life.system high b
-      front_up_to restart found =
-          let there = restart_stays life.system life.now writer over l.in_range fits a b front.changes front.each k.restart in
-          subst (AreUpTo life.system high b) (one_restart (restart_in (snapshot_area life.system) (is_single life.system) b) life.now restart there found)
-          (record {
-            epoch = epoch;
-            sequence = omega (arith, sequence, sequence_most life.system b life.now);
-            checkpoint = checkpoint;
-            unit = λ snapshot read.
-                greatest (told_unit snapshot) (greatest_unit (log_in life.system b life.now).records) more high
-                (omega (arith, tells.snapshot snapshot (sym (snapshot_stays life.system life.now writer over l.in_range fits a b front.changes front.each k.restart) ∙ read), later))
-                read_below unit;
-          })
-        where
-          greatest : (t g m h : ℕ) → t ≤ m → g < m → m ≤ h → max t (g + 1) ≤ h
-          greatest t g m h one other most = omega (arith, one, other, most)
+    -- The image counts up to this then.
+    pub counts_in_front : CountsUpTo life.system high b
+    counts_in_front restart found =
+        subst (AreUpTo life.system high b) (one_restart (restart_in (snapshot_area life.system) (is_single life.system) b) life.now restart (front_restart life l snapshot log a h b front) found)
+        (record {
+          epoch = epoch;
+          sequence = omega (arith, sequence, sequence_most life.system b life.now);
+          checkpoint = checkpoint;
+          unit = λ told read.
+              greatest (told_unit told) (greatest_unit (log_in life.system b life.now).records) next high
+              (tells.snapshot told (sym (front_snapshot life l snapshot log a h b front) ∙ read)) read_below unit;
+        })
+      where
+        greatest : (t g m h : ℕ) → t ≤ m → g < m → m ≤ h → max t (g + 1) ≤ h
+        greatest t g m h one other most = omega (arith, one, other, most)
+
+-- ---- on a disk
+
+module _ (states : List LastingState) (life : LifeOnDisk) (disk : DiskState) (p : PendsBehind states life disk) (a : Image) (left : disk.may_leave a) (next : ℕ) (tells : TellsUnits life.system (log_kept life life.log) next a) where
+  l : IsLifeOnDisk life
+  l = pending_life states life disk p
+
+  h : HasForcedOf life (p.kept a left).snapshot (p.kept a left).log a
+  h = pending_has states life disk p a left
+
+  pub appended_tells : (records : List Record) → AllByRecursion IsLogRecord records → (more : ℕ) → next ≤ more → greatest_unit records < more → TellsUnits life.system (log_kept life (with_bytes_behind (flat_map record_spelling records) life.log)) more a
+  appended_tells records valid more later fresh = tells_appended life l (p.kept a left).snapshot (p.kept a left).log a h next tells records valid more later fresh
+
+  pub forced_tells : (b : Image) → AddsAll life.log a b → TellsUnits life.system (log_kept life (forced_writer life.log)) next b
+  forced_tells b all = tells_forced life l (p.kept a left).snapshot (p.kept a left).log a h next tells b all
+
+  pub front_up_to : (b : Image) → AddsFront life.log a b → (high : ℕ) → life.now.epoch ≤ high → life.now.sequence + life.system.logs ≤ high → life.now.checkpoint ≤ high → next ≤ high → CountsUpTo life.system high b
+  front_up_to b front high epoch sequence checkpoint unit = counts_in_front life l (p.kept a left).snapshot (p.kept a left).log a h next tells b front high epoch sequence checkpoint unit
 
 -- ---- a log that begins
 
@@ -200,44 +204,48 @@ begun_tells system r records unit image found is ahead range some = record {
       subst (λ (n : ℕ). n < unit) (sym (ap (λ (links : List (List ℕ)). greatest_unit (cut_of (joined_payloads links ++ [])).records) empty ∙ none_cut)) some;
 }
 
--- ---- a checkpoint
+-- ---- a checkpoint, before which all is forced
 
-module _ (bytes : List ℕ) (stores : AllStores) (touches : Touches) (records : List Record) (life : LifeOnDisk) (l : IsLifeOnDisk life) (may : MayCheckpoint bytes stores touches records life) (a : Image) (k : IsImageKept life a) (next : ℕ) (is : told_unit records ≡ next) where
+module _ (bytes : List ℕ) (stores : AllStores) (touches : Touches) (records : List Record) (life : LifeOnDisk) (l : IsLifeOnDisk life) (may : MayCheckpoint bytes stores touches records life) (a : Image) (k : IsImageKept (forced_life life) a) (next : ℕ) (is : told_unit records ≡ next) where
   abbrev parts : CheckpointParts
   parts = parts_with bytes life
 
+  abbrev forced : LifeOnDisk
+  forced = forced_life life
+
+  its_life : IsLifeOnDisk forced
+  its_life = forced_is_life life l
+
+  its_may : MayCheckpoint bytes stores touches records forced
+  its_may = may_forced bytes stores touches records life may
+
+  its_stands : Stands parts forced.log stores a
+  its_stands = stands bytes stores touches records forced its_life its_may refl a k
+
   -- Behind it the image tells the same next unit.
-  module _ (e : Image) (done : IsCheckpointed parts life.log stores a e) (some : 0 < next) where
+  module _ (e : Image) (done : IsCheckpointed parts forced.log stores a e) (some : 0 < next) where
+    tells_anew : TellsUnits life.system (record { log = next_writer parts forced.log; restart = next_restart parts forced.log }) next e
+    tells_anew =
+        begun_tells life.system (next_restart parts forced.log) records next e (has_snapshot bytes stores touches records forced its_life its_may refl a k e done) is
+        (none_ahead_after bytes stores touches records forced its_life its_may refl a k e done) its_may.next some
+
     pub checkpoint_tells : TellsUnits life.system (record { log = next_writer parts life.log; restart = next_restart parts life.log }) next e
     checkpoint_tells =
-        begun_tells life.system (next_restart parts life.log) records next e (has_snapshot bytes stores touches records life l may a k e done) is
-        (none_ahead_after bytes stores touches records life l may a k e done) may.next some
+        subst (λ (r : RestartSector). TellsUnits life.system (record { log = next_writer parts life.log; restart = r }) next e) (next_forced parts life.log).0
+        (subst (λ (w : Writer). TellsUnits life.system (record { log = w; restart = next_restart parts forced.log }) next e) (next_forced parts life.log).1 tells_anew)
 
   -- Whenever a crash comes in it, the image counts up to this.
-  module _ (tells : TellsUnits life.system (log_kept life life.log) next a) (high : ℕ) (epoch : life.now.epoch ≤ high) (sequence : life.now.sequence + life.system.logs ≤ high) (checkpoint : life.now.checkpoint + 1 ≤ high) (unit : next ≤ high) (some : 1 ≤ high) where
-    same_writer : record life.log { appended = life.log.appended ++ [] } ≡ life.log
-    same_writer = ap (λ (b : List ℕ). record life.log { appended = b }) (append-nil life.log.appended)
+  module _ (tells : TellsUnits life.system (log_kept life (forced_writer life.log)) next a) (high : ℕ) (epoch : life.now.epoch ≤ high) (sequence : life.now.sequence + life.system.logs ≤ high) (checkpoint : life.now.checkpoint + 1 ≤ high) (unit : next ≤ high) (some : 1 ≤ high) where
+    forced_up_to : (b : Image) → AddsFront forced.log a b → CountsUpTo life.system high b
+    forced_up_to b front = counts_in_front forced its_life k.snapshot k.log a (has_forced forced a k) next tells b front high epoch sequence (omega (arith, checkpoint)) unit
 
-    none_bytes : IsBytes []
-    none_bytes place = nothing place where
-      nothing : (i : ℕ) → get_or [] i 0 < 256
-      nothing i = omega arith
-
-    its_fits : life.log.place + log_sectors_of (length (life.log.appended ++ [])) ≤ life.log.count
-    its_fits = subst (λ (b : List ℕ). life.log.place + log_sectors_of (length b) ≤ life.log.count) (sym (append-nil life.log.appended)) l.appended.fits
-
-    forced_up_to : (b : Image) → AddsFront life.log a b → CountsUpTo life.system high b
-    forced_up_to b front =
-        front_up_to life l a k next tells [] tt none_bytes its_fits next (omega arith) (omega (arith, tells.log)) b
-        (subst (λ (w : Writer). AddsFront w a b) (sym same_writer) front) high epoch sequence (omega (arith, checkpoint)) unit
-
-    pub takes_up_to : (e : Image) → Takes parts life.log stores a e → CountsUpTo life.system high e
+    pub takes_up_to : (e : Image) → Takes parts forced.log stores a e → CountsUpTo life.system high e
     takes_up_to e (inl (inl front)) = forced_up_to e front
     takes_up_to e (inl (inr later)) =
-        alike_up_to life.system high later.middle e (unread_images parts life.log stores a (stands bytes stores touches records life l may a k) later.middle later.one e later.two)
-        (forced_up_to later.middle (all_front parts life.log stores a (stands bytes stores touches records life l may a k) later.middle later.one))
+        alike_up_to life.system high later.middle e (unread_images parts forced.log stores a its_stands later.middle later.one e later.two)
+        (forced_up_to later.middle (all_front parts forced.log stores a its_stands later.middle later.one))
     takes_up_to e (inr whole) =
-        let done : IsCheckpointed parts life.log stores a e = is_checkpointed parts life.log stores a (stands bytes stores touches records life l may a k) e whole in
-        begun_up_to life.system e (next_restart parts life.log) (none_ahead_after bytes stores touches records life l may a k e done) may.next records next (has_snapshot bytes stores touches records life l may a k e done) is
-        (next_restart_in parts life.log stores a (stands bytes stores touches records life l may a k) e done)
+        let done : IsCheckpointed parts forced.log stores a e = is_checkpointed parts forced.log stores a its_stands e whole in
+        begun_up_to life.system e (next_restart parts forced.log) (none_ahead_after bytes stores touches records forced its_life its_may refl a k e done) its_may.next records next
+        (has_snapshot bytes stores touches records forced its_life its_may refl a k e done) is (next_restart_in parts forced.log stores a its_stands e done)
         high epoch (omega (arith, sequence, l.writer.sequence, l.writer.count, l.appended.fits)) checkpoint unit some

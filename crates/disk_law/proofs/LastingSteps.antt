@@ -1,5 +1,5 @@
 -- Each of the lasting steps has what a step needs.
-use Rattle.std.proofs.Common.{◌≡◌, ◌⊎◌, inl, inr, ℕ, zero, suc, ◌+◌, ◌<◌, ◌≤◌, Bool, true, false, not, List, [], ◌∷◌, ◌++◌, length, take, refl, sym, ◌∙◌, ap, subst, arith, Some, None, IsSome}
+use Rattle.std.proofs.Common.{◌≡◌, ◌⊎◌, inl, inr, ℕ, zero, suc, ◌+◌, ◌<◌, ◌≤◌, Bool, true, false, List, [], ◌∷◌, ◌++◌, length, take, refl, sym, ◌∙◌, ap, subst, arith, Some, None, IsSome}
 use Rattle.std.specs.Prelude.{Option, if◌then◌else◌, ◌==◌, slice_get}
 use Rattle.std.specs.List.{list_all}
 use Rattle.std.specs.Option.{is_some, option_map_or}
@@ -24,7 +24,6 @@ use Rattle.log_records.specs.declared.record.Record.TheVariants.{Input, Reply, D
 use Rattle.model_image.specs.Slots.{named_by}
 use Rattle.model_image.specs.StepRecords.{output_record, completion_records}
 use Rattle.model_image.specs.Replay.{replay_all}
-use Rattle.image_law.specs.Records.{is_change_record}
 use Rattle.image_law.specs.SoundState.{FitsRanges}
 use Rattle.image_law.specs.StepNeeds.{EndsNoneWaiting, IsConversationFree, PadFits}
 use Rattle.image_law.proofs.Replayed.{all_take}
@@ -104,7 +103,6 @@ module _ (terminal : List ℕ) (number : ℕ) (segments : List (List ℕ)) (life
   pub accept_step : IsStep life (accepting terminal number segments life)
   accept_step = record {
     room = may.room;
-    steady = refl;
     quiet = one_quiet (life_input_record terminal number segments life);
     wait = one_waits life.system life.lasting (life_input_record terminal number segments life);
     leads =
@@ -127,7 +125,6 @@ module _ (terminal : List ℕ) (number : ℕ) (life : LifeOnDisk) (l : IsLifeOnD
   pub acknowledge_step : IsStep life (acknowledging terminal number life)
   acknowledge_step = record {
     room = may.room;
-    steady = refl;
     quiet = one_quiet (Acknowledged terminal number);
     wait = one_waits life.system life.lasting (Acknowledged terminal number);
     leads =
@@ -150,7 +147,6 @@ module _ (command : LastingCommand) (life : LifeOnDisk) (l : IsLifeOnDisk life) 
   pub command_step : IsStep life (commanding command life)
   command_step = record {
     room = may.room;
-    steady = refl;
     quiet = one_quiet (command_record command);
     wait = one_waits life.system life.lasting (command_record command);
     leads =
@@ -181,7 +177,6 @@ module _ (unit : ℕ) (message : Message) (abend : AbendCode) (changed : ℕ →
   pub discard_step : IsStep life (discarding unit message abend changed life)
   discard_step = record {
     room = may.room;
-    steady = refl;
     quiet = one_quiet its_discard;
     wait = one_waits life.system life.lasting its_discard;
     leads =
@@ -219,17 +214,6 @@ module _ (unit : ℕ) (message : Message) (outputs : List EndedMessage) (pad : P
   all_quiet (output ∷ outputs) lasting =
       both (is_quiet_record (output_record unit message.origin output lasting)) (list_all is_quiet_record (completion_records unit message.origin message.id outputs (output_sent message.origin output lasting)))
       (output_quiet (is_some (output_at lasting.outputs output.to)) output lasting) (all_quiet outputs (output_sent message.origin output lasting))
-
-  output_steady : (b : Bool) (output : EndedMessage) (lasting : LastingState) →
-      not (is_change_record (if b then Reply unit output.to (next_of output.to lasting.outputs) output.segments else Input unit lasting.next_id message.origin output.to 0 false output.segments)) ≡ true
-  output_steady true output lasting = refl
-  output_steady false output lasting = refl
-
-  all_steady : (outputs : List EndedMessage) (lasting : LastingState) → list_all (λ r. not (is_change_record r)) (completion_records unit message.origin message.id outputs lasting ++ its_sync ∷ []) ≡ true
-  all_steady [] lasting = refl
-  all_steady (output ∷ outputs) lasting =
-      both (not (is_change_record (output_record unit message.origin output lasting))) (list_all (λ r. not (is_change_record r)) (completion_records unit message.origin message.id outputs (output_sent message.origin output lasting) ++ its_sync ∷ []))
-      (output_steady (is_some (output_at lasting.outputs output.to)) output lasting) (all_steady outputs (output_sent message.origin output lasting))
 
   few : (n : ℕ) → n < length (before_sync ++ its_sync ∷ []) → n ≤ length before_sync
   few n short = omega (arith, short, length-append before_sync (its_sync ∷ []))
@@ -312,7 +296,6 @@ module _ (unit : ℕ) (message : Message) (outputs : List EndedMessage) (pad : P
   pub complete_step : IsStep life (completing unit message outputs pad lines life)
   complete_step = record {
     room = may.room;
-    steady = all_steady outputs life.lasting;
     quiet = λ n short. ap (λ (rs : List Record). list_all is_quiet_record rs) (front_is n short) ∙ all_take is_quiet_record n before_sync (all_quiet outputs life.lasting);
     wait = waits_so;
     leads = leads_so;

@@ -6,6 +6,7 @@ pub mod Forcing
 pub mod Front
 pub mod Changing
 pub mod Stepping
+pub mod Pending
 pub mod LastingSteps
 pub mod OnDisk
 pub mod Stored

@@ -140,12 +140,13 @@ module _ (system : System) (text : List ℕ) (now : RestartSector) (stores : Lis
       has_log = ap joined_payloads no_chain;
       records = tt;
       bytes = no_bytes;
-      lasts = ap (λ (lasting : LastingState). Some (record { lasting = lasting; waiting = [] })) (told_is ∙ ap (but_rows system) same_state);
-      open_yet = refl;
-      slots = begins_anew records (λ unit. true) no_touches (bytes_in_stores stores) tells (λ unit d s t is. refl) (λ unit d s t is. absurd (none_some t is));
-      unnamed = λ place number dbd found below none. stand place number dbd found below;
-      written = λ place number dbd found below is. stand place number dbd found below;
-      named = λ place number dbd found below is. absurd cc;
+      are = record {
+        lasts = ap (λ (lasting : LastingState). Some (record { lasting = lasting; waiting = [] })) (told_is ∙ ap (but_rows system) same_state);
+        slots = begins_anew records (λ unit. true) no_touches (bytes_in_stores stores) tells (λ unit d s t is. refl) (λ unit d s t is. absurd (none_some t is));
+        unnamed = λ place number dbd found below none. stand place number dbd found below;
+        written = λ place number dbd found below is. stand place number dbd found below;
+        named = λ place number dbd found below is. absurd cc;
+      };
       not_later = none_later;
       none_ahead = subst (λ n. NoneAhead system image now.epoch n) (omega arith) opened.none_ahead;
     } where
@@ -158,7 +159,7 @@ module _ (system : System) (text : List ℕ) (now : RestartSector) (stores : Lis
       in_range = may.in_range;
       few = may.few;
       writer = record { first = refl; count = refl; sequence = refl; epoch = refl };
-      appended = record { fits = omega arith; spelled = refl; records = tt; changes = refl; images = refl };
+      appended = record { fits = omega arith; spelled = refl; records = tt; bytes = no_bytes };
       sound = may.sound;
       rows = subst (λ (l : LastingState). SpellRows system (bytes_in_stores stores) l.rows) same_state spells;
       slots = record {

@@ -5,6 +5,7 @@ pub mod KeptImages
 pub mod SlotChanges
 pub mod JournalState
 pub mod LifeSteps
+pub mod PendingMoves
 pub mod LastingSteps
 pub mod LifeCheckpoint
 pub mod OpenedLife

@@ -1,6 +1,6 @@
 -- What a life has beside its disk.
-use Rattle.std.specs.Prelude.{◌≡◌, ℕ, ◌+◌, ◌^◌, ◌<◌, ◌≤◌, Bool, true, false, List, [], length, map, slice_get, slice_index_or, Some, None}
-use Rattle.std.specs.List.{list_all, flat_map, AllByRecursion}
+use Rattle.std.specs.Prelude.{◌≡◌, ℕ, ◌+◌, ◌^◌, ◌<◌, ◌≤◌, Bool, false, List, [], length, map, slice_get, slice_index_or, Some, None}
+use Rattle.std.specs.List.{flat_map, AllByRecursion}
 use Rattle.std.specs.Option.{option_map_or}
 use Rattle.tm_types.specs.declared.dbd.Dbd.{Dbd}
 use Rattle.model_data.specs.declared.row.Row.{Row}
@@ -9,15 +9,14 @@ use Rattle.model_system.specs.System.{System}
 use Rattle.model_machine.specs.Machine.{LastingState, empty_state}
 use Rattle.log_records.specs.declared.record.Record.{Record}
 use Rattle.log_records.specs.RecordSpelling.{record_spelling, IsLogRecord}
+use Rattle.log_records.proofs.Takes.{IsBytes}
 use Rattle.log_writer.specs.Writer.{Writer}
 use Rattle.log_writer.specs.ForcedLog.{log_sectors_of}
 use Rattle.restart_data.specs.declared.restart.RestartSector.{RestartSector}
 use Rattle.restart_data.specs.Restart.{IsRestart}
 use Rattle.seg_store.specs.Slots.{Stored, AreSlots, rows_of_slots}
 use Rattle.model_system.specs.Areas.{log_first}
-use Rattle.model_image.specs.Slots.{is_image_of}
 use Rattle.model_image.specs.States.{breaks_a_rule}
-use Rattle.image_law.specs.Records.{without_changes}
 use Rattle.disk_law.specs.CommittedBytes.{Bytes, Touches, Touch}
 
 pub record LifeOnDisk : Type 0 where
@@ -66,13 +65,12 @@ pub record IsWriterOf (system : System) (now : RestartSector) (log : Writer) : T
   pub sequence : log.sequence ≡ now.sequence
   pub epoch : log.epoch ≡ now.epoch
 
--- Records that wait for a force between two steps: changes of slots, spelled one after another. There is room for them.
-pub record AreAppended (system : System) (log : Writer) (appended : List Record) : Type 0 where
+-- Records that wait for a force, spelled one after another. There is room for them.
+pub record AreAppended (log : Writer) (appended : List Record) : Type 0 where
   pub fits : log.place + log_sectors_of (length log.appended) ≤ log.count
   pub spelled : log.appended ≡ flat_map record_spelling appended
   pub records : AllByRecursion IsLogRecord appended
-  pub changes : without_changes appended ≡ []
-  pub images : list_all (is_image_of system) appended ≡ true
+  pub bytes : IsBytes (flat_map record_spelling appended)
 
 -- A slot is touched by one unit at most. Before it stood there what is committed, and it stands in the stores as the unit left
 -- it; a slot that none touched stands there as it is committed.
@@ -87,7 +85,7 @@ pub record IsLifeOnDisk (life : LifeOnDisk) : Type 0 where
   pub in_range : IsRestart life.now
   pub few : life.system.logs < 2 ^ 32
   pub writer : IsWriterOf life.system life.now life.log
-  pub appended : AreAppended life.system life.log life.appended
+  pub appended : AreAppended life.log life.appended
   pub sound : breaks_a_rule life.system life.lasting ≡ false
   pub rows : SpellRows life.system life.committed life.lasting.rows
   pub slots : AreBeside life.system life.touches life.committed life.present

@@ -1,5 +1,5 @@
--- Lasting steps of a life: the records that are appended and forced with one, and what it leaves.
-use Rattle.std.specs.Prelude.{◌≡◌, ◌⊎◌, ℕ, ◌+◌, ◌≤◌, ◌<◌, Bool, true, false, not, List, [], ◌++◌, length, take, Some, None}
+-- Lasting steps of a life: the records that are appended with one, and what it leaves.
+use Rattle.std.specs.Prelude.{◌≡◌, ◌⊎◌, ℕ, ◌+◌, ◌≤◌, ◌<◌, Bool, true, false, List, [], ◌++◌, length, take, Some, None}
 use Rattle.std.specs.List.{list_all, flat_map, AllByRecursion}
 use Rattle.model_system.specs.System.{System}
 use Rattle.model_machine.specs.Machine.{LastingState}
@@ -10,15 +10,15 @@ use Rattle.log_writer.specs.Writer.{Writer}
 use Rattle.log_writer.specs.ForcedLog.{log_sectors_of}
 use Rattle.model_image.specs.Slots.{named_by}
 use Rattle.model_image.specs.Replay.{Replay, replay_all}
-use Rattle.image_law.specs.Records.{is_change_record}
+use Rattle.checkpointing.specs.CheckpointParts.{forced_writer}
 use Rattle.disk_law.specs.CommittedBytes.{Bytes, Touches, Touch, AreCommitted}
 use Rattle.disk_law.specs.Life.{LifeOnDisk, EachSlot, SpellRows, AreBeside, but_rows}
 use Rattle.disk_law.specs.SlotChanges.{with_bytes_behind}
 use Rattle.disk_law.specs.QuietRecords.{is_quiet_record}
 
--- the writer once all that was appended is forced
-abbrev pub forced_by_step : Writer → Writer
-forced_by_step log = record log { place = log.place + log_sectors_of (length log.appended); appended = [] }
+-- the life once all that was appended is forced
+abbrev pub forced_life : LifeOnDisk → LifeOnDisk
+forced_life life = record life { log = forced_writer life.log; appended = [] }
 
 -- the records of a step, what lasts with it, and what it leaves of slots and units
 pub record StepOnDisk : Type 0 where
@@ -34,11 +34,11 @@ pub record StepOnDisk : Type 0 where
 abbrev pub with_step_records : LifeOnDisk → List Record → Writer
 with_step_records life records = with_bytes_behind (flat_map record_spelling records) life.log
 
--- the life once they are forced
+-- the life behind the step, whose records wait for a force
 abbrev pub after_step : StepOnDisk → LifeOnDisk → LifeOnDisk
 after_step step life = record life {
-  log = forced_by_step (with_step_records life step.records);
-  appended = [];
+  log = with_step_records life step.records;
+  appended = life.appended ++ step.records;
   lasting = step.lasting;
   committed = step.committed;
   present = step.present;
@@ -75,7 +75,6 @@ pub record IsTouchedByUnits (touches : Touches) (database slot : ℕ) : Type 0 w
 -- count as changed behind the step didn't before, and stands as before; one that does, did so or was touched.
 pub record IsStep (life : LifeOnDisk) (step : StepOnDisk) : Type 0 where
   pub room : HasRoomForRecords life step.records
-  pub steady : list_all (λ r. not (is_change_record r)) step.records ≡ true
   pub quiet : (n : ℕ) → n < length step.records → list_all is_quiet_record (take n step.records) ≡ true
   pub wait : (n : ℕ) → n < length step.records → Wait life.system life.lasting (take n step.records)
   pub leads : replay_all life.system step.records (done_to life.system life.lasting) ≡ Some (done_to life.system step.lasting)

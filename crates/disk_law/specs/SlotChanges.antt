@@ -13,12 +13,13 @@ use Rattle.disk_law.specs.Life.{LifeOnDisk, EachSlot}
 
 -- ---- a slot is changed, with its record
 
--- a slot, by database from 1 on and number, with what stood there and what stands there then
+-- a slot, by database from 1 on and number, with what stood there and what stands there then, and whether it counts as changed then
 pub record SlotChange : Type 0 where
   pub database : ℕ
   pub slot : ℕ
   pub before : List ℕ
   pub after : List ℕ
+  pub marked : Bool
 
 abbrev pub change_record : ℕ → SlotChange → Record
 change_record unit c = Change unit c.database c.slot c.before c.after
@@ -31,22 +32,24 @@ put_at database slot x all d s = if is_place database slot d s then x else all d
 abbrev pub with_bytes_behind : List ℕ → Writer → Writer
 with_bytes_behind bytes log = record log { appended = log.appended ++ bytes }
 
--- The change is appended. The slot stands in the stores as it is then and counts as changed, and the unit touched it.
+-- The change is appended. The slot stands in the stores as it is then and counts as changed or doesn't, and the unit touched it.
 abbrev pub with_slot_change : ℕ → SlotChange → LifeOnDisk → LifeOnDisk
 with_slot_change unit c life = record life {
   log = with_bytes_behind (record_spelling (change_record unit c)) life.log;
   appended = life.appended ++ change_record unit c ∷ [];
   present = put_at c.database c.slot c.after life.present;
-  changed = put_at c.database c.slot true life.changed;
+  changed = put_at c.database c.slot c.marked life.changed;
   touches = with_slot_touch unit c.database c.slot c.before c.after life.touches;
 }
 
--- The unit may still reach a sync point, no other has touched the slot, and what the change says stood there did. The
+-- The unit may still reach a sync point, no other has touched the slot, and what the change says stood there did. Where the slot
+-- doesn't count as changed then, it didn't before, and stands as before: a new record that is taken back may leave a slot so. The
 -- change is a record of a slot of the system, there is room for it, and it is spelled in bytes.
 pub record MayChange (unit : ℕ) (c : SlotChange) (life : LifeOnDisk) : Type 0 where
   pub may : life.may_sync unit ≡ true
   pub alone : (other : ℕ) → other == unit ≡ false → life.touches other c.database c.slot ≡ None
   pub stood : c.before ≡ life.present c.database c.slot
+  pub same : c.marked ≡ false → (life.changed c.database c.slot ≡ false) × (c.after ≡ c.before)
   pub is_record : IsLogRecord (change_record unit c)
   pub image : is_image_of life.system (change_record unit c) ≡ true
   pub fits : life.log.place + log_sectors_of (length (life.log.appended ++ record_spelling (change_record unit c))) ≤ life.log.count

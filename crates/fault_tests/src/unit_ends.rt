@@ -1,4 +1,4 @@
-//! `sync_point`: what the end of a unit leaves in the log.
+//! `sync_point`: what the end of a unit leaves in the log, once it is forced.
 use log_records::PadChange;
 use log_sectors::read_chain;
 use log_writer::LogWriter;
@@ -36,7 +36,9 @@ fn a_completion_stands_in_the_log(rt: HostRuntime) -> Result<(), Fail> {
     if work.bytes().len() as u64 > log.room() {
         return Err("no room".into());
     }
-    assert_eq!(rt; commit(&mut log, &mut disk, &work)?, 1);
+    commit(&mut log, &work)?;
+    assert_eq!(rt; log.pending(), work.bytes().len() as u64);
+    assert_eq!(rt; log.force(&mut disk)?, 1);
     disk.cut(0);
     let (bytes, sectors) = log_of(alloc, &mut disk)?;
     let parts: [&[u8]; 4] = [
@@ -63,7 +65,9 @@ fn a_discarded_message_stands_in_the_log(rt: HostRuntime) -> Result<(), Fail> {
     if work.bytes().len() as u64 > log.room() {
         return Err("no room".into());
     }
-    assert_eq!(rt; abend(&mut log, &mut disk, &work)?, 1);
+    abend(&mut log, &work)?;
+    assert_eq!(rt; log.pending(), work.bytes().len() as u64);
+    assert_eq!(rt; log.force(&mut disk)?, 1);
     let (bytes, sectors) = log_of(alloc, &mut disk)?;
     let expected = b"\0\x1d\x07\0\0\0\0\0\0\0\x01\0\0\0\0\0\0\0\x02\0\x7b\0\0\0\0\0\0\0\x03";
     assert_eq!(rt; bytes.as_slice(), expected.as_slice());

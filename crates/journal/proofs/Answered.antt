@@ -24,6 +24,7 @@ use Rattle.image_law.proofs.Steps.{stays_sound}
 use Rattle.disk_law.specs.Life.{LifeOnDisk}
 use Rattle.disk_law.specs.KeptImages.{IsImageKept}
 use Rattle.disk_law.proofs.Front.{recovers}
+use Rattle.disk_law.proofs.OnDisk.{goes_nowhere}
 use Rattle.journal.specs.UnspentCounts.{AreUnspent}
 use Rattle.program_rows.specs.SlotsState.{SlotsState}
 use Rattle.journal.specs.CarriedLife.{IsCarriedBy, IsLifeOf}
@@ -51,7 +52,7 @@ same_goes system moment after slots units next life c a b d sound = record {
   text = refl;
   now = refl;
   log = no_bytes life.log;
-  kept = λ image k. k;
+  goes = goes_nowhere life;
   is = same_carried system moment after slots units next life c a b d sound;
 }
 

@@ -71,13 +71,19 @@ present_behind unit now (c ∷ changes) life d s after =
       by true false e f later = refl
       by false b e f later = refl
 
-pub changed_behind : (unit : ℕ) (changes : List SlotChange) (life : LifeOnDisk) (d s : ℕ) → (with_slot_changes unit changes life).changed d s ≡ (changes_slot changes d s || life.changed d s)
-changed_behind unit [] life d s = refl
-changed_behind unit (c ∷ changes) life d s = changed_behind unit changes (with_slot_change unit c life) d s ∙ by (is_place c.database c.slot d s) (changes_slot changes d s) where
-  by : (here later : Bool) → (later || (if here then true else life.changed d s)) ≡ ((here || later) || life.changed d s)
-  by true true = refl
-  by true false = refl
-  by false later = refl
+pub changed_behind : (unit : ℕ) (now : ℕ → ℕ → Bool) (changes : List SlotChange) (life : LifeOnDisk) (d s : ℕ) → AllByRecursion (λ c. c.marked ≡ now c.database c.slot) changes
+    → (with_slot_changes unit changes life).changed d s ≡ (if changes_slot changes d s then now d s else life.changed d s)
+changed_behind unit now [] life d s marked = refl
+changed_behind unit now (c ∷ changes) life d s marked =
+    changed_behind unit now changes (with_slot_change unit c life) d s marked.1
+    ∙ by (d == c.database) (s == c.slot) refl refl (changes_slot changes d s) where
+      by : (a b : Bool) → d == c.database ≡ a → s == c.slot ≡ b → (later : Bool)
+          → (if later then now d s else (if a && b then c.marked else life.changed d s)) ≡ (if (a && b) || later then now d s else life.changed d s)
+      by true true e f true = refl
+      by true true e f false =
+          marked.0 ∙ sym (ap (λ k. now k s) (Rattle.std.proofs.lemmas.Bool.eqb-true d c.database e) ∙ ap (now c.database) (Rattle.std.proofs.lemmas.Bool.eqb-true s c.slot f))
+      by true false e f later = refl
+      by false b e f later = refl
 
 pub others_behind : (unit other : ℕ) (changes : List SlotChange) (life : LifeOnDisk) (d s : ℕ) → other == unit ≡ false → (with_slot_changes unit changes life).touches other d s ≡ life.touches other d s
 others_behind unit other [] life d s apart = refl
@@ -98,10 +104,12 @@ own_behind unit (c ∷ changes) life d s = own_behind unit changes (with_slot_ch
 
 -- ---- that they may be
 
--- Each of the changes is of a slot where it stood so, which no other unit touched, and it is a record of a slot of the system.
+-- Each of the changes is of a slot where it stood so, which no other unit touched, and it is a record of a slot of the system. Where
+-- the slot isn't marked then, it wasn't before, and stands as before.
 pub record MayBe (unit : ℕ) (c : SlotChange) (life : LifeOnDisk) : Type 0 where
   pub alone : (other : ℕ) → other == unit ≡ false → life.touches other c.database c.slot ≡ None
   pub stood : c.before ≡ life.present c.database c.slot
+  pub same : c.marked ≡ false → (life.changed c.database c.slot ≡ false) × (c.after ≡ c.before)
   pub is_record : IsLogRecord (change_record unit c)
   pub image : is_image_of life.system (change_record unit c) ≡ true
 
@@ -122,10 +130,10 @@ module _ (unit : ℕ) where
   still_may : (c : SlotChange) (changes : List SlotChange) (life : LifeOnDisk) → changes_slot changes c.database c.slot ≡ false → AllByRecursion (λ x. MayBe unit x life) changes → AllByRecursion (λ x. MayBe unit x (with_slot_change unit c life)) changes
   still_may c [] life apart all = tt
   still_may c (x ∷ changes) life apart all = by (c.database == x.database) (c.slot == x.slot) refl refl apart (λ none. still_may c changes life none all.1) where
-    elsewhere : (a b : Bool) → (a && b) ≡ false → (if a && b then c.after else life.present x.database x.slot) ≡ life.present x.database x.slot
-    elsewhere true true e = absurd cc
-    elsewhere true false e = refl
-    elsewhere false b e = refl
+    elsewhere : {A : Type 0} (here there : A) (a b : Bool) → (a && b) ≡ false → (if a && b then here else there) ≡ there
+    elsewhere here there true true e = absurd cc
+    elsewhere here there true false e = refl
+    elsewhere here there false b e = refl
 
     turned : (a b k l : ℕ) → ((a == b) && (k == l)) ≡ false → ((b == a) && (l == k)) ≡ false
     turned a b k l e = by_tests (b == a) (l == k) refl refl where
@@ -145,7 +153,11 @@ module _ (unit : ℕ) where
       here : ((c.database == x.database) && (c.slot == x.slot)) ≡ false → MayBe unit x (with_slot_change unit c life)
       here out = record {
         alone = λ other apart. others other x.database x.slot apart ∙ all.0.alone other apart;
-        stood = all.0.stood ∙ sym (elsewhere (x.database == c.database) (x.slot == c.slot) (turned c.database x.database c.slot x.slot out));
+        stood = all.0.stood ∙ sym (elsewhere c.after (life.present x.database x.slot) (x.database == c.database) (x.slot == c.slot) (turned c.database x.database c.slot x.slot out));
+        same = λ none. (
+          elsewhere c.marked (life.changed x.database x.slot) (x.database == c.database) (x.slot == c.slot) (turned c.database x.database c.slot x.slot out) ∙ (all.0.same none).0,
+          (all.0.same none).1,
+        );
         is_record = all.0.is_record;
         image = all.0.image;
       }
@@ -153,7 +165,11 @@ module _ (unit : ℕ) where
       here : ((c.database == x.database) && (c.slot == x.slot)) ≡ false → MayBe unit x (with_slot_change unit c life)
       here out = record {
         alone = λ other apart. others other x.database x.slot apart ∙ all.0.alone other apart;
-        stood = all.0.stood ∙ sym (elsewhere (x.database == c.database) (x.slot == c.slot) (turned c.database x.database c.slot x.slot out));
+        stood = all.0.stood ∙ sym (elsewhere c.after (life.present x.database x.slot) (x.database == c.database) (x.slot == c.slot) (turned c.database x.database c.slot x.slot out));
+        same = λ none. (
+          elsewhere c.marked (life.changed x.database x.slot) (x.database == c.database) (x.slot == c.slot) (turned c.database x.database c.slot x.slot out) ∙ (all.0.same none).0,
+          (all.0.same none).1,
+        );
         is_record = all.0.is_record;
         image = all.0.image;
       }
@@ -175,6 +191,7 @@ module _ (unit : ℕ) where
         may = may;
         alone = all.0.alone;
         stood = all.0.stood;
+        same = all.0.same;
         is_record = all.0.is_record;
         image = all.0.image;
         fits = omega (arith, all_fit, fewer_sectors (length (life.log.appended ++ r)) (length (life.log.appended ++ (r ++ more))) some);

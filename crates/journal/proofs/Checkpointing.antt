@@ -1,6 +1,6 @@
--- A checkpoint of a life.
+-- A checkpoint of a life of which all is forced: what it asks for.
 use Rattle.std.proofs.Common.{◌≡◌, ◌≤◌, ◌+◌, ◌*◌, ◌/◌, ℕ, List, length, refl, sym, subst, arith}
-use Rattle.tm_disk.specs.Disk.{DiskState, Follows}
+use Rattle.tm_disk.specs.Disk.{DiskState}
 use Rattle.model_system.specs.System.{System}
 use Rattle.model_system.specs.Areas.{snapshot_area, snapshot_first, log_first, data_first}
 use Rattle.model_image.proofs.Places.{log_below, slot_above}
@@ -10,16 +10,17 @@ use Rattle.restart_data.specs.declared.restart.RestartSector.{RestartSector}
 use Rattle.restart_data.specs.Restart.{IsRestart}
 use Rattle.seg_store.specs.ChangedSlots.{AllStores}
 use Rattle.disk_law.specs.CommittedBytes.{Touches}
-use Rattle.checkpointing.specs.CheckpointParts.{CheckpointParts, other_area, next_restart, sequence_behind, AreAreasFree, IsOver}
-use Rattle.checkpointing.specs.Checkpoint.{IsCheckpointed}
+use Rattle.checkpointing.specs.CheckpointParts.{CheckpointParts, other_area, forced_writer, next_restart, sequence_behind, AreAreasFree, IsOver}
 use Rattle.checkpointing.specs.CheckpointNeeds.{HasRestart, NoneIsAhead, ChangedAreNamed, ForceKeeps, SnapshotKeeps}
 use Rattle.checkpointing.specs.DirtySlots.{AreStoresOf}
-use Rattle.disk_law.specs.Life.{LifeOnDisk}
+use Rattle.disk_law.specs.Life.{LifeOnDisk, IsLifeOnDisk}
 use Rattle.disk_law.specs.KeptImages.{AreImagesKept}
-use Rattle.disk_law.specs.LifeCheckpoint.{parts_with, after_checkpoint}
-use Rattle.disk_law.proofs.CheckpointOnDisk.{has_restart, changed_are_named, none_is_ahead, forces_keep, snapshots_keep, checkpoint_done}
+use Rattle.disk_law.specs.LifeCheckpoint.{parts_with, MayCheckpoint}
+use Rattle.disk_law.specs.LifeSteps.{forced_life}
+use Rattle.disk_law.proofs.CheckpointOnDisk.{has_restart, may_forced, changed_are_named, none_is_ahead, forces_keep, snapshots_keep}
+use Rattle.disk_law.proofs.OnDisk.{forced_is_life}
 use Rattle.disk_law.specs.JournalState.{JournalState}
-use Rattle.journal.specs.CheckpointFor.{parts_for, AreCheckpointPartsOf, CanCheckpoint}
+use Rattle.journal.specs.CheckpointFor.{parts_for, CanTake}
 
 -- what a checkpoint asks for
 pub record Asks (parts : CheckpointParts) (log : Writer) (stores : AllStores) (disk : DiskState) : Type 0 where
@@ -34,49 +35,40 @@ pub record Asks (parts : CheckpointParts) (log : Writer) (stores : AllStores) (d
   pub force_keeps : ForceKeeps parts log disk
   pub snapshot_keeps : SnapshotKeeps parts log stores disk
 
+-- so of a life of which all is forced
 of_life : (bytes : List ℕ) (stores : AllStores) (disk : DiskState) (life : LifeOnDisk) (touches : Touches) (told : List Record)
-    → AreCheckpointPartsOf life.system (record { log = life.log; restart = life.now }) stores bytes touches told disk life
+    → IsLifeOnDisk life → MayCheckpoint bytes stores touches told life → AreImagesKept (forced_life life) disk
     → data_first life.system (length life.system.databases) ≤ disk.size
-    → Asks (parts_with bytes life) life.log stores disk
-of_life bytes stores disk life touches told is areas =
-    let w = is.is_life.writer in
+    → Asks (parts_with bytes life) (forced_writer life.log) stores disk
+of_life bytes stores disk life touches told l may kept areas =
+    let forced : LifeOnDisk = forced_life life in
+    let is : IsLifeOnDisk forced = forced_is_life life l in
+    let may_then : MayCheckpoint bytes stores touches told forced = may_forced bytes stores touches told life may in
+    let w = l.writer in
     record {
-      now = has_restart life disk is.kept;
+      now = has_restart forced disk kept;
       free = record { snapshot_at = refl; snapshot_sectors = refl; log_at = refl; log_sectors = refl };
-      next = is.may.next;
-      stores_of = is.may.slots.are_of;
-      named = changed_are_named bytes stores touches told life is.is_life is.may disk is.kept;
+      next = may_then.next;
+      stores_of = may.slots.are_of;
+      named = changed_are_named bytes stores touches told forced is may_then refl disk kept;
       over = record { first = w.first; count = w.count; sequence = w.sequence; epoch = w.epoch };
-      log_area = omega (arith, w.first, w.count, areas, log_below life.system life.now.log is.is_life.in_range.log, slot_above life.system (length life.system.databases) 0 0);
-      ahead = none_is_ahead bytes stores touches told life is.is_life is.may disk is.kept;
-      force_keeps = forces_keep bytes stores touches told life is.is_life is.may disk is.kept;
-      snapshot_keeps = snapshots_keep bytes stores touches told life is.is_life is.may disk is.kept;
+      log_area = omega (arith, w.first, w.count, areas, log_below life.system life.now.log l.in_range.log, slot_above life.system (length life.system.databases) 0 0);
+      ahead = none_is_ahead bytes stores touches told forced is may_then refl disk kept;
+      force_keeps = forces_keep bytes stores touches told forced is may_then refl disk kept;
+      snapshot_keeps = snapshots_keep bytes stores touches told forced is may_then refl disk kept;
     }
 
 -- by the system and the journal that the life has
-pub asks : (system : System) (journal : JournalState) (stores : AllStores) (bytes : List ℕ) (disk : DiskState) (can : CanCheckpoint system journal stores bytes disk)
+pub asks : (system : System) (journal : JournalState) (stores : AllStores) (bytes : List ℕ) (disk : DiskState) (can : CanTake system journal stores bytes disk)
     → Asks (parts_for system journal.restart bytes) journal.log stores disk
 asks system journal stores bytes disk can =
     let life = can.life in
-    let is = can.is in
-    let whole : AreCheckpointPartsOf life.system (record { log = life.log; restart = life.now }) stores bytes can.touches can.told disk life =
-    record { of_system = refl; writer = refl; now = refl; is_life = is.is_life; may = is.may; kept = is.kept } in
     let areas : data_first life.system (length life.system.databases) ≤ disk.size =
-    subst (λ (s : System). data_first s (length s.databases) ≤ disk.size) (sym is.of_system) can.areas in
-    subst (λ (s : System). Asks (parts_for s journal.restart bytes) journal.log stores disk) is.of_system
-    (subst (λ (r : RestartSector). Asks (parts_for life.system r bytes) journal.log stores disk) is.now
-    (subst (λ (w : Writer). Asks (parts_for life.system life.now bytes) w stores disk) is.writer
-    (of_life bytes stores disk life can.touches can.told whole areas)))
-
--- once it is done, each image is one of the life behind it
-pub follows_kept : (system : System) (journal : JournalState) (stores : AllStores) (bytes : List ℕ) (touches : Touches) (told : List Record) (life : LifeOnDisk) (old : DiskState)
-    → AreCheckpointPartsOf system journal stores bytes touches told old life
-    → (new : DiskState) → Follows (IsCheckpointed (parts_for system journal.restart bytes) journal.log stores) old new → AreImagesKept (after_checkpoint bytes touches life) new
-follows_kept system journal stores bytes touches told life old is new follows =
-    checkpoint_done bytes stores touches told life is.is_life is.may old is.kept new
-    (subst (λ (s : System). Follows (IsCheckpointed (parts_for s life.now bytes) life.log stores) old new) (sym is.of_system)
-    (subst (λ (r : RestartSector). Follows (IsCheckpointed (parts_for system r bytes) life.log stores) old new) (sym is.now)
-    (subst (λ (w : Writer). Follows (IsCheckpointed (parts_for system journal.restart bytes) w stores) old new) (sym is.writer) follows)))
+    subst (λ (s : System). data_first s (length s.databases) ≤ disk.size) (sym can.of_system) can.areas in
+    subst (λ (s : System). Asks (parts_for s journal.restart bytes) journal.log stores disk) can.of_system
+    (subst (λ (r : RestartSector). Asks (parts_for life.system r bytes) journal.log stores disk) can.now
+    (subst (λ (w : Writer). Asks (parts_for life.system life.now bytes) w stores disk) can.writer
+    (of_life bytes stores disk life can.touches can.told can.is_life can.may can.kept areas)))
 
 -- a snapshot that fits its area, in bytes
 pub bytes_fit : (bytes area : ℕ) → (bytes + 4063) / 4064 ≤ area → bytes ≤ area * 4064
@@ -107,7 +99,7 @@ pub same_parts : (system : System) (now : RestartSector) (bytes : List ℕ) (sna
 same_parts system now bytes snapshot_at snapshot_sectors log_at log_sectors are =
     rw (are.snapshot_at_is, are.snapshot_sectors_are, are.log_at_is, are.log_sectors_are) refl
 
-pub asks_at : (system : System) (journal : JournalState) (stores : AllStores) (bytes : List ℕ) (disk : DiskState) (can : CanCheckpoint system journal stores bytes disk)
+pub asks_at : (system : System) (journal : JournalState) (stores : AllStores) (bytes : List ℕ) (disk : DiskState) (can : CanTake system journal stores bytes disk)
     → (snapshot_at snapshot_sectors log_at log_sectors : ℕ) → AreAreas system journal.restart snapshot_at snapshot_sectors log_at log_sectors
     → Asks (parts_at system journal.restart bytes snapshot_at snapshot_sectors log_at log_sectors) journal.log stores disk
 asks_at system journal stores bytes disk can snapshot_at snapshot_sectors log_at log_sectors are =
@@ -115,7 +107,7 @@ asks_at system journal stores bytes disk can snapshot_at snapshot_sectors log_at
     (asks system journal stores bytes disk can)
 
 -- by a restart sector that is the journal's
-pub asks_with : (system : System) (journal : JournalState) (restart : RestartSector) (stores : AllStores) (bytes : List ℕ) (disk : DiskState) (can : CanCheckpoint system journal stores bytes disk)
+pub asks_with : (system : System) (journal : JournalState) (restart : RestartSector) (stores : AllStores) (bytes : List ℕ) (disk : DiskState) (can : CanTake system journal stores bytes disk)
     → restart ≡ journal.restart → (snapshot_at snapshot_sectors log_at log_sectors : ℕ) → AreAreas system restart snapshot_at snapshot_sectors log_at log_sectors
     → Asks (parts_at system restart bytes snapshot_at snapshot_sectors log_at log_sectors) journal.log stores disk
 asks_with system journal restart stores bytes disk can same snapshot_at snapshot_sectors log_at log_sectors are =

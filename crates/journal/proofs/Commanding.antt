@@ -26,7 +26,7 @@ use Rattle.model_machine.specs.LastingSteps.{LastingStep, applied}
 use Rattle.model_machine.specs.LastingSteps.LastingStep.{Commands}
 use Rattle.model_machine.specs.MachineCalls.{After, lasting_step}
 use Rattle.model_image.specs.Replay.{names_known}
-use Rattle.model_image.specs.States.{breaks_a_rule, has_right_pad, is_system_terminal}
+use Rattle.model_image.specs.States.{has_right_pad, is_system_terminal}
 use Rattle.log_records.specs.RecordSpelling.{record_spelling}
 use Rattle.system_types.specs.ValidSystem.{IsSystem}
 use Rattle.image_law.specs.SoundState.{FitsRanges}
@@ -38,13 +38,14 @@ use Rattle.checkpointing.specs.SnapshotRecords.{IsOfSystem}
 use Rattle.disk_law.specs.Life.{LifeOnDisk}
 use Rattle.disk_law.specs.LastingSteps.{MayCommand, command_record, commanding}
 use Rattle.disk_law.proofs.LastingSteps as steps
+use Rattle.disk_law.proofs.Stepping.{step_life}
 use Rattle.program_rows.specs.SlotsState.{SlotsState}
 use Rattle.journal.specs.UnspentCounts.{AreUnspent}
 use Rattle.journal.specs.CarriedLife.{IsCarriedBy}
 use Rattle.journal.specs.LifeByCall.{LifeGoesOn, LifeStepsOn}
 use Rattle.journal.proofs.Answered.{same_goes}
 use Rattle.journal.proofs.Counting.{commands_fits}
-use Rattle.journal.proofs.Inputs.{HasRoom, counted_then, fits_now, has_terminals, keeps_rules, life_behind, room_for, unbroken_by}
+use Rattle.journal.proofs.Inputs.{HasRoom, counted_then, fits_now, has_terminals, room_for}
 use Rattle.journal.proofs.Names.{of_system_behind}
 use Rattle.journal.proofs.Turns.{GoesBy, told_by}
 
@@ -155,11 +156,6 @@ module _ (system : System) (valid : IsSystem system) (moment : Moment) (slots : 
       lasts_so : applied (Commands does) life.lasting ≡ after.lasting
       lasts_so = ap (λ (l : LastingState). applied (Commands does) l) c.is.lasts ∙ sym behind_is
 
-      unbroken : breaks_a_rule life.system (applied (Commands does) life.lasting) ≡ false
-      unbroken =
-          unbroken_by life.system system (applied (Commands does) life.lasting) after.lasting c.is.of_system lasts_so
-          (keeps_rules system after sound (subst (FitsRanges system) (sym behind_is) fits_so))
-
       done_goes : HasRoom (command_record does ∷ []) life → LifeStepsOn (flat_map record_spelling (command_record does ∷ [])) system after slots units next life
       done_goes room =
           let is = steps.command_step does life c.is.is_life (may_command room) in
@@ -174,7 +170,7 @@ module _ (system : System) (valid : IsSystem system) (moment : Moment) (slots : 
                 lasts = lasts_so;
                 names = subst (λ (l : LastingState). IsOfSystem system l) (sym behind_is) (of_system_behind system (Commands does) moment.lasting c.is.names);
                 counted = counted_then system valid moment slots units next life c unspent (commanding does life) is after.lasting lasts_so;
-                is_life = life_behind life c.is.is_life (commanding does life) is unbroken;
+                is_life = step_life life c.is.is_life (commanding does life) is;
                 stores = record { are_of = c.is.stores.are_of; valid = c.is.stores.valid; present = c.is.stores.present; changed = c.is.stores.changed };
                 committed = c.is.committed;
                 numbers = c.is.numbers;

@@ -1,5 +1,5 @@
 -- The work on a message ends: it is completed or discarded, and the life takes the step.
-use Rattle.std.proofs.Common.{◌≡◌, ◌⊎◌, ℕ, ◌+◌, ◌-◌, ◌≤◌, ◌<◌, Bool, true, false, List, [], ◌∷◌, map, Option, Some, refl, sym, ◌∙◌, ap, subst, arith}
+use Rattle.std.proofs.Common.{◌≡◌, ◌⊎◌, ℕ, ◌+◌, ◌-◌, ◌≤◌, ◌<◌, Bool, true, List, [], ◌∷◌, map, Option, Some, refl, sym, ◌∙◌, ap, subst, arith}
 use Rattle.std.specs.Prelude.{slice_get}
 use Rattle.std.specs.List.{list_all, list_any, flat_map}
 use Rattle.std.specs.Option.{is_some}
@@ -16,7 +16,7 @@ use Rattle.model_system.specs.System.{System}
 use Rattle.model_machine.specs.Machine.{LastingState, Moment, content, message_at, output_at}
 use Rattle.model_machine.specs.LastingSteps.{applied, finished_by, with_pad_changed, with_pad_by, without_message}
 use Rattle.model_machine.specs.LastingSteps.LastingStep.{Completes, Discards}
-use Rattle.model_image.specs.States.{breaks_a_rule, has_right_pad}
+use Rattle.model_image.specs.States.{has_right_pad}
 use Rattle.log_records.specs.declared.record.Record.{Record}
 use Rattle.log_records.specs.RecordSpelling.{record_spelling}
 use Rattle.seg_store.specs.Slots.{Stored, rows_of_slots}
@@ -40,6 +40,7 @@ use Rattle.disk_law.proofs.Changing.{IsKnownSlot}
 use Rattle.disk_law.specs.LifeSteps.{StepOnDisk, after_step}
 use Rattle.disk_law.specs.LastingSteps.{MayComplete, MayDiscard, completing, discarding, unit_records}
 use Rattle.disk_law.proofs.LastingSteps.{complete_step, discard_step}
+use Rattle.disk_law.proofs.Stepping.{step_life}
 use Rattle.journal.specs.UnspentCounts.{AreUnspent}
 use Rattle.unit_work.specs.Marks.{is_marked}
 use Rattle.program_rows.specs.OpenUnits.{HoldsAlone}
@@ -49,7 +50,7 @@ use Rattle.journal.specs.CarriedLife.{resource_of, HoldTouched, IsCarriedBy}
 use Rattle.journal.specs.LifeByCall.{LifeStepsOn}
 use Rattle.journal.proofs.Counting.{completes_fits, discards_fits}
 use Rattle.journal.proofs.Ended.{put_so, marks_back, synced_so, held_committed, units_then, syncs_then}
-use Rattle.journal.proofs.Inputs.{HasRoom, has_terminals, room_for, lasting_fits, keeps_rules, life_behind, unbroken_by}
+use Rattle.journal.proofs.Inputs.{HasRoom, has_terminals, room_for, lasting_fits}
 use Rattle.journal.proofs.Names.{of_system_behind, step_counted}
 use Rattle.journal.proofs.Places.{bytes_of_place}
 use Rattle.journal.proofs.Stores.{has_stores, few_sectors_of, stands_so, marked_so, stays_there}
@@ -135,11 +136,6 @@ module _ (system : System) (valid : IsSystem system) (n : ℕ) (moment after : M
     lasts_so : applied (Completes message.id lines outputs pad) life.lasting ≡ after.lasting
     lasts_so = (rw (c.is.lasts, its) refl) ∙ sym behind_is
 
-    unbroken : breaks_a_rule life.system (applied (Completes message.id lines outputs pad) life.lasting) ≡ false
-    unbroken =
-        unbroken_by life.system system (applied (Completes message.id lines outputs pad) life.lasting) after.lasting c.is.of_system lasts_so
-        (keeps_rules system after sound (subst (FitsRanges system) (sym behind_is) fits_so))
-
     -- The message is completed.
     pub complete_goes : HasRoom (step_records unit (Completes id lines outputs pad) moment.lasting) life
         → LifeStepsOn (flat_map record_spelling (step_records unit (Completes id lines outputs pad) moment.lasting)) system after new (with_unit region number units) later life
@@ -157,7 +153,7 @@ module _ (system : System) (valid : IsSystem system) (n : ℕ) (moment after : M
               lasts = lasts_so;
               names = subst (λ (l : LastingState). IsOfSystem system l) (sym behind_is) (of_system_behind system (Completes id lines outputs pad) moment.lasting c.is.names);
               counted = subst (λ (l : LastingState). AreSegmentsCounted l) lasts_so (step_counted life step is (subst (λ (l : LastingState). AreSegmentsCounted l) (sym c.is.lasts) c.is.counted));
-              is_life = life_behind life c.is.is_life step is unbroken;
+              is_life = step_life life c.is.is_life step is;
               stores = has_stores system n new had (few_sectors_of system valid) (after_step step life) c.is.of_system
                   (λ place number dbd found_there below.
                   stands_so system old life c.is.of_system c.is.stores (place + 1) number (known_there place number dbd found_there below)
@@ -218,11 +214,6 @@ module _ (system : System) (valid : IsSystem system) (n : ℕ) (moment after : M
     committed_stays : (other d s : ℕ) → 1 ≤ other → (other ≡ region → ⊥) → 1 ≤ d → HoldsAlone moment.enqueues other (resource_of d (image_at d s old.committed)) → image_at d s new.committed ≡ image_at d s old.committed
     committed_stays other d s l apart p alone = ap (λ (stores : List Stored). image_at d s stores) up.committed
 
-    discard_unbroken : breaks_a_rule life.system (applied (Discards message.id abend) life.lasting) ≡ false
-    discard_unbroken =
-        unbroken_by life.system system (applied (Discards message.id abend) life.lasting) after.lasting c.is.of_system discard_lasts
-        (keeps_rules system after sound (subst (FitsRanges system) (sym behind_is) discard_fits_so))
-
     -- The message is discarded.
     pub discard_goes : HasRoom (step_records unit (Discards id abend) moment.lasting) life
         → LifeStepsOn (flat_map record_spelling (step_records unit (Discards id abend) moment.lasting)) system after new (with_unit region number units) later life
@@ -240,7 +231,7 @@ module _ (system : System) (valid : IsSystem system) (n : ℕ) (moment after : M
               lasts = discard_lasts;
               names = subst (λ (l : LastingState). IsOfSystem system l) (sym behind_is) (of_system_behind system (Discards id abend) moment.lasting c.is.names);
               counted = subst (λ (l : LastingState). AreSegmentsCounted l) discard_lasts (step_counted life step is (subst (λ (l : LastingState). AreSegmentsCounted l) (sym c.is.lasts) c.is.counted));
-              is_life = life_behind life c.is.is_life step is discard_unbroken;
+              is_life = step_life life c.is.is_life step is;
               stores = has_stores system n new had (few_sectors_of system valid) (after_step step life) c.is.of_system
                   (λ place number dbd found_there below.
                   put_so system n moment.lasting moment.slots moment.enqueues after.enqueues old units next life c.is have holds unit region least found some new up (place + 1) number

@@ -24,7 +24,7 @@ use Rattle.model_machine.specs.Machine.{LastingState, Moment, content, terminal_
 use Rattle.model_machine.specs.LastingSteps.{KeptInput, LastingStep, applied, kept_input}
 use Rattle.model_machine.specs.LastingSteps.LastingStep.{Accepts, Acknowledges}
 use Rattle.model_machine.specs.MachineCalls.{After, Refusal, accepted_step, ack_answer, ack_by, acknowledged_step, by_number, input_answer, lasting_step, unknown_code, unknown_terminal, wrong_number}
-use Rattle.model_image.specs.States.{breaks_a_rule, has_right_pad, is_system_code, is_small, is_system_terminal}
+use Rattle.model_image.specs.States.{has_right_pad, is_system_code, is_small, is_system_terminal}
 use Rattle.log_records.specs.declared.record.Record.{Record}
 use Rattle.log_records.specs.declared.record.Record.TheVariants.{Acknowledged}
 use Rattle.log_records.specs.RecordSpelling.{record_spelling, IsLogRecord}
@@ -32,9 +32,8 @@ use Rattle.log_records.proofs.Takes.{IsBytes}
 use Rattle.log_writer.specs.ForcedLog.{log_sectors_of}
 use Rattle.system_types.specs.ValidSystem.{IsSystem}
 use Rattle.image_law.specs.SoundState.{FitsRanges}
-use Rattle.image_law.proofs.Kept.{sound_where}
 use Rattle.image_law.specs.StandingState.{StandsLasting}
-use Rattle.image_law.proofs.SoundLaws.{breaks_none, is_sound}
+use Rattle.image_law.proofs.SoundLaws.{is_sound}
 use Rattle.image_law.specs.SoundMachine.{StaysSound}
 use Rattle.image_law.proofs.Refused.{IsNew, is_new}
 use Rattle.image_law.proofs.Steps.{HasTerminals, pads_of_codes, there_by, is_free, input_known, stays_sound}
@@ -42,9 +41,10 @@ use Rattle.checkpointing.specs.SnapshotRecords.{IsOfSystem}
 use Rattle.image_law.specs.SegmentCounts.{AreSegmentsCounted}
 use Rattle.model_image.specs.StepRecords as told
 use Rattle.disk_law.specs.Life.{LifeOnDisk, IsLifeOnDisk}
-use Rattle.disk_law.specs.LifeSteps.{HasRoomForRecords, IsStep, StepOnDisk, after_step}
+use Rattle.disk_law.specs.LifeSteps.{HasRoomForRecords, IsStep, StepOnDisk}
 use Rattle.disk_law.specs.LastingSteps.{MayAccept, MayAcknowledge, accepting, acknowledging, life_input_record, input_of}
 use Rattle.disk_law.proofs.LastingSteps.{accept_step, acknowledge_step}
+use Rattle.disk_law.proofs.Stepping.{step_life}
 use Rattle.journal.specs.UnspentCounts.{AreUnspent}
 use Rattle.program_rows.specs.SlotsState.{SlotsState}
 use Rattle.journal.specs.CarriedLife.{IsCarriedBy}
@@ -66,25 +66,6 @@ room_for some records life same room =
 pub lasting_fits : (system : System) (lasting : LastingState) (life : LifeOnDisk) → life.system ≡ system → life.lasting ≡ lasting → IsLifeOnDisk life → FitsRanges system lasting
 lasting_fits system lasting life same lasts l =
     subst (λ (x : LastingState). FitsRanges system x) lasts (subst (λ (y : System). FitsRanges y life.lasting) same (is_sound life.system life.lasting l.sound).fits)
-
--- what lasts of a machine that is sound, and fits, breaks no rule
-pub keeps_rules : (system : System) (after : Moment) → StaysSound system after → FitsRanges system after.lasting → breaks_a_rule system after.lasting ≡ false
-keeps_rules system after sound fits = breaks_none system after.lasting (sound_where system after.lasting sound.stands fits)
-
-pub unbroken_by : (y system : System) (a b : LastingState) → y ≡ system → a ≡ b → breaks_a_rule system b ≡ false → breaks_a_rule y a ≡ false
-unbroken_by y system a b e f h = ap (λ (z : System). breaks_a_rule z a) e ∙ ap (λ (l : LastingState). breaks_a_rule system l) f ∙ h
-
--- a life behind a step that leaves a state that breaks no rule
-pub life_behind : (life : LifeOnDisk) → IsLifeOnDisk life → (step : StepOnDisk) → IsStep life step → breaks_a_rule life.system step.lasting ≡ false → IsLifeOnDisk (after_step step life)
-life_behind life l step s unbroken = record {
-  in_range = l.in_range;
-  few = l.few;
-  writer = record { first = l.writer.first; count = l.writer.count; sequence = l.writer.sequence; epoch = l.writer.epoch };
-  appended = record { fits = omega (arith, s.room.fits); spelled = refl; records = tt; changes = refl; images = refl };
-  sound = unbroken;
-  rows = s.rows;
-  slots = s.slots;
-}
 
 -- what lasts has the terminals of the system
 pub has_terminals : (system : System) (lasting : LastingState) → IsOfSystem system lasting → HasTerminals system lasting
@@ -214,7 +195,7 @@ module _ (system : System) (valid : IsSystem system) (moment : Moment) (slots : 
               lasts = lasts_so;
               names = subst (λ (l : LastingState). IsOfSystem system l) (sym behind_is) (of_system_behind system (Accepts terminal number kept) moment.lasting c.is.names);
               counted = counted_then (accepting terminal number segments life) is after.lasting lasts_so;
-              is_life = life_behind life c.is.is_life (accepting terminal number segments life) is unbroken;
+              is_life = step_life life c.is.is_life (accepting terminal number segments life) is;
               stores = record { are_of = c.is.stores.are_of; valid = c.is.stores.valid; present = c.is.stores.present; changed = c.is.stores.changed };
               committed = c.is.committed;
               numbers = c.is.numbers;
@@ -226,11 +207,6 @@ module _ (system : System) (valid : IsSystem system) (moment : Moment) (slots : 
         } where
           lasts_so : applied (Accepts terminal number (input_of terminal segments life)) life.lasting ≡ after.lasting
           lasts_so = (rw (c.is.of_system, c.is.lasts) refl) ∙ sym behind_is
-
-          unbroken : breaks_a_rule life.system (applied (Accepts terminal number (input_of terminal segments life)) life.lasting) ≡ false
-          unbroken =
-              unbroken_by life.system system (applied (Accepts terminal number (input_of terminal segments life)) life.lasting) after.lasting c.is.of_system lasts_so
-              (keeps_rules system after sound (subst (FitsRanges system) (sym behind_is) fits_so))
 
   -- ---- an acknowledgement
 
@@ -327,7 +303,7 @@ module _ (system : System) (valid : IsSystem system) (moment : Moment) (slots : 
               lasts = lasts_so;
               names = subst (λ (l : LastingState). IsOfSystem system l) (sym ack_behind) (of_system_behind system (Acknowledges terminal) moment.lasting c.is.names);
               counted = counted_then (acknowledging terminal number life) is after_ack.lasting lasts_so;
-              is_life = life_behind life c.is.is_life (acknowledging terminal number life) is unbroken;
+              is_life = step_life life c.is.is_life (acknowledging terminal number life) is;
               stores = record { are_of = c.is.stores.are_of; valid = c.is.stores.valid; present = c.is.stores.present; changed = c.is.stores.changed };
               committed = c.is.committed;
               numbers = c.is.numbers;
@@ -339,8 +315,3 @@ module _ (system : System) (valid : IsSystem system) (moment : Moment) (slots : 
         } where
           lasts_so : applied (Acknowledges terminal) life.lasting ≡ after_ack.lasting
           lasts_so = (rw (c.is.lasts) refl) ∙ sym ack_behind
-
-          unbroken : breaks_a_rule life.system (applied (Acknowledges terminal) life.lasting) ≡ false
-          unbroken =
-              unbroken_by life.system system (applied (Acknowledges terminal) life.lasting) after_ack.lasting c.is.of_system lasts_so
-              (keeps_rules system after_ack ack_sound (subst (FitsRanges system) (sym ack_behind) ack_fits_so))

@@ -19,5 +19,6 @@ pub mod Checkpoints
 pub mod Openings
 pub mod Listed
 pub mod Standing
-pub mod Stepping
+pub mod Forcing
 pub mod Checkpointing
+pub mod BehindForce

@@ -9,7 +9,6 @@ use Rattle.tm_types.specs.declared.dbd.Dbd.{Dbd}
 use Rattle.tm_types.specs.SegTypes.{IsHierarchy}
 use Rattle.model_data.specs.declared.row.Row.{Row}
 use Rattle.model_data.specs.Record as rows
-use Rattle.tm_disk.specs.Disk.{Image}
 use Rattle.model_system.specs.System.{System}
 use Rattle.model_machine.specs.Machine.{LastingState, Slot}
 use Rattle.model_data.specs.Table.{EnqueueTable}
@@ -26,9 +25,9 @@ use Rattle.image_loading.proofs.Spelled.{spells_rows, no_bytes}
 use Rattle.model_image.specs.Slots.{is_image, are_images, dbd_at, is_image_of}
 use Rattle.disk_law.specs.CommittedBytes.{Bytes, Touch, Touches}
 use Rattle.disk_law.specs.Life.{LifeOnDisk, IsLifeOnDisk}
-use Rattle.disk_law.specs.KeptImages.{IsImageKept, StandsAt}
 use Rattle.disk_law.specs.SlotChanges.{SlotChange, with_bytes_behind, with_slot_changes, MayChangeAll}
-use Rattle.disk_law.proofs.Changing.{IsKnownSlot, changes_life, changes_kept}
+use Rattle.disk_law.proofs.Changing.{IsKnownSlot, changes_life}
+use Rattle.disk_law.proofs.OnDisk.{goes_by_changes}
 use Rattle.disk_law.proofs.Recovering.{all_at}
 use Rattle.disk_law.proofs.Stored.{store_of}
 use Rattle.unit_work.specs.Marks.{is_marked, AreMarked}
@@ -49,7 +48,7 @@ use Rattle.disk_law.proofs.Touched.{both}
 
 module _ (unit : ℕ) (old new : SlotsState) where
   abbrev pub move_of : Change → SlotChange
-  move_of c = record { database = c.db; slot = c.slot; before = image_bytes_at c.db c.slot old.stores; after = image_bytes_at c.db c.slot new.stores }
+  move_of c = record { database = c.db; slot = c.slot; before = image_bytes_at c.db c.slot old.stores; after = image_bytes_at c.db c.slot new.stores; marked = is_marked new.changed c.db c.slot }
 
   abbrev pub moves : List Change → List SlotChange
   moves cs = map move_of cs
@@ -68,6 +67,10 @@ module _ (unit : ℕ) (old new : SlotsState) where
       ap (λ b. (b && (s == c.slot)) || changes_slot (moves cs) d s) (eqb_back d c.db)
       ∙ ap (λ b. ((c.db == d) && b) || changes_slot (moves cs) d s) (eqb_back s c.slot)
       ∙ ap (λ b. is_slot d s c || b) (flipped cs d s)
+
+  marked_so_far : (cs : List Change) → AllByRecursion (λ c. c.marked ≡ is_marked new.changed c.database c.slot) (moves cs)
+  marked_so_far [] = tt
+  marked_so_far (c ∷ cs) = (refl, marked_so_far cs)
 
   after_so : (cs : List Change) → AllByRecursion (λ c. c.after ≡ image_bytes_at c.database c.slot new.stores) (moves cs)
   after_so [] = tt
@@ -133,10 +136,6 @@ pub record Moves (unit region : ℕ) (table : EnqueueTable) (old new : SlotsStat
   pub others : (other : ℕ) → 1 ≤ other → (other ≡ region → ⊥) → touched_in other new ≡ touched_in other old
   pub marks : AreMarked (λ d s. is_among d s cs) (slots_stores old) (slots_stores new)
 
--- a life with other marks
-abbrev pub with_marks : (ℕ → ℕ → Bool) → LifeOnDisk → LifeOnDisk
-with_marks changed life = record life { changed = changed }
-
 some_of : (o : Option Touch) (t : Touch) → o ≡ Some t → IsSome o
 some_of None t e = absurd cc
 some_of (Some x) t e = refl
@@ -150,11 +149,8 @@ module _ (system : System) (n : ℕ) (lasting : LastingState) (before after : Li
   abbrev changes : List SlotChange
   changes = moves unit old new cs
 
-  abbrev moved : LifeOnDisk
+  abbrev pub moved : LifeOnDisk
   moved = with_slot_changes unit changes life
-
-  abbrev pub life_behind : LifeOnDisk
-  life_behind = with_marks (λ d s. is_marked new.changed d s) moved
 
   stays : StaysSo life moved
   stays = stays_so unit changes life
@@ -183,6 +179,10 @@ module _ (system : System) (n : ℕ) (lasting : LastingState) (before after : Li
       record {
         alone = λ other apart. not_other other c.db c.slot apart is.alone (life.touches other c.db c.slot) refl;
         stood = sym (stands_so system old life l.of_system l.stores c.db c.slot slot);
+        same = λ none. (
+          marked_so system old life l.of_system l.stores c.db c.slot slot ∙ (m.marks.same c.db c.slot (omega (arith, slot.is)) none).0,
+          ap (λ (image : List Row). rows.rows_spelling image) (m.marks.same c.db c.slot (omega (arith, slot.is)) none).1,
+        );
         is_record = right;
         image = subst (λ (y : System). is_image_of y (move_record unit old new c) ≡ true) (sym l.of_system)
             (images_known system unit c.db c.slot (image_bytes_at c.db c.slot old.stores) (image_bytes_at c.db c.slot new.stores) slot
@@ -224,28 +224,26 @@ module _ (system : System) (n : ℕ) (lasting : LastingState) (before after : Li
   known_there : (place number : ℕ) (dbd : Dbd) → slice_get system.databases place ≡ Some dbd → number < dbd.roots → IsKnownSlot system (place + 1) number
   known_there place number dbd found below = record { place = place; is = refl; dbd = dbd; found = found; below = below }
 
-  of_system : (place : ℕ) (dbd : Dbd) → slice_get life.system.databases place ≡ Some dbd → slice_get system.databases place ≡ Some dbd
-  of_system place dbd found = subst (λ (y : System). slice_get y.databases place ≡ Some dbd) l.of_system found
+  -- a slot that wasn't changed is marked as before
+  marked_still : (d s : ℕ) → 1 ≤ d → is_among d s cs ≡ false → is_marked old.changed d s ≡ is_marked new.changed d s
+  marked_still d s low apart = by (is_marked new.changed d s) refl where
+    by : (b : Bool) → is_marked new.changed d s ≡ b → is_marked old.changed d s ≡ is_marked new.changed d s
+    by false is = (m.marks.same d s low is).0 ∙ sym is
+    by true is =
+        ⊎_elim
+        (λ (was : is_marked old.changed d s ≡ true). was ∙ sym is)
+        (λ (among : is_among d s cs ≡ true). let clash : true ≡ false = sym among ∙ apart in absurd cc)
+        (m.marks.only d s low is)
 
-  -- what isn't marked then stood so before
-  unmarked : (d s : ℕ) (slot : IsKnownSlot system d s) → is_marked new.changed d s ≡ false → (life.changed d s ≡ false) × (moved.present d s ≡ life.present d s)
-  unmarked d s slot none =
-      let same = m.marks.same d s (omega (arith, slot.is)) none in (
-        marked_so system old life l.of_system l.stores d s slot ∙ same.0,
-        present_so d s slot ∙ ap (λ (image : List Row). rows.rows_spelling image) same.1 ∙ sym (stands_so system old life l.of_system l.stores d s slot),
-      )
-
-  -- what is marked then was so before, or was changed
-  marked_yet : (d s : ℕ) (slot : IsKnownSlot system d s) → is_marked new.changed d s ≡ true → moved.changed d s ≡ true
-  marked_yet d s slot is = changed_behind unit changes life d s ∙ by (m.marks.only d s (omega (arith, slot.is)) is) where
-    either : (a b : Bool) → (a ≡ true) ⊎ (b ≡ true) → a || b ≡ true
-    either true b h = refl
-    either false b (inl h) = absurd cc
-    either false b (inr h) = h
-
-    by : (is_marked old.changed d s ≡ true) ⊎ (is_among d s cs ≡ true) → changes_slot changes d s || life.changed d s ≡ true
-    by (inl was_marked) = either (changes_slot changes d s) (life.changed d s) (inr (marked_so system old life l.of_system l.stores d s slot ∙ was_marked))
-    by (inr among) = either (changes_slot changes d s) (life.changed d s) (inl (flipped unit old new cs d s ∙ among))
+  marks_then : (d s : ℕ) → IsKnownSlot system d s → moved.changed d s ≡ is_marked new.changed d s
+  marks_then d s slot =
+      changed_behind unit (λ d s. is_marked new.changed d s) changes life d s (marked_so_far unit old new cs)
+      ∙ by (changes_slot changes d s) refl where
+        by : (b : Bool) → changes_slot changes d s ≡ b → (if b then is_marked new.changed d s else life.changed d s) ≡ is_marked new.changed d s
+        by true e = refl
+        by false e =
+            marked_so system old life l.of_system l.stores d s slot
+            ∙ marked_still d s (omega (arith, slot.is)) (sym (flipped unit old new cs d s) ∙ e)
 
   -- ---- what units touched then
 
@@ -330,56 +328,16 @@ module _ (system : System) (n : ℕ) (lasting : LastingState) (before after : Li
 
   -- ---- the life then
 
-  is_life_behind : IsLifeOnDisk life_behind
-  is_life_behind = record {
-    in_range = moved_life.in_range;
-    few = moved_life.few;
-    writer = moved_life.writer;
-    appended = moved_life.appended;
-    sound = moved_life.sound;
-    rows = moved_life.rows;
-    slots = moved_life.slots;
-  }
-
-  kept_behind : (a : Image) → IsImageKept life a → IsImageKept life_behind a
-  kept_behind a k =
-      let then_kept : IsImageKept moved a = changes_kept unit changes life l.is_life may_all a k in
-      let known_so : (place : ℕ) (dbd : Dbd) → slice_get moved.system.databases place ≡ Some dbd → slice_get system.databases place ≡ Some dbd =
-      λ place dbd found. of_system place dbd (subst (λ (y : System). slice_get y.databases place ≡ Some dbd) stays.system found) in
-      record {
-        restart = then_kept.restart;
-        has_text = then_kept.has_text;
-        snapshot = then_kept.snapshot;
-        log = then_kept.log;
-        has_snapshot = then_kept.has_snapshot;
-        has_log = then_kept.has_log;
-        records = then_kept.records;
-        bytes = then_kept.bytes;
-        lasts = then_kept.lasts;
-        open_yet = then_kept.open_yet;
-        slots = then_kept.slots;
-        unnamed = then_kept.unnamed;
-        written = λ place number dbd found below none.
-            let same = unmarked (place + 1) number (known_there place number dbd (known_so place dbd found) below) none in
-            subst (λ (v : List ℕ). StandsAt moved.system a place number v) (sym same.1)
-            (subst (λ (y : System). StandsAt y a place number (life.present (place + 1) number)) (sym stays.system)
-            (k.written place number dbd (subst (λ (y : System). slice_get y.databases place ≡ Some dbd) stays.system found) below same.0));
-        named = λ place number dbd found below is.
-            then_kept.named place number dbd found below (marked_yet (place + 1) number (known_there place number dbd (known_so place dbd found) below) is);
-        not_later = then_kept.not_later;
-        none_ahead = then_kept.none_ahead;
-      }
-
-  behind_is : IsLifeOf system lasting after table new units next life_behind
+  behind_is : IsLifeOf system lasting after table new units next moved
   behind_is = record {
     of_system = stays.system ∙ l.of_system;
     lasts = stays.lasting ∙ l.lasts;
     names = l.names;
     counted = l.counted;
-    is_life = is_life_behind;
-    stores = has_stores system n new had few_sectors life_behind (stays.system ∙ l.of_system)
+    is_life = moved_life;
+    stores = has_stores system n new had few_sectors moved (stays.system ∙ l.of_system)
         (λ place number dbd found below. present_so (place + 1) number (known_there place number dbd found below))
-        (λ place number dbd found below. refl);
+        (λ place number dbd found below. marks_then (place + 1) number (known_there place number dbd found below));
     committed = λ place number dbd found below.
         ap (λ (b : Bytes). b (place + 1) number) stays.committed
         ∙ l.committed place number dbd found below
@@ -395,10 +353,10 @@ module _ (system : System) (n : ℕ) (lasting : LastingState) (before after : Li
   -- The records are appended, and the life goes on.
   pub moves_on : Continues (flat_map record_spelling records) (IsLifeOf system lasting after table new units next) life
   moves_on = record {
-    behind = life_behind;
+    behind = moved;
     text = stays.text;
     now = stays.now;
     log = log_behind unit changes life ∙ ap (λ (rs : List Record). with_bytes_behind (flat_map record_spelling rs) life.log) told_so;
-    kept = kept_behind;
+    goes = goes_by_changes unit changes life may_all;
     is = behind_is;
   }

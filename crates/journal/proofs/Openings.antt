@@ -117,7 +117,7 @@ module _ (system : System) (valid : IsSystem system) (n : ℕ) (text : List ℕ)
     in_range = in_range;
     few = omega (arith, valid.most_logs);
     writer = record { first = refl; count = refl; sequence = refl; epoch = refl };
-    appended = record { fits = omega arith; spelled = refl; records = tt; changes = refl; images = refl };
+    appended = record { fits = omega arith; spelled = refl; records = tt; bytes = λ i. omega arith };
     sound = unbroken;
     rows = spells;
     slots = record {

@@ -14,7 +14,8 @@ use Rattle.unit_work.specs.Images.{image_at, image_bytes_at, IsSlotOf}
 use Rattle.disk_law.specs.CommittedBytes.{Touch}
 use Rattle.disk_law.specs.Life.{LifeOnDisk}
 use Rattle.disk_law.specs.SlotChanges.{with_bytes_behind, life_without_unit}
-use Rattle.disk_law.proofs.Changing.{IsKnownSlot, without_life, without_kept}
+use Rattle.disk_law.proofs.Changing.{IsKnownSlot, without_life}
+use Rattle.disk_law.proofs.OnDisk.{goes_nowhere, goes_by_end}
 use Rattle.unit_work.specs.Marks.{is_marked}
 use Rattle.program_rows.specs.OpenUnits.{HoldsAlone}
 use Rattle.program_rows.specs.SlotsState.{SlotsState, HaveSlots, GivesUpSo, touched_in}
@@ -54,7 +55,7 @@ module _ (system : System) (lasting : LastingState) (before after : List (Option
 
   -- So nothing happens on the disk.
   pub stays_as : AreUnitsNumbered after units next → Continues [] (IsLifeOf system lasting after table slots units next) life
-  stays_as numbers = record { behind = life; text = refl; now = refl; log = no_bytes life.log; kept = λ image k. k; is = goes_with numbers }
+  stays_as numbers = record { behind = life; text = refl; now = refl; log = no_bytes life.log; goes = goes_nowhere life; is = goes_with numbers }
 
   -- ---- an empty region takes a message
 
@@ -107,7 +108,7 @@ module _ (system : System) (lasting : LastingState) (before after : List (Option
       text = refl;
       now = refl;
       log = no_bytes life.log;
-      kept = λ image k. k;
+      goes = goes_nowhere life;
       is = record {
         of_system = l.of_system;
         lasts = l.lasts;
@@ -154,7 +155,7 @@ module _ (system : System) (n : ℕ) (lasting : LastingState) (before after : Li
     text = refl;
     now = refl;
     log = no_bytes life.log;
-    kept = λ image k. without_kept unit marks life l.is_life back image k;
+    goes = goes_by_end unit marks life back;
     is = record {
       of_system = l.of_system;
       lasts = l.lasts;

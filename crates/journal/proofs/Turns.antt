@@ -150,7 +150,7 @@ module _ (system : System) (valid : IsSystem system) (n : ℕ) (moment : Moment)
     text = goes.text;
     now = goes.now;
     log = goes.log;
-    kept = goes.kept;
+    goes = goes.goes;
     is = record {
       is =
           subst (λ (l : LastingState). IsLifeOf system l after.slots after.enqueues new units_then next_then goes.behind) (sym a)

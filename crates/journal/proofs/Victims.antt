@@ -5,6 +5,7 @@ use Rattle.std.specs.List.{AllByRecursion}
 use Rattle.std.specs.Option.{is_some, unwrap_or}
 use Rattle.std.proofs.lemmas.Bool.{ne_eqb, ltb-true}
 use Rattle.std.proofs.lemmas.Option.{slice_get_within}
+use Rattle.disk_law.proofs.OnDisk.{goes_further}
 use Rattle.disk_law.proofs.Recovering.{index_found}
 use Rattle.model_system.specs.System.{System}
 use Rattle.model_data.specs.declared.victim.Victim.{Victim}
@@ -36,7 +37,7 @@ continues_then first second P Q life c d = record {
   text = d.text ∙ c.text;
   now = d.now ∙ c.now;
   log = d.log ∙ ap (λ (w : Writer). with_bytes_behind second w) c.log ∙ ap (λ (b : List ℕ). record life.log { appended = b }) (Rattle.std.proofs.Common.append_assoc life.log.appended first second);
-  kept = λ image k. d.kept image (c.kept image k);
+  goes = goes_further [] [] life c.behind d.behind c.goes d.goes;
   is = d.is;
 }
 

@@ -1,11 +1,9 @@
 -- What a control region keeps of its disk.
-use Rattle.std.specs.Prelude.{◌≡◌, ℕ, ◌+◌, ◌≤◌, ◌↔◌, List, length, Option, Some, None}
+use Rattle.std.specs.Prelude.{ℕ, ◌+◌, ◌≤◌, ◌↔◌, List, length, Option, Some, None}
 use Rattle.tm_disk.specs.Disk.{Image, DiskState}
 use Rattle.model_system.specs.System.{System}
 use Rattle.model_machine.specs.Machine.{LastingState}
-use Rattle.disk_law.specs.Life.{LifeOnDisk, IsLifeOnDisk}
-use Rattle.disk_law.specs.KeptImages.{RecoversEither}
-use Rattle.disk_law.specs.LifeSteps.{StepOnDisk, IsStep, with_step_records}
+use Rattle.disk_law.specs.KeptImages.{RecoversOne}
 use Rattle.log_writer.specs.Writer.{Writer}
 use Rattle.log_writer.specs.ForcedLog.{log_sectors_of}
 
@@ -27,12 +25,6 @@ TellsRoom log None = (own : ℕ) → LeavesSectors log own → ⊥
 abbrev pub TellsAllRoom : Writer → ℕ → Type 0
 TellsAllRoom log room = (own : ℕ) → (own ≤ room) ↔ (log.place + log_sectors_of (length log.appended + own) ≤ log.count)
 
--- What was appended last are the records of a step of this life.
-pub record IsStepOf (log : Writer) (life : LifeOnDisk) (step : StepOnDisk) : Type 0 where
-  pub writer : with_step_records life step.records ≡ log
-  pub is_life : IsLifeOnDisk life
-  pub is_step : IsStep life step
-
--- Whatever a crash might have left since the call began recovers to one state, or to another.
-abbrev pub RecoverEither : System → LastingState → LastingState → DiskState → DiskState → Type 0
-RecoverEither system before after old new = (image : Image) → new.left_since old.clock image → RecoversEither system before after image
+-- Whatever a crash might have left since the call began recovers to one of these states.
+abbrev pub RecoverOne : System → List LastingState → DiskState → DiskState → Type 0
+RecoverOne system states old new = (image : Image) → new.left_since old.clock image → RecoversOne system states image

@@ -19,6 +19,7 @@ pub use Rattle.disk_law.specs.KeptImages
 pub use Rattle.disk_law.specs.Life
 pub use Rattle.disk_law.specs.LifeCheckpoint
 pub use Rattle.disk_law.specs.LifeSteps
+pub use Rattle.disk_law.specs.PendingMoves
 pub use Rattle.log_writer.specs.ForcedLog
 pub use Rattle.model_system.specs.Areas
 pub use Rattle.restart_data.specs.Restart

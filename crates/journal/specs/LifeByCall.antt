@@ -1,24 +1,23 @@
 -- How a life goes on with a call of the machine: by a lasting step, or by what is appended.
-use Rattle.std.specs.Prelude.{◌≡◌, ℕ, List}
+use Rattle.std.specs.Prelude.{◌≡◌, ℕ, List, []}
 use Rattle.std.specs.List.{flat_map}
 use Rattle.log_records.specs.RecordSpelling.{record_spelling}
-use Rattle.tm_disk.specs.Disk.{Image}
 use Rattle.model_machine.specs.Machine.{LastingState, Moment}
 use Rattle.model_system.specs.System.{System}
 use Rattle.disk_law.specs.Life.{LifeOnDisk}
-use Rattle.disk_law.specs.KeptImages.{IsImageKept}
 use Rattle.disk_law.specs.SlotChanges.{with_bytes_behind}
 use Rattle.disk_law.specs.LifeSteps.{StepOnDisk, IsStep, after_step}
+use Rattle.disk_law.specs.PendingMoves.{GoesOn}
 use Rattle.program_rows.specs.SlotsState.{SlotsState}
 use Rattle.journal.specs.CarriedLife.{IsCarriedBy}
 
--- These bytes are appended, and nothing is written: each image of the life is one of the life behind that, of which this holds.
+-- The life goes on without a lasting step to one of which this holds; what it did is appended as these bytes.
 pub record Continues (bytes : List ℕ) (Is : LifeOnDisk → Type 0) (life : LifeOnDisk) : Type 0 where
   pub behind : LifeOnDisk
   pub text : behind.text ≡ life.text
   pub now : behind.now ≡ life.now
   pub log : behind.log ≡ with_bytes_behind bytes life.log
-  pub kept : (image : Image) → IsImageKept life image → IsImageKept behind image
+  pub goes : GoesOn [] life behind
   pub is : Is behind
 
 -- These bytes are the records of a step of the life to what lasts so, and this holds of the life behind it.

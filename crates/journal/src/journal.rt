@@ -1,11 +1,11 @@
 //! The journal.
-ghost use Rattle.std.specs.Prelude.{◌≡◌, ℕ, List, map, ◌+◌, ◌*◌, ◌<◌, ◌≤◌, ◌^◌, [], length, OnOk, OnErr};
+ghost use Rattle.std.specs.Prelude.{◌≡◌, ℕ, List, map, ◌+◌, ◌*◌, ◌<◌, ◌≤◌, ◌^◌, [], ◌∷◌, length, OnOk, OnErr};
 ghost use Rattle.tm_disk.specs.Disk.{Stays, Within, Follows, Only, WritesAtMost, FailedSince};
 ghost use Rattle.restart_data.specs.Restart.{IsRestart};
 ghost use Rattle.restart_data.specs.Snapshot as sectors;
 ghost use Rattle.model_system.specs.Areas.{data_first};
 ghost use Rattle.seg_store.specs.WrittenSlots.{changed_sectors};
-ghost use Rattle.checkpointing.specs.CheckpointParts.{checkpoint_parts_of, sequence_behind, next_restart, next_writer, AreAreasFree, IsOver};
+ghost use Rattle.checkpointing.specs.CheckpointParts.{checkpoint_parts_of, sequence_behind, next_restart, forced_writer, next_writer, AreAreasFree, IsOver};
 ghost use Rattle.checkpointing.specs.DirtySlots.{AreStoresOf};
 ghost use Rattle.checkpointing.specs.Checkpoint.{KeepsRecovery, IsCheckpointed};
 ghost use Rattle.checkpointing.specs.DefinitionText.{KeepsText};
@@ -14,12 +14,14 @@ ghost use Rattle.checkpointing.specs.CheckpointNeeds.{HasRestart, NoneIsAhead, C
 ghost use Rattle.log_writer.specs.ForcedLog.{log_sectors_of, IsWriterReady, AddsFront, AddsAll};
 ghost use Rattle.disk_law.specs.Life.{LifeOnDisk};
 ghost use Rattle.disk_law.specs.KeptImages.{AreImagesKept};
-ghost use Rattle.disk_law.specs.LifeSteps.{StepOnDisk, after_step, forced_by_step};
+ghost use Rattle.disk_law.specs.LifeSteps.{forced_life};
+ghost use Rattle.disk_law.specs.PendingMoves.{PendsBehind, KeepsBehindForce};
+ghost use Rattle.model_machine.specs.Machine.{LastingState};
 ghost use Rattle.log_records.specs.declared.record.Record.{Record};
 ghost use Rattle.disk_law.specs.CommittedBytes.{Touches};
 ghost use Rattle.disk_law.specs.LifeCheckpoint.{after_checkpoint};
-ghost use Rattle.journal.specs.JournalDisk.{TellsRoom, TellsAllRoom, holding, IsStepOf, RecoverEither};
-ghost use Rattle.journal.specs.CheckpointFor.{parts_for, AreCheckpointPartsOf, CanCheckpoint};
+ghost use Rattle.journal.specs.JournalDisk.{TellsRoom, TellsAllRoom, holding, RecoverOne};
+ghost use Rattle.journal.specs.CheckpointFor.{parts_for, AreCheckpointPartsOf, CanCheckpoint, CanTake, TakesBehindForce, IsCheckpointedBehindForce};
 
 use checkpointing::{PartsView, take};
 use image_loading::{log_first, snapshot_area, snapshot_first};
@@ -107,9 +109,9 @@ impl Journal {
         self.log.exchange(bytes)
     }
 
-    /// Forces all that was appended, the records of a lasting step at its end. Whenever a crash comes, the image recovers to
-    /// what lasted before or to what lasts with the step; once it has answered, each image is one of the life behind the step.
-    /// `Disk` comes exactly where the disk failed in the call. Then the journal is of no use.
+    /// Forces all that was appended. Whenever a crash comes, the image recovers to one of the states that pend: what lasts in each
+    /// image before, or behind a step since. Once it has answered, each image has all of the life. `Disk` comes exactly where the
+    /// disk failed in the call. Then the journal is of no use.
     pub fn force<D: Disk>(&mut self, disk: &mut D) -> Result<(), DiskFault>
         requires area { self.old.log.first + self.old.log.count ≤ (D.state disk.old).size }
         requires sequences { self.old.log.sequence + self.old.log.count < 2 ^ 64 }
@@ -119,10 +121,11 @@ impl Journal {
         // Whenever a crash comes, the log has gained a front of the records, and once it is done, all of them.
         ensures any_moment { Within (AddsFront self.old.log) (D.state disk.old) (D.state disk.new) }
         ensures done { OnOk result (Follows (AddsAll self.old.log) (D.state disk.old) (D.state disk.new)) }
-        // So the image recovers to what lasted or to what lasts with the step, and then is one of the life behind it.
-        ensures crash { (life : LifeOnDisk) → (step : StepOnDisk) → IsStepOf self.old.log life step → AreImagesKept life (D.state disk.old) → RecoverEither life.system life.lasting step.lasting (D.state disk.old) (D.state disk.new) }
-        ensures kept { OnOk result ((life : LifeOnDisk) → (step : StepOnDisk) → IsStepOf self.old.log life step → AreImagesKept life (D.state disk.old) → AreImagesKept (after_step step life) (D.state disk.new)) }
-        ensures log { OnOk result (self.new.log ≡ forced_by_step self.old.log) }
+        // So the image recovers to one of the states that pend. Then each image has all of the life, and nothing pends but what lasts.
+        ensures crash { (states : List LastingState) → (life : LifeOnDisk) → life.log ≡ self.old.log → PendsBehind states life (D.state disk.old) → RecoverOne life.system states (D.state disk.old) (D.state disk.new) }
+        ensures images { OnOk result ((states : List LastingState) → (life : LifeOnDisk) → life.log ≡ self.old.log → PendsBehind states life (D.state disk.old) → AreImagesKept (forced_life life) (D.state disk.new)) }
+        ensures kept { OnOk result ((states : List LastingState) → (life : LifeOnDisk) → life.log ≡ self.old.log → PendsBehind states life (D.state disk.old) → PendsBehind (life.lasting ∷ []) (forced_life life) (D.state disk.new)) }
+        ensures log { OnOk result (self.new.log ≡ forced_writer self.old.log) }
         ensures ready { OnOk result (IsWriterReady self.new.log (D.state disk.new)) }
         ensures restart { self.new.restart ≡ self.old.restart }
 
@@ -142,7 +145,7 @@ impl Journal {
         ensures any_moment { Within (AddsFront self.old.log) (D.state disk.old) (D.state disk.new) }
         ensures done { OnOk result (Follows (AddsAll self.old.log) (D.state disk.old) (D.state disk.new)) }
         ensures ready { OnOk result (IsWriterReady self.new.log (D.state disk.new)) }
-        ensures log { OnOk result (self.new.log ≡ forced_by_step self.old.log) }
+        ensures log { OnOk result (self.new.log ≡ forced_writer self.old.log) }
         ensures restart { self.new.restart ≡ self.old.restart }
         ensures writes { WritesAtMost (log_sectors_of (length self.old.log.appended)) (D.state disk.old) (D.state disk.new) }
         ensures no_fault { OnOk result ((D.state disk.new).faults ≡ (D.state disk.old).faults) }
@@ -156,8 +159,10 @@ impl Journal {
 
     /// Takes a checkpoint with these bytes as its snapshot: forces all, writes each slot that was changed and the snapshot, and
     /// then the restart sector, which is the journal's then; its log begins anew in the other area. Whenever a crash comes, the
-    /// image recovers to what lasts, and is of the same text; once it has answered, each image is one of the life behind the
-    /// checkpoint. `Disk` comes exactly where the disk failed in the call. Then the journal is of no use.
+    /// image is of the same text and recovers to one of the states that pend, behind the force to what lasts; once it has answered,
+    /// each image has all of the life behind the checkpoint. `Disk` comes exactly where the disk failed in the call. Then the
+    /// journal is of no use.
+    #[tactic(auto, using(tm_disk::proofs::Words::stays_on))]
     pub fn checkpoint<D: Disk>(
         &mut self,
         alloc: Global,
@@ -169,17 +174,49 @@ impl Journal {
         requires can { CanCheckpoint system.now self.old stores.now snapshot.now (D.state disk.old) }
 
         ensures stays { Stays (D.state disk.old) (D.state disk.new) }
-        ensures any_moment { Within (KeepsRecovery system.entry.now) (D.state disk.old) (D.state disk.new) }
+        // A front of what was appended is forced; or all of it, and the image recovers as it did then.
+        ensures any_moment { Within (KeepsBehindForce system.entry.now self.old.log) (D.state disk.old) (D.state disk.new) }
         ensures texts { Within (KeepsText system.entry.now) (D.state disk.old) (D.state disk.new) }
-        ensures steps { Within (Takes (parts_for system.entry.now self.old.restart snapshot.entry.now) self.old.log stores.now) (D.state disk.old) (D.state disk.new) }
-        ensures done { OnOk result (Follows (IsCheckpointed (parts_for system.entry.now self.old.restart snapshot.entry.now) self.old.log stores.now) (D.state disk.old) (D.state disk.new)) }
-        // Each image is one of the life behind the checkpoint.
-        ensures kept { OnOk result ((life : LifeOnDisk) → (touches : Touches) → (told : List Record) → AreCheckpointPartsOf system.entry.now self.old stores.now snapshot.entry.now touches told (D.state disk.old) life → AreImagesKept (after_checkpoint snapshot.entry.now touches life) (D.state disk.new)) }
+        ensures steps { Within (TakesBehindForce (parts_for system.entry.now self.old.restart snapshot.entry.now) self.old.log stores.now) (D.state disk.old) (D.state disk.new) }
+        ensures done { OnOk result (Follows (IsCheckpointedBehindForce (parts_for system.entry.now self.old.restart snapshot.entry.now) self.old.log stores.now) (D.state disk.old) (D.state disk.new)) }
+        // So the image recovers to one of the states that pend. Then each image has all of the life behind the checkpoint, and nothing
+        // pends but what lasts.
+        ensures crash { (life : LifeOnDisk) → (touches : Touches) → (told : List Record) → (states : List LastingState) → AreCheckpointPartsOf system.entry.now self.old stores.now snapshot.entry.now touches told states (D.state disk.old) life → RecoverOne system.entry.now states (D.state disk.old) (D.state disk.new) }
+        ensures kept { OnOk result ((life : LifeOnDisk) → (touches : Touches) → (told : List Record) → (states : List LastingState) → AreCheckpointPartsOf system.entry.now self.old stores.now snapshot.entry.now touches told states (D.state disk.old) life → PendsBehind (life.lasting ∷ []) (after_checkpoint snapshot.entry.now touches life) (D.state disk.new)) }
         ensures restart { OnOk result (self.new.restart ≡ next_restart (parts_for system.entry.now self.old.restart snapshot.entry.now) self.old.log) }
         ensures log { OnOk result (self.new.log ≡ next_writer (parts_for system.entry.now self.old.restart snapshot.entry.now) self.old.log) }
         ensures ready { OnOk result (IsWriterReady self.new.log (D.state disk.new)) }
         ensures synced { OnOk result (Only (D.state disk.new).shown (D.state disk.new)) }
 
+        ensures writes { WritesAtMost (log_sectors_of (length self.old.log.appended) + changed_sectors stores.now.stores stores.now.changed + sectors.snapshot_sectors_of (length snapshot.entry.now) + 1) (D.state disk.old) (D.state disk.new) }
+        ensures no_fault { OnOk result ((D.state disk.new).faults ≡ (D.state disk.old).faults) }
+        ensures cause { OnErr result (FailedSince (D.state disk.old) (D.state disk.new)) }
+    {
+        if self.write(disk).is_err() {
+            return Err(DiskFault::Disk);
+        }
+        self.checkpoint_forced(alloc, disk, system, stores, snapshot)
+    }
+
+    // The checkpoint once all is forced.
+    fn checkpoint_forced<D: Disk>(
+        &mut self,
+        alloc: Global,
+        disk: &mut D,
+        system: &System,
+        stores: &Stores,
+        snapshot: &[u8],
+    ) -> Result<(), DiskFault>
+        requires can { CanTake system.now self.old stores.now snapshot.now (D.state disk.old) }
+        ensures stays { Stays (D.state disk.old) (D.state disk.new) }
+        ensures any_moment { Within (KeepsRecovery system.entry.now) (D.state disk.old) (D.state disk.new) }
+        ensures texts { Within (KeepsText system.entry.now) (D.state disk.old) (D.state disk.new) }
+        ensures steps { Within (Takes (parts_for system.entry.now self.old.restart snapshot.entry.now) self.old.log stores.now) (D.state disk.old) (D.state disk.new) }
+        ensures done { OnOk result (Follows (IsCheckpointed (parts_for system.entry.now self.old.restart snapshot.entry.now) self.old.log stores.now) (D.state disk.old) (D.state disk.new)) }
+        ensures restart { OnOk result (self.new.restart ≡ next_restart (parts_for system.entry.now self.old.restart snapshot.entry.now) self.old.log) }
+        ensures log { OnOk result (self.new.log ≡ next_writer (parts_for system.entry.now self.old.restart snapshot.entry.now) self.old.log) }
+        ensures ready { OnOk result (IsWriterReady self.new.log (D.state disk.new)) }
+        ensures synced { OnOk result (Only (D.state disk.new).shown (D.state disk.new)) }
         ensures writes { WritesAtMost (log_sectors_of (length self.old.log.appended) + changed_sectors stores.now.stores stores.now.changed + sectors.snapshot_sectors_of (length snapshot.entry.now) + 1) (D.state disk.old) (D.state disk.new) }
         ensures no_fault { OnOk result ((D.state disk.new).faults ≡ (D.state disk.old).faults) }
         ensures cause { OnErr result (FailedSince (D.state disk.old) (D.state disk.new)) }

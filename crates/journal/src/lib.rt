@@ -1,12 +1,13 @@
 //! What a control region keeps of its disk, and why the life on its disk goes with the machine.
 //!
 //! `Journal` (module `journal`) has the calls that write: how many bytes may be appended before a checkpoint is due,
-//! and at all, is told exactly. What was appended is exchanged for bytes that were told behind it, without memory. It
-//! is forced with a step: whichever of its sectors a stop kept, the image recovers to the state before the step or to
-//! the one with it, and once it has answered each image is one of the life behind it. A checkpoint of any life whose
-//! snapshot is given leaves what lasts and the definition's text at any moment, and then each image is one of the life
-//! behind it; meanwhile a front of its steps was done. `insert` (module `inserting`) puts an open unit among others
-//! that stand by their numbers, at its place, for a snapshot.
+//! and at all, is told exactly. What was appended is exchanged for bytes that were told behind it, without memory. All
+//! that pends is forced at once: whichever of its sectors a stop kept, the image recovers to what lasted in each image
+//! before, or behind one of the steps since; once it has answered, each image has all of the life. A checkpoint of any
+//! life whose snapshot is given forces all first. From there it leaves what lasts at any moment, and the definition's
+//! text throughout; then each image has all of the life behind it, and nothing pends. Meanwhile a front of its steps
+//! was done. `insert` (module `inserting`) puts an open unit among others that stand by their numbers, at its place, for
+//! a snapshot.
 //!
 //! Laws: a life goes with a machine (`IsCarriedBy` of specs/CarriedLife) where it has the machine's system and what
 //! lasts, its slots are those of the stores, its committed slots those that are committed, and its open units those of

@@ -62,6 +62,13 @@ impl LogWriter {
         (self.count - self.place) as u64 * PAYLOAD_BYTES as u64 - self.appended.len() as u64
     }
 
+    /// How many bytes were appended and aren't forced yet.
+    pub fn pending(&self) -> u64
+        ensures value { result ≡ length self.now.appended }
+    {
+        self.appended.len() as u64
+    }
+
     /// The sequence of the next sector that a force writes.
     pub fn next_sequence(&self) -> u64
         requires { self.now.sequence + self.now.count < 2 ^ 64 }

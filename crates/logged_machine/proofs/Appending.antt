@@ -1,5 +1,5 @@
 -- Records that were told behind what was appended before, exchanged back into the journal.
-use Rattle.std.proofs.Common.{◌≡◌, ◌≤◌, ◌+◌, ℕ, List, [], ◌∷◌, ◌++◌, length, sym, ◌∙◌, ap, subst, OnOk, Result, Ok, Err}
+use Rattle.std.proofs.Common.{◌≡◌, ◌≤◌, ◌+◌, ℕ, List, [], ◌∷◌, ◌++◌, length, sym, ◌∙◌, ap, subst, OnOk, OnErr, Result, Ok, Err}
 use Rattle.std.proofs.lemmas.List.{length-append}
 use Rattle.std.specs.List.{flat_map, AllByRecursion}
 use Rattle.log_records.specs.declared.record.Record.{Record}
@@ -17,6 +17,10 @@ behind (x ∷ a) b h = behind a b (IsBytes-rest x (a ++ b) h)
 pub on_ok : {A E : Type 0} {P Q : Type 0} (r : Result A E) → (P → Q) → OnOk r P → OnOk r Q
 on_ok (Ok x) f h = f h
 on_ok (Err e) f h = h
+
+pub on_err : {A E : Type 0} {P Q : Type 0} (r : Result A E) → (P → Q) → OnErr r P → OnErr r Q
+on_err (Ok x) f h = h
+on_err (Err e) f h = f h
 
 -- What was appended was exchanged for nothing, told on, and exchanged back.
 pub record IsExchanged (room : ℕ) (old mid : JournalState) (empty before : List ℕ) : Type 0 where

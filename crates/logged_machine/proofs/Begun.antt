@@ -1,5 +1,5 @@
 -- A machine that is opened goes with a life.
-use Rattle.std.proofs.Common.{◌≡◌, ℕ, zero, suc, ◌≤◌, List, [], map, length, Result, Ok, Err, refl, sym, ◌∙◌, ap, subst}
+use Rattle.std.proofs.Common.{◌≡◌, ℕ, zero, suc, ◌≤◌, List, [], ◌∷◌, map, length, Result, Ok, Err, refl, sym, ◌∙◌, ap, subst}
 use Rattle.std.specs.Prelude.{IfOk, IsTrue}
 use Rattle.tm_disk.specs.Disk.{DiskState, Image}
 use Rattle.model_system.specs.System.{System}
@@ -21,7 +21,7 @@ use Rattle.tm_machine.specs.MachineOpening.{IsOpenedWith}
 use Rattle.tm_machine.specs.SlotChanges.{HasSlots, slots_now}
 use Rattle.tm_machine.specs.Parts.{PartsState}
 use Rattle.journal.proofs.Openings.{no_units}
-use Rattle.logged_machine.proofs.OpenedParts.{opened_by, opened_kept, opened_ready}
+use Rattle.logged_machine.proofs.OpenedParts.{opened_by, opened_pends, opened_ready}
 use Rattle.logged_machine.specs.OpeningSlots.{slots_of_opening}
 use Rattle.logged_machine.specs.CarriedParts.{IsCarried}
 use Rattle.logged_machine.specs.LoggedParts.{IsLogged}
@@ -72,13 +72,13 @@ module _ (system : System) (parts : PartsState) (text : List ℕ) (opening : Ope
       (begun_tells parts.system opening.now _ opening.next_unit image is.has_snapshot refl is.none_ahead own.may.restart own.may.some_unit))
 
   -- It is on the disk with its log.
-  pub begun : IsLogged parts (no_units (length system.regions)) opening.next_unit journal text disk
+  pub begun : IsLogged parts (no_units (length system.regions)) opening.next_unit journal text (state ∷ []) disk
   begun = record {
     life = opened_life parts.system text opening.now opening.stores.stores state;
     carried =
         subst (λ (y : System). IsCarried parts (no_units (length y.regions)) opening.next_unit (opened_life parts.system text opening.now opening.stores.stores state)) same
         (opened_by parts text opening state own.are own.may has own_start own_slots);
-    kept = opened_kept parts text opening state own.are own.may has own_start own_slots disk own.renewed own.stored;
+    pends = opened_pends parts text opening state own.are own.may has own_start own_slots disk own.renewed own.stored;
     writer = own_log;
     now = sym restart;
     text_is = refl;
@@ -113,8 +113,8 @@ opens_on how seen system text old new machine opening state journal next log res
 
 pub logged_on : (seen system : System) → seen ≡ system → (parts : PartsState) (text : List ℕ) (opening : OpeningParts) (state : LastingState) (disk : DiskState) → BeginsOn seen text opening state disk → parts.system ≡ system
     → HasSlots parts → ((some : LastingState) → IsOpenedWith system some opening → parts.moment ≡ start_of system some) → slots_now parts ≡ slots_of_opening opening (length system.regions) → (journal : JournalState)
-    → journal.log ≡ first_writer system opening.now → journal.restart ≡ opening.now → (next : ℕ) → next ≡ opening.next_unit → IsLogged parts (no_units (length system.regions)) next journal text disk
+    → journal.log ≡ first_writer system opening.now → journal.restart ≡ opening.now → (next : ℕ) → next ≡ opening.next_unit → IsLogged parts (no_units (length system.regions)) next journal text (state ∷ []) disk
 logged_on seen system looked parts text opening state disk found same has moment slots journal log restart next is =
     let b : BeginsOn system text opening state disk = subst (λ (y : System). BeginsOn y text opening state disk) looked found in
-    subst (λ (n : ℕ). IsLogged parts (no_units (length system.regions)) n journal text disk) (sym is)
+    subst (λ (n : ℕ). IsLogged parts (no_units (length system.regions)) n journal text (state ∷ []) disk) (sym is)
     (begun system parts text opening state disk b same has (moment state (opened_with system text opening state disk b)) slots journal log restart)

@@ -9,9 +9,8 @@ use Rattle.log_writer.specs.Writer.{Writer}
 use Rattle.log_writer.specs.ForcedLog.{log_sectors_of}
 use Rattle.seg_store.specs.ChangedSlots.{AllStores}
 use Rattle.checkpointing.specs.CheckpointParts.{next_restart, next_writer}
-use Rattle.checkpointing.specs.CheckpointSteps.{Takes}
 use Rattle.disk_law.specs.JournalState.{JournalState}
-use Rattle.journal.specs.CheckpointFor.{CanCheckpoint, parts_for}
+use Rattle.journal.specs.CheckpointFor.{CanCheckpoint, TakesBehindForce, parts_for}
 use Rattle.journal.specs.JournalDisk.{holding}
 use Rattle.program_rows.specs.SlotsState.{slots_stores}
 use Rattle.program_rows.specs.DatabasesState.{with_all_settled}
@@ -20,7 +19,7 @@ use Rattle.tm_machine.specs.SlotChanges.{HasSlots, slots_now}
 use Rattle.tm_machine.specs.Parts.{PartsState}
 use Rattle.journal.specs.CountRanges.{AreCountsInRange}
 use Rattle.model_machine.specs.declared.entry.Entry.{Entry}
-use Rattle.logged_machine.specs.LoggedParts.{IsLogged}
+use Rattle.logged_machine.specs.LoggedParts.{HasLogged}
 use Rattle.logged_machine.proofs.Storing.{have_written}
 use Rattle.logged_machine.specs.UntakenCheckpoint.{IsSnapshot, checkpoint_sectors, settled_parts}
 use Rattle.logged_machine.proofs.Taken.{can, goes_on, raised, within_up_to}
@@ -76,7 +75,7 @@ written parts journal old new {system = system} same {stores = stores} are write
     (subst (λ (y : System). WritesAtMost (checkpoint_sectors y stores.stores stores.changed journal) old new) same writes)
 
 -- With the system and the stores that the parts had, and the bytes of their snapshot.
-module _ {D : Type 0} (state : D → DiskState) {parts : PartsState} {units : List ℕ} {next : ℕ} {journal : JournalState} {disk : D} (logged : (text : List ℕ) × IsLogged parts units next journal text (state disk))
+module _ {D : Type 0} (state : D → DiskState) {parts : PartsState} {units : List ℕ} {next : ℕ} {journal : JournalState} {disk : D} (logged : HasLogged parts units next journal (state disk))
     (has : HasSlots parts) (counted : AreCountsInRange 0 parts.moment.lasting next journal) {bytes : List ℕ} (s : IsSnapshot parts units next (journal.restart.checkpoint + 1) bytes)
     {lent : List ℕ} (lent_is : lent ≡ bytes) {system : System} (same : system ≡ parts.system) {stores : AllStores} (are : stores ≡ slots_stores (slots_now parts)) where
   -- it may be taken
@@ -85,18 +84,18 @@ module _ {D : Type 0} (state : D → DiskState) {parts : PartsState} {units : Li
       subst (λ (b : List ℕ). CanCheckpoint system journal stores b (state disk)) (sym lent_is)
       (subst (λ (a : AllStores). CanCheckpoint system journal a bytes (state disk)) (sym are)
       (subst (λ (y : System). CanCheckpoint y journal (slots_stores (slots_now parts)) bytes (state disk)) (sym same)
-      (can parts units next journal logged.0 (state disk) logged.1 has counted bytes s)))
+      (can parts units next journal logged.text logged.states (state disk) logged.is has counted bytes s)))
 
   some_logs : 1 ≤ parts.system.logs
   some_logs = omega (arith, has.defined.least_logs)
 
   -- whenever a crash comes in it, the image counts up to this
-  pub counts : {disk' : D} → Within (Takes (parts_for system journal.restart lent) journal.log stores) (state disk) (state disk') → CountsWithin parts.system journal next (state disk) (state disk')
+  pub counts : {disk' : D} → Within (TakesBehindForce (parts_for system journal.restart lent) journal.log stores) (state disk) (state disk') → CountsWithin parts.system journal next (state disk) (state disk')
   counts {disk' = disk'} within =
-      within_up_to parts units next journal logged.0 (state disk) logged.1 has counted bytes s some_logs (state disk')
-      (subst (λ (a : AllStores). Within (Takes (parts_for parts.system journal.restart bytes) journal.log a) (state disk) (state disk')) are
-      (subst (λ (y : System). Within (Takes (parts_for y journal.restart bytes) journal.log stores) (state disk) (state disk')) same
-      (subst (λ (b : List ℕ). Within (Takes (parts_for system journal.restart b) journal.log stores) (state disk) (state disk')) lent_is within)))
+      within_up_to parts units next journal logged.text logged.states (state disk) logged.is has counted bytes s some_logs (state disk')
+      (subst (λ (a : AllStores). Within (TakesBehindForce (parts_for parts.system journal.restart bytes) journal.log a) (state disk) (state disk')) are
+      (subst (λ (y : System). Within (TakesBehindForce (parts_for y journal.restart bytes) journal.log stores) (state disk) (state disk')) same
+      (subst (λ (b : List ℕ). Within (TakesBehindForce (parts_for system journal.restart b) journal.log stores) (state disk) (state disk')) lent_is within)))
 
   -- the journal behind it
   abbrev middle : JournalState
@@ -109,9 +108,9 @@ module _ {D : Type 0} (state : D → DiskState) {parts : PartsState} {units : Li
     checkpointed : (told : List ℕ) → WroteTold parts.system (slots_stores (slots_now parts)) bytes told journal journal' (state disk) (state disk') → Checkpointed state parts units next journal middle disk disk'
     checkpointed told w = record {
       takes = record { bytes = bytes; restart = refl; log = refl };
-      raised = raised parts units next journal logged.0 (state disk) logged.1 has counted bytes s some_logs middle refl refl;
-      logged = λ text h.
-          goes_on parts units next journal text (state disk) h has counted bytes s parts.system refl (slots_stores (slots_now parts)) refl (settled_parts parts) refl middle refl refl (state disk') w.kept
+      raised = raised parts units next journal logged.text logged.states (state disk) logged.is has counted bytes s some_logs middle refl refl;
+      logged = λ text states h.
+          goes_on parts units next journal text states (state disk) h has counted bytes s parts.system refl (slots_stores (slots_now parts)) refl (settled_parts parts) refl middle refl refl (state disk') w.kept
           w.ready size w.follows;
       synced = w.synced;
       no_fault = w.no_fault;

@@ -2,6 +2,7 @@
 use Rattle.std.proofs.Common.{◌≡◌, ℕ, ◌+◌, ◌≤◌, Bool, List, [], Some, None, Result, Ok, Err, refl, sym, ◌∙◌, ap, subst, arith, inr}
 use Rattle.tm_disk.specs.Disk.{DiskState, Image, sector_at}
 use Rattle.model_system.specs.System.{System}
+use Rattle.model_machine.specs.Machine.{LastingState}
 use Rattle.model_machine.specs.CommandAnswers.{checkpoint_answer, unless_busy}
 use Rattle.model_machine.specs.declared.entry.CheckpointRefused.{CheckpointRefused}
 use Rattle.model_machine.specs.declared.entry.CheckpointRefused.TheVariants.{BusyRegion, Fault}
@@ -18,6 +19,7 @@ use Rattle.restart_data.specs.Restart.{restart_in}
 use Rattle.model_system.specs.Areas.{is_single, snapshot_area, log_first}
 use Rattle.seg_store.specs.Slots.{Stored}
 use Rattle.disk_law.specs.JournalState.{JournalState}
+use Rattle.disk_law.proofs.OnDisk.{pending_restart}
 use Rattle.tm_machine.specs.Answers.{IsAnswered}
 use Rattle.tm_machine.specs.Parts.{PartsState}
 use Rattle.logged_machine.specs.LoggedParts.{IsLogged}
@@ -39,14 +41,14 @@ none_there w image count first sequence epoch f c s e p end =
     (subst (λ (n : ℕ). opened_payload w.epoch (w.sequence + 0) (sector_at image (n + 0)) ≡ None) f (end.free 0 (omega (arith, p)) (omega (arith, some, c))))))
 
 -- Each image has the number of the restart sector, and an empty log behind it.
-pub has_number : (parts : PartsState) (units : List ℕ) (next : ℕ) (journal : JournalState) (text : List ℕ) (disk : DiskState) → IsLogged parts units next journal text disk → journal.log.place ≡ 0
+pub has_number : (parts : PartsState) (units : List ℕ) (next : ℕ) (journal : JournalState) (text : List ℕ) (states : List LastingState) (disk : DiskState) → IsLogged parts units next journal text states disk → journal.log.place ≡ 0
     → (image : Image) → disk.may_leave image → HasNumber parts.system journal.restart.checkpoint image
-has_number parts units next journal text disk h empty image left =
+has_number parts units next journal text states disk h empty image left =
     let same : h.life.system ≡ parts.system = h.carried.is.of_system in
     let is = h.carried.is.is_life.writer in
     record {
       restart = h.life.now;
-      found = subst (λ (y : System). restart_in (snapshot_area y) (is_single y) image ≡ Ok (Some h.life.now)) same (h.kept image left).restart;
+      found = subst (λ (y : System). restart_in (snapshot_area y) (is_single y) image ≡ Ok (Some h.life.now)) same (pending_restart states h.life disk h.pends image left);
       checkpoint = ap (λ (r : RestartSector). r.checkpoint) h.now;
       empty =
           subst (λ (y : System). chain y.logs image (log_first y h.life.now.log) h.life.now.sequence h.life.now.epoch ≡ []) same

@@ -1,7 +1,7 @@
 -- A call behind a checkpoint, and a call as its callers see it.
-use Rattle.std.proofs.Common.{true, ◌≡◌, ◌⊎◌, ◌≤◌, ◌+◌, ℕ, List, [], ◌∷◌, map, inl, inr, ⊎_elim, refl, ◌∙◌, ap, subst, arith}
-use Rattle.std.specs.Prelude.{Option, Some, None, Ok}
-use Rattle.tm_disk.specs.Disk.{Image, DiskState, IsDisk, FailedSince, Rose}
+use Rattle.std.proofs.Common.{true, ◌≡◌, ◌≤◌, ◌+◌, ℕ, List, [], ◌∷◌, map, inl, inr, refl, sym, ◌∙◌, ap, subst, arith}
+use Rattle.std.specs.Prelude.{Option, Some, None}
+use Rattle.tm_disk.specs.Disk.{Image, DiskState, IsDisk}
 use Rattle.tm_disk.proofs.Words.{stays_on}
 use Rattle.model_system.specs.System.{System}
 use Rattle.model_machine.specs.Machine.{LastingState, Moment}
@@ -9,28 +9,16 @@ use Rattle.model_machine.specs.History.{May, after_entry}
 use Rattle.model_machine.specs.declared.entry.Entry.{Entry}
 use Rattle.model_machine.specs.declared.entry.ControlFault.{ControlFault}
 use Rattle.model_machine.specs.declared.entry.ControlFault.TheVariants.{Memory, Disk, Spent}
-use Rattle.model_image.specs.RecoveredState.{Recovers}
-use Rattle.checkpointing.specs.DefinitionText.{HasText, IsNumberedFrom}
-use Rattle.disk_law.specs.KeptImages.{RecoversEither}
-use Rattle.logged_machine.specs.LoggedState.{LoggedState, AreLasting}
-use Rattle.logged_machine.specs.CallOutcome.{KeepsMachine, WentOn, MachineGoesBy, CrashesBy, ActsOn}
+use Rattle.logged_machine.specs.LoggedState.{LoggedState, AreLasting, Pends}
+use Rattle.logged_machine.specs.CallOutcome.{KeepsMachine, WentOn, MachineGoesBy, CrashesIntoPending, Failed, ActsOn}
 use Rattle.logged_machine.specs.ToldCalls.{DoesTo, NumbersBy}
 use Rattle.logged_machine.specs.UntakenCheckpoint.{settled_parts}
 use Rattle.tm_machine.specs.Parts.{PartsState}
-use Rattle.logged_machine.specs.LeftImages.{Brings}
+use Rattle.logged_machine.specs.LeftImages.{Brings, CrashesLeave}
 use Rattle.checkpointing.specs.Counts.{CountsUpTo}
 use Rattle.checkpointing.proofs.Counted.{up_to_more}
-use Rattle.logged_machine.specs.Attempts.{CountsSince, Did, DidBy, LeavesCounts, AttemptLeaves, Refreshed, lasting_with}
-use Rattle.logged_machine.proofs.Leaving.{leaves_then, leaves_all, leaves_now}
-
--- there was memory
-abbrev pub IsNoMemory : Option ControlFault → Type 0
-IsNoMemory fault = fault ≡ Some Memory → ⊥
-
--- ---- disks
-
-failed_later : (a b c : DiskState) → b.faults ≡ a.faults → FailedSince b c → FailedSince a c
-failed_later a b c same failed = subst (λ (n : ℕ). Rose n c.faults) same failed
+use Rattle.logged_machine.specs.Attempts.{Broke, CountsSince, Did, DidBy, LeavesCounts, AttemptLeaves, Refreshed, Tried}
+use Rattle.logged_machine.proofs.Leaving.{leaves_same, leaves_all, leaves_now}
 
 -- ---- the databases
 
@@ -57,28 +45,21 @@ module _ {D : Type 0} (state : D → DiskState) where
     numbers = λ now. omega (arith, one.numbers up, two.numbers now);
   }
 
+  -- An attempt that was answered.
+  pub tried_did : (old new : LoggedState D) (entry : Entry) → Tried state old new entry → Did state None old new entry
+  tried_did old new entry t = record {
+    did = (
+      t.went,
+      λ states p.
+          subst (λ (d : D). CrashesLeave (Brings old.machine.system old.text old.journal.restart.checkpoint states) (state old.disk) (state d)) (sym t.appends.disk_is)
+          (leaves_same (Brings old.machine.system old.text old.journal.restart.checkpoint states) (state old.disk)),
+    );
+    keeps = t.keeps;
+  }
+
   -- ---- behind a checkpoint
 
   module _ (old mid new : LoggedState D) (entry : Entry) (fresh : Refreshed state old mid) where
-    lower_number : (image : Image) → IsNumberedFrom mid.machine.system mid.journal.restart.checkpoint image → IsNumberedFrom mid.machine.system old.journal.restart.checkpoint image
-    lower_number image n = record { restart = n.restart; found = n.found; least = omega (arith, n.least, fresh.number) }
-
-    both : (P : LastingState) → AttemptLeaves state mid new P → AttemptLeaves state old new P
-    both P leaves =
-        leaves_then (Brings old.machine.system old.text old.journal.restart.checkpoint old.machine.moment.lasting old.machine.moment.lasting) (Brings mid.machine.system mid.text mid.journal.restart.checkpoint mid.machine.moment.lasting P)
-        (Brings old.machine.system old.text old.journal.restart.checkpoint old.machine.moment.lasting P) (state old.disk) (state mid.disk) (state new.disk)
-        (λ image h. record { recovers = ⊎_elim (λ r. inl r) (λ r. inl r) h.recovers; has_text = h.has_text; numbered = h.numbered })
-        (λ image h.
-        subst (λ (m : Moment). Brings old.machine.system old.text old.journal.restart.checkpoint m.lasting P image) fresh.stood.moment
-        (subst (λ (t : List ℕ). Brings old.machine.system t old.journal.restart.checkpoint mid.machine.moment.lasting P image) fresh.keeps.text
-        (subst (λ (s : System). Brings s mid.text old.journal.restart.checkpoint mid.machine.moment.lasting P image) fresh.keeps.system (record { recovers = h.recovers; has_text = h.has_text; numbered = lower_number image h.numbered }))))
-        fresh.leaves leaves
-
-    same_after : lasting_with mid entry ≡ lasting_with old entry
-    same_after =
-        ap (λ (s : System). (after_entry s mid.machine.moment entry).lasting) fresh.keeps.system
-        ∙ ap (λ (m : Moment). (after_entry old.machine.system m entry).lasting) fresh.stood.moment
-
     went : WentOn state mid new entry → WentOn state old new entry
     went w = record {
       answered = record {
@@ -97,44 +78,44 @@ module _ {D : Type 0} (state : D → DiskState) where
       no_fault = w.no_fault ∙ fresh.stood.no_fault;
     }
 
-    by : (fault : Option ControlFault) → IsNoMemory fault → DidBy state fault mid new entry → DidBy state fault old new entry
-    by None found d = (went d.0, subst (AttemptLeaves state old new) same_after (both (lasting_with mid entry) d.1))
-    by (Some Disk) found d = (
-      record { served = d.0.served; failed = failed_later (state old.disk) (state mid.disk) (state new.disk) fresh.stood.no_fault d.0.failed },
-      subst (AttemptLeaves state old new) same_after (both (lasting_with mid entry) d.1),
-    )
-    by (Some Memory) found d = absurd (found refl)
-    by (Some (Spent counter)) found d = absurd d
-
-    pub did_behind : (fault : Option ControlFault) → IsNoMemory fault → Did state fault mid new entry → Did state fault old new entry
-    did_behind fault found d = record { did = by fault found d.did; keeps = keeps_then old mid new fresh.stood.served fresh.keeps d.keeps }
+    pub did_behind : Tried state mid new entry → Did state None old new entry
+    did_behind t = record {
+      did = (
+        went t.went,
+        λ states p. subst (λ (d : D). CrashesLeave (Brings old.machine.system old.text old.journal.restart.checkpoint states) (state old.disk) (state d)) (sym t.appends.disk_is) (fresh.leaves states p),
+      );
+      keeps = keeps_then old mid new fresh.stood.served fresh.keeps t.keeps;
+    }
 
   -- ---- as callers see it
 
-  module _ (old new : LoggedState D) (entry : Entry) (before : AreLasting state old) (old_disk : IsDisk (state old.disk)) (new_disk : IsDisk (state new.disk)) where
-    stands : (P : LastingState) (image : Image) → (state old.disk).may_leave image → Brings old.machine.system old.text old.journal.restart.checkpoint old.machine.moment.lasting P image
-    stands P image left = record { recovers = inl (before.recover image left); has_text = before.have_text image left; numbered = before.numbered image left }
+  module _ (old new : LoggedState D) (before : AreLasting state old) (old_disk : IsDisk (state old.disk)) (new_disk : IsDisk (state new.disk)) where
+    stands : (states : List LastingState) → Pends state states old → (image : Image) → (state old.disk).may_leave image → Brings old.machine.system old.text old.journal.restart.checkpoint states image
+    stands states p image left = record { recovers = before.recover states p image left; has_text = before.have_text image left; numbered = before.numbered image left }
 
-    either : (P : LastingState) → AttemptLeaves state old new P → (image : Image) → (state new.disk).left_since (state old.disk).clock image → RecoversEither old.machine.system old.machine.moment.lasting P image
-    either P leaves image left =
-        (leaves_all (Brings old.machine.system old.text old.journal.restart.checkpoint old.machine.moment.lasting P) (state old.disk) (state new.disk) old_disk (stands P) leaves image left).recovers
+    pub crashes_into : AttemptLeaves state old new → CrashesIntoPending state old new
+    crashes_into leaves states p image left =
+        (leaves_all (Brings old.machine.system old.text old.journal.restart.checkpoint states) (state old.disk) (state new.disk) old_disk (stands states p) (leaves states p) image left).recovers
 
-    alone : AttemptLeaves state old new old.machine.moment.lasting → (image : Image) → (state new.disk).left_since (state old.disk).clock image → Recovers old.machine.system image (Ok old.machine.moment.lasting)
-    alone leaves image left = ⊎_elim (λ r. r) (λ r. r) (either old.machine.moment.lasting leaves image left)
+    left_now : AttemptLeaves state old new → (image : Image) → (state new.disk).may_leave image → Brings old.machine.system old.text old.journal.restart.checkpoint before.some.0 image
+    left_now leaves image left =
+        leaves_now (Brings old.machine.system old.text old.journal.restart.checkpoint before.some.0) (state old.disk) (state new.disk) old_disk new_disk (stands before.some.0 before.some.1) (leaves before.some.0 before.some.1) image left
 
-    texts : (P : LastingState) → AttemptLeaves state old new P → (image : Image) → (state new.disk).may_leave image → HasText old.machine.system old.text image
-    texts P leaves image left =
-        (leaves_now (Brings old.machine.system old.text old.journal.restart.checkpoint old.machine.moment.lasting P) (state old.disk) (state new.disk) old_disk new_disk (stands P) leaves image left).has_text
+    -- The disk failed.
+    pub failed : Broke state old new → AttemptLeaves state old new → Failed state old new
+    failed broke leaves = record {
+      served = broke.served;
+      failed = broke.failed;
+      have_text = λ image left. (left_now leaves image left).has_text;
+      numbered = λ image left. (left_now leaves image left).numbered;
+      forced = broke.forced;
+    }
 
-    numbers : (P : LastingState) → AttemptLeaves state old new P → (image : Image) → (state new.disk).may_leave image → IsNumberedFrom old.machine.system old.journal.restart.checkpoint image
-    numbers P leaves image left =
-        (leaves_now (Brings old.machine.system old.text old.journal.restart.checkpoint old.machine.moment.lasting P) (state old.disk) (state new.disk) old_disk new_disk (stands P) leaves image left).numbered
-
-    pub goes : (fault : Option ControlFault) → DidBy state fault old new entry → MachineGoesBy state fault old new entry
-    goes None d = d.0
-    goes (Some Disk) d = record { served = d.0.served; failed = d.0.failed; have_text = texts (lasting_with old entry) d.1; numbered = numbers (lasting_with old entry) d.1 }
-    goes (Some Memory) d = d
-    goes (Some (Spent counter)) d = d
+    pub goes : (fault : Option ControlFault) (entry : Entry) → DidBy state fault old new entry → MachineGoesBy state fault old new entry
+    goes None entry d = d.0
+    goes (Some Disk) entry d = failed d.0 d.1
+    goes (Some Memory) entry d = d
+    goes (Some (Spent counter)) entry d = d
 
     -- Whatever a crash might have left since the call began counts up to so much.
     pub counted : (more : ℕ) → old.machine.system.logs ≤ more → LeavesCounts state more old new → CountsSince state more old new
@@ -142,8 +123,8 @@ module _ {D : Type 0} (state : D → DiskState) where
         leaves_all (CountsUpTo old.machine.system (high + more)) (state old.disk) (state new.disk) old_disk
         (λ image was. up_to_more old.machine.system (high + old.machine.system.logs) (high + more) image (omega (arith, le)) (before.counts high stands_up image was)) (counts high stands_up) image left
 
-    pub crashes : (fault : Option ControlFault) → DidBy state fault old new entry → CrashesBy state fault old new entry
-    crashes None d = either (lasting_with old entry) d.1
-    crashes (Some Disk) d = either (lasting_with old entry) d.1
-    crashes (Some Memory) d = λ image left. before.recover image (old_disk.now_alone image (subst (λ (l : LoggedState D). (state l.disk).left_since (state old.disk).clock image) d left))
-    crashes (Some (Spent counter)) d = d
+    pub crashes : (fault : Option ControlFault) (entry : Entry) → DidBy state fault old new entry → CrashesIntoPending state old new
+    crashes None entry d = crashes_into d.1
+    crashes (Some Disk) entry d = crashes_into d.1
+    crashes (Some Memory) entry d = λ states p image left. before.recover states p image (old_disk.now_alone image (subst (λ (l : LoggedState D). (state l.disk).left_since (state old.disk).clock image) d left))
+    crashes (Some (Spent counter)) entry d = absurd d

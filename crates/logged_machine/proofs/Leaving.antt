@@ -6,18 +6,6 @@ use Rattle.logged_machine.specs.LeftImages.{CrashesLeave}
 pub leaves_same : (P : Image → Type 0) (disk : DiskState) → CrashesLeave P disk disk
 leaves_same P disk = record { later = omega arith; from = λ time image early left. inl left }
 
--- one, and then the other
-pub leaves_then : (P Q R : Image → Type 0) (a b c : DiskState) → ((image : Image) → P image → R image) → ((image : Image) → Q image → R image)
-    → CrashesLeave P a b → CrashesLeave Q b c → CrashesLeave R a c
-leaves_then P Q R a b c p q one two = record {
-  later = omega (arith, one.later, two.later);
-  from = λ time image early left.
-      ⊎_elim
-      (λ before. ⊎_elim (λ was. inl was) (λ h. inr (p image h)) (one.from time image early before))
-      (λ h. inr (q image h))
-      (two.from time image (omega (arith, early, one.later)) left);
-}
-
 -- what is said less of
 pub leaves_same_then : (P Q : Image → Type 0) (old new : DiskState) → ((image : Image) → P image → Q image) → CrashesLeave P old new → CrashesLeave Q old new
 leaves_same_then P Q old new by leaves = record {

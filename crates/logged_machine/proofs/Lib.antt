@@ -7,7 +7,6 @@ pub mod Begun
 pub mod Leaving
 pub mod Doing
 pub mod Logging
-pub mod Once
 pub mod Unspent
 pub mod Attempts
 pub mod Checkpointed
@@ -27,6 +26,5 @@ pub mod Storing
 pub mod OpenedParts
 pub mod CheckpointCall
 pub mod AskedQuiet
-pub mod Closing
 pub mod Counts
 pub mod OwnUnits

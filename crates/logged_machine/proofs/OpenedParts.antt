@@ -16,8 +16,8 @@ use Rattle.unit_work.specs.declared.change.Change.{Change}
 use Rattle.unit_work.specs.Marks.{is_marked}
 use Rattle.checkpointing.specs.SnapshotRecords.{IsOfSystem, snapshot_records}
 use Rattle.image_law.specs.SegmentCounts.{AreSegmentsCounted}
-use Rattle.disk_law.specs.KeptImages.{AreImagesKept}
 use Rattle.disk_law.specs.OpenedLife.{IsOpened, MayOpenLife, opened_life}
+use Rattle.disk_law.specs.PendingMoves.{PendsBehind}
 use Rattle.disk_law.proofs.CheckpointOnDisk as on_disk
 use Rattle.program_rows.specs.SlotsState.{SlotsState, touched_in}
 use Rattle.tm_machine.specs.SlotChanges.{HasSlots, slots_now}
@@ -96,9 +96,9 @@ module _ (parts : PartsState) (text : List ℕ) (opening : OpeningParts) (state 
         let is = renewed image left in
         record { restart = is.restart; has_text = is.has_text; has_snapshot = is.has_snapshot; recovers = is.recovers; none_ahead = is.none_ahead; holds = stored image left }
 
-    -- Each image that a crash may leave is one of it.
-    pub opened_kept : AreImagesKept (opened_life parts.system text opening.now opening.stores.stores state) disk
-    opened_kept = on_disk.opened_done parts.system text opening.now opening.stores.stores state (snapshot_records opening.now.checkpoint opening.next_unit state []) may disk opens
+    -- Each image that a crash may leave is one of it, and what it begins with pends.
+    pub opened_pends : PendsBehind (state ∷ []) (opened_life parts.system text opening.now opening.stores.stores state) disk
+    opened_pends = on_disk.opened_done parts.system text opening.now opening.stores.stores state (snapshot_records opening.now.checkpoint opening.next_unit state []) may disk opens opened_by.is.is_life
 
     -- Its writer stands where the log ends.
     pub opened_ready : IsWriterReady (opened_life parts.system text opening.now opening.stores.stores state).log disk

@@ -1,7 +1,8 @@
 -- What a call leaves of a machine with its log.
-use Rattle.std.specs.Prelude.{◌≡◌, ◌⊎◌, ◌≤◌, ℕ, true, false, List, Option, Some, None, Ok}
+use Rattle.std.specs.Prelude.{◌≡◌, ◌⊎◌, ◌≤◌, ℕ, Bool, true, false, List, [], ◌∷◌, ◌++◌, Option, Some, None}
 use Rattle.tm_disk.specs.Disk.{Image, DiskState, Stays, FailedSince}
-use Rattle.model_machine.specs.History.{after_entry}
+use Rattle.model_machine.specs.Machine.{LastingState}
+use Rattle.model_machine.specs.declared.entry.ControlCall.{ControlCall}
 use Rattle.model_machine.specs.declared.entry.Entry.{Entry}
 use Rattle.model_machine.specs.declared.entry.ControlFault.{ControlFault}
 use Rattle.model_machine.specs.declared.entry.ControlFault.TheVariants.{Memory, Disk, Spent}
@@ -11,9 +12,11 @@ use Rattle.tm_machine.specs.Parts.{PartsState}
 use Rattle.logged_machine.specs.ToldCalls.{DoesTo}
 pub use Rattle.logged_machine.specs.ToldCalls.{NumbersBy}
 use Rattle.logged_machine.specs.UntakenCheckpoint.{settled_parts}
-use Rattle.model_image.specs.RecoveredState.{Recovers}
-use Rattle.disk_law.specs.KeptImages.{RecoversEither}
-use Rattle.logged_machine.specs.LoggedState.{LoggedState}
+use Rattle.checkpointing.specs.CheckpointParts.{forced_writer}
+use Rattle.disk_law.specs.KeptImages.{RecoversOne}
+use Rattle.logged_machine.specs.ToldCalls.{own_bytes}
+use Rattle.logged_machine.specs.CheckpointDue.{NoCheckpointIsDue, has_lasting_step}
+use Rattle.logged_machine.specs.LoggedState.{LoggedState, Pends}
 
 -- what no call changes
 pub record KeepsMachine {D : Type 0} (state : D → DiskState) (old new : LoggedState D) : Type 0 where
@@ -38,12 +41,13 @@ pub record WentOn {D : Type 0} (state : D → DiskState) (old new : LoggedState 
   pub no_fault : (state new.disk).faults ≡ (state old.disk).faults
 
 -- The disk failed in it, and nothing is served any more. What a crash may leave is still of the definition's text, and its checkpoint has
--- no lower number.
+-- no lower number. No more steps count as forced.
 pub record Failed {D : Type 0} (state : D → DiskState) (old new : LoggedState D) : Type 0 where
   pub served : new.served ≡ false
   pub failed : FailedSince (state old.disk) (state new.disk)
   pub have_text : (image : Image) → (state new.disk).may_leave image → HasText old.machine.system old.text image
   pub numbered : (image : Image) → (state new.disk).may_leave image → IsNumberedFrom old.machine.system old.journal.restart.checkpoint image
+  pub forced : new.forced ≡ old.forced
 
 -- Where there was no memory, nothing at all has changed, and nothing was written.
 abbrev pub MachineGoesBy : {D : Type 0} → (D → DiskState) → Option ControlFault → LoggedState D → LoggedState D → Entry → Type 0
@@ -54,20 +58,46 @@ MachineGoesBy state (Some (Spent counter)) old new entry = ⊥
 
 -- ---- what it leaves on the disk
 
--- Whatever a crash might have left since the call began recovers to what lasted before it.
-abbrev pub CrashesAlone : {D : Type 0} → (D → DiskState) → LoggedState D → LoggedState D → Type 0
-CrashesAlone state old new =
-    (image : Image) → (state new.disk).left_since (state old.disk).clock image → Recovers old.machine.system image (Ok old.machine.moment.lasting)
+-- Whatever a crash might have left since the call began recovers to one of the states that pended before it.
+abbrev pub CrashesIntoPending : {D : Type 0} → (D → DiskState) → LoggedState D → LoggedState D → Type 0
+CrashesIntoPending state old new =
+    (states : List LastingState) → Pends state states old
+    → (image : Image) → (state new.disk).left_since (state old.disk).clock image → RecoversOne old.machine.system states image
 
--- So it does, or to what lasts with the call's step.
-abbrev pub CrashesEither : {D : Type 0} → (D → DiskState) → LoggedState D → LoggedState D → Entry → Type 0
-CrashesEither state old new entry =
-    (image : Image) → (state new.disk).left_since (state old.disk).clock image
-    → RecoversEither old.machine.system old.machine.moment.lasting (after_entry old.machine.system old.machine.moment entry).lasting image
+-- these states, and what lasts behind a step, where there was one
+abbrev pub with_step : List LastingState → Bool → LastingState → List LastingState
+with_step states false lasting = states
+with_step states true lasting = states ++ lasting ∷ []
 
--- Where the call couldn't be done, its step isn't there.
-abbrev pub CrashesBy : {D : Type 0} → (D → DiskState) → Option ControlFault → LoggedState D → LoggedState D → Entry → Type 0
-CrashesBy state None old new entry = CrashesEither state old new entry
-CrashesBy state (Some Disk) old new entry = CrashesEither state old new entry
-CrashesBy state (Some Memory) old new entry = CrashesAlone state old new
-CrashesBy state (Some (Spent counter)) old new entry = ⊥
+-- What pended pends still, and the call's step behind it.
+pub record PendsStill {D : Type 0} (state : D → DiskState) (step : Bool) (old new : LoggedState D) : Type 0 where
+  pub forced : new.forced ≡ old.forced
+  pub pends : (states : List LastingState) → Pends state states old → Pends state (with_step states step new.machine.moment.lasting) new
+
+-- All that lasted before is forced, and the call's step alone pends.
+pub record PendsAnew {D : Type 0} (state : D → DiskState) (step : Bool) (old new : LoggedState D) : Type 0 where
+  pub forced : new.forced ≡ old.machine.moment.lasting.steps
+  pub pends : Pends state (with_step (old.machine.moment.lasting ∷ []) step new.machine.moment.lasting) new
+
+-- A call that was answered forces nothing; one before which a checkpoint is due forces by that all that lasted before.
+pub record PendsWhereDue {D : Type 0} (state : D → DiskState) (call : ControlCall) (old new : LoggedState D) : Type 0 where
+  pub spares : NoCheckpointIsDue old.journal.log (own_bytes old.machine old.units call) → PendsStill state (has_lasting_step old.machine call) old new
+  pub due : (NoCheckpointIsDue old.journal.log (own_bytes old.machine old.units call) → ⊥) → PendsAnew state (has_lasting_step old.machine call) old new
+
+abbrev pub PendsBy : {D : Type 0} → (D → DiskState) → Option ControlFault → ControlCall → LoggedState D → LoggedState D → Type 0
+PendsBy state None call old new = PendsWhereDue state call old new
+PendsBy state (Some fault) call old new = Unit {0}
+
+-- ---- a force
+
+-- All that was appended is forced, and nothing else has changed.
+pub record HasForced {D : Type 0} (state : D → DiskState) (old new : LoggedState D) : Type 0 where
+  pub machine : new.machine ≡ old.machine
+  pub units : new.units ≡ old.units
+  pub next_unit : new.next_unit ≡ old.next_unit
+  pub served : new.served ≡ true
+  pub log : new.journal.log ≡ forced_writer old.journal.log
+  pub restart : new.journal.restart ≡ old.journal.restart
+  pub forced : new.forced ≡ old.machine.moment.lasting.steps
+  pub pends : Pends state (old.machine.moment.lasting ∷ []) new
+  pub no_fault : (state new.disk).faults ≡ (state old.disk).faults

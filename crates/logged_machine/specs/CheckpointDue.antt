@@ -1,5 +1,5 @@
 -- What a call other than a checkpoint writes, and how far a call raises what is counted on.
-use Rattle.std.specs.Prelude.{◌≡◌, ◌⊎◌, ℕ, ◌+◌, ◌≤◌, Bool, true, false, List, [], length, Option, Some, None}
+use Rattle.std.specs.Prelude.{◌≡◌, ◌⊎◌, ℕ, ◌+◌, ◌≤◌, Bool, List, [], length, Option, Some, None}
 use Rattle.std.specs.Option.{is_some}
 use Rattle.tm_disk.specs.Disk.{DiskState, Within, WritesAtMost, ChangesOnly}
 use Rattle.model_system.specs.System.{System}
@@ -15,9 +15,8 @@ use Rattle.journal.specs.JournalDisk.{LeavesSectors}
 use Rattle.tm_machine.specs.Parts.{PartsState}
 use Rattle.logged_machine.specs.ToldCalls.{own_bytes}
 use Rattle.logged_machine.specs.UntakenCheckpoint.{TakesNext, checkpoint_sectors}
-use Rattle.disk_law.specs.LifeSteps.{forced_by_step}
 
--- whether a step lasts of it
+-- whether a step lasts of a call
 abbrev pub has_lasting_step : PartsState → ControlCall → Bool
 has_lasting_step parts call = is_some (lasting_step parts.system parts.moment call)
 
@@ -35,31 +34,17 @@ pub record AppendsAlone {D : Type 0} (own : List ℕ) (old new : JournalState) (
   pub restart : new.restart ≡ old.restart
   pub disk_is : disk' ≡ disk
 
--- They were appended, and all was forced.
-pub record ForcesAll {D : Type 0} (state : D → DiskState) (own : List ℕ) (old new : JournalState) (disk disk' : D) : Type 0 where
-  pub log : new.log ≡ forced_by_step (with_bytes_behind own old.log)
-  pub restart : new.restart ≡ old.restart
-  pub writes : WritesLog (with_bytes_behind own old.log) (state disk) (state disk')
-
--- The disk failed while all was forced.
-pub record ForceFails {D : Type 0} (state : D → DiskState) (own : List ℕ) (old new : JournalState) (disk disk' : D) : Type 0 where
-  pub restart : new.restart ≡ old.restart
-  pub writes : WritesLog (with_bytes_behind own old.log) (state disk) (state disk')
-
 -- Nothing was done.
 pub record DoesNothing {D : Type 0} (old new : JournalState) (disk disk' : D) : Type 0 where
   pub journal : new ≡ old
   pub disk_is : disk' ≡ disk
 
--- A call that takes no checkpoint, by the fault that it has in place of an answer and by whether a step lasts of it. Where none
--- does, the disk can't fail in it.
-abbrev pub WritesBy : {D : Type 0} → (D → DiskState) → Option ControlFault → Bool → List ℕ → JournalState → JournalState → D → D → Type 0
-WritesBy state None true own old new disk disk' = ForcesAll state own old new disk disk'
-WritesBy state None false own old new disk disk' = AppendsAlone own old new disk disk'
-WritesBy state (Some Disk) true own old new disk disk' = ForceFails state own old new disk disk'
-WritesBy state (Some Disk) false own old new disk disk' = ⊥
-WritesBy state (Some Memory) step own old new disk disk' = DoesNothing old new disk disk'
-WritesBy state (Some (Spent counter)) step own old new disk disk' = DoesNothing old new disk disk'
+-- A call that takes no checkpoint, by the fault that it has in place of an answer. The disk can't fail in it.
+abbrev pub AppendsBy : {D : Type 0} → Option ControlFault → List ℕ → JournalState → JournalState → D → D → Type 0
+AppendsBy None own old new disk disk' = AppendsAlone own old new disk disk'
+AppendsBy (Some Disk) own old new disk disk' = ⊥
+AppendsBy (Some Memory) own old new disk disk' = DoesNothing old new disk disk'
+AppendsBy (Some (Spent counter)) own old new disk disk' = DoesNothing old new disk disk'
 
 -- ---- whether a checkpoint is due
 
@@ -68,33 +53,37 @@ abbrev pub NoCheckpointIsDue : Writer → List ℕ → Type 0
 NoCheckpointIsDue log own = (own ≡ []) ⊎ LeavesSectors log (length own)
 
 -- A checkpoint was taken, in so many sectors at most, and from there the call took none.
-pub record WritesBehindDueCheckpoint {D : Type 0} (state : D → DiskState) (fault : Option ControlFault) (step : Bool) (own : List ℕ) (system : System) (sectors : ℕ) (old new : JournalState) (disk disk' : D) : Type 0 where
+pub record WritesBehindDueCheckpoint {D : Type 0} (state : D → DiskState) (own : List ℕ) (system : System) (sectors : ℕ) (old new : JournalState) (disk disk' : D) : Type 0 where
   pub middle : JournalState
   pub mid : D
   pub takes : TakesNext system old middle
   pub most : WritesAtMost sectors (state disk) (state mid)
-  pub writes : WritesBy state fault step own middle new mid disk'
+  pub appends : AppendsAlone own middle new mid disk'
 
 -- A call before which one is due: it takes one, in so many sectors at most, or the disk failed in it, or there was no memory.
-abbrev pub WritesDueCheckpoint : {D : Type 0} → (D → DiskState) → Option ControlFault → Bool → List ℕ → System → ℕ → JournalState → JournalState → D → D → Type 0
-WritesDueCheckpoint state None step own system sectors old new disk disk' = WritesBehindDueCheckpoint state None step own system sectors old new disk disk'
-WritesDueCheckpoint state (Some Disk) step own system sectors old new disk disk' =
-    WritesAtMost sectors (state disk) (state disk') ⊎ WritesBehindDueCheckpoint state (Some Disk) step own system sectors old new disk disk'
-WritesDueCheckpoint state (Some Memory) step own system sectors old new disk disk' = DoesNothing old new disk disk'
-WritesDueCheckpoint state (Some (Spent counter)) step own system sectors old new disk disk' = DoesNothing old new disk disk'
+abbrev pub WritesDueCheckpoint : {D : Type 0} → (D → DiskState) → Option ControlFault → List ℕ → System → ℕ → JournalState → JournalState → D → D → Type 0
+WritesDueCheckpoint state None own system sectors old new disk disk' = WritesBehindDueCheckpoint state own system sectors old new disk disk'
+WritesDueCheckpoint state (Some Disk) own system sectors old new disk disk' = WritesAtMost sectors (state disk) (state disk')
+WritesDueCheckpoint state (Some Memory) own system sectors old new disk disk' = DoesNothing old new disk disk'
+WritesDueCheckpoint state (Some (Spent counter)) own system sectors old new disk disk' = DoesNothing old new disk disk'
 
 -- Where no checkpoint is due before a call it takes none; where one is, it takes one and no more.
 pub record TakesCheckpointWhereDue {D : Type 0} (state : D → DiskState) (fault : Option ControlFault) (parts : PartsState) (units : List ℕ) (call : ControlCall) (old new : JournalState) (disk disk' : D) : Type 0 where
-  pub spares : NoCheckpointIsDue old.log (own_bytes parts units call) → WritesBy state fault (has_lasting_step parts call) (own_bytes parts units call) old new disk disk'
+  pub spares : NoCheckpointIsDue old.log (own_bytes parts units call) → AppendsBy fault (own_bytes parts units call) old new disk disk'
   pub due :
       (NoCheckpointIsDue old.log (own_bytes parts units call) → ⊥)
-      → WritesDueCheckpoint state fault (has_lasting_step parts call) (own_bytes parts units call) parts.system (checkpoint_sectors parts.system parts.databases.stores parts.databases.changed old) old new disk disk'
+      → WritesDueCheckpoint state fault (own_bytes parts units call) parts.system (checkpoint_sectors parts.system parts.databases.stores parts.databases.changed old) old new disk disk'
 
 -- ---- what it counts on
 
--- The epoch stays. The log's next sequence rises by so many sectors at most, the checkpoint and the next unit by one.
+-- the log's next sequence once all that was appended is forced
+abbrev pub sequence_to_come : JournalState → ℕ
+sequence_to_come journal = journal.log.sequence + journal.log.place + log_sectors_of (length journal.log.appended)
+
+-- The epoch stays. The log's next sequence, with what is to be forced, rises by so many sectors at most, the checkpoint and the next unit
+-- by one.
 pub record Raises (sectors : ℕ) (old new : JournalState) (next next' : ℕ) : Type 0 where
   pub epoch : new.restart.epoch ≡ old.restart.epoch
-  pub sequence : new.log.sequence + new.log.place ≤ old.log.sequence + old.log.place + sectors
+  pub sequence : sequence_to_come new ≤ sequence_to_come old + sectors
   pub checkpoint : new.restart.checkpoint ≤ old.restart.checkpoint + 1
   pub unit : next' ≤ next + 1

@@ -4,11 +4,11 @@ use Rattle.tm_disk.specs.Disk.{Image, DiskState}
 use Rattle.model_system.specs.System.{System}
 use Rattle.model_machine.specs.Machine.{LastingState}
 use Rattle.checkpointing.specs.DefinitionText.{HasText, IsNumberedFrom}
-use Rattle.disk_law.specs.KeptImages.{RecoversEither}
+use Rattle.disk_law.specs.KeptImages.{RecoversOne}
 
--- The image is of this text, its checkpoint has this number or a higher one, and it recovers to one state or to another.
-pub record Brings (system : System) (text : List ℕ) (low : ℕ) (before after : LastingState) (image : Image) : Type 0 where
-  pub recovers : RecoversEither system before after image
+-- The image is of this text, its checkpoint has this number or a higher one, and it recovers to one of these states.
+pub record Brings (system : System) (text : List ℕ) (low : ℕ) (states : List LastingState) (image : Image) : Type 0 where
+  pub recovers : RecoversOne system states image
   pub has_text : HasText system text image
   pub numbered : IsNumberedFrom system low image
 

@@ -11,7 +11,6 @@ pub mod TakenCheckpoint
 pub mod LeftImages
 pub mod Attempts
 pub mod CheckpointDue
-pub mod ForcedLog
 pub mod CarriedParts
 pub mod LoggedParts
 pub use Rattle.checkpointing.specs.Checkpoint

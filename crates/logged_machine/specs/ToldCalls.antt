@@ -6,7 +6,7 @@ use Rattle.model_machine.specs.History.{call_of}
 use Rattle.model_machine.specs.declared.entry.ControlCall.{ControlCall}
 use Rattle.model_machine.specs.declared.entry.ControlCall.TheVariants.{Input, Receive, Acknowledge, Turn, Command, Checkpoint, AskQuiet}
 use Rattle.model_machine.specs.declared.entry.Entry.{Entry}
-use Rattle.model_machine.specs.declared.entry.Entry.TheVariants.{Accept, Acked, Commanded, Turn as TurnEntry}
+use Rattle.model_machine.specs.declared.entry.Entry.TheVariants.{Turn as TurnEntry}
 use Rattle.openings.specs.Faults.{fault_in}
 use Rattle.tm_types.specs.Commands.{IsSpellable}
 use Rattle.log_records.specs.declared.record.Record.{Record}
@@ -14,9 +14,8 @@ use Rattle.log_records.specs.RecordSpelling.{record_spelling, IsLogRecord}
 use Rattle.tm_machine.specs.Answers.{IsAnswered}
 use Rattle.tm_machine.specs.SlotChanges.{TellByCall, TurnsSo, changes_told, turn_records}
 use Rattle.tm_machine.specs.Parts.{PartsState}
-use Rattle.tm_machine.specs.ToldByCall.{ends_work, told_records_of}
+use Rattle.tm_machine.specs.ToldByCall.{told_records_of}
 use Rattle.journal.specs.UnitNumbers.{next_after, unit_of_region, units_after}
-use Rattle.journal.specs.LastingAnswers.{is_lasting, is_new, is_removed}
 
 -- ---- which calls
 
@@ -73,14 +72,6 @@ pub record TellsAllRecords (records : List Record) (room : ℕ) (before after : 
   pub fits : length (flat_map record_spelling records) ≤ room
 
 -- ---- what it does
-
--- The answer tells of a step that lasts.
-abbrev pub lasts_by : Entry → Bool
-lasts_by (Accept terminal number segments answer) = is_new answer
-lasts_by (Acked terminal number answer) = is_removed answer
-lasts_by (Commanded command answer) = is_lasting command answer
-lasts_by (TurnEntry region (Ok turned)) = ends_work turned
-lasts_by _ = false
 
 -- The numbers of the regions' units behind a call that was answered, and the next one. A turn gives and takes them by its answer: a
 -- region takes the next number with a message, and with another one that it goes on with. No other call touches them.

@@ -5,7 +5,7 @@ ghost use Rattle.model_machine.specs.declared.entry.ControlCall.{ControlCall};
 ghost use Rattle.model_machine.specs.declared.entry.Entry.{Entry};
 ghost use Rattle.openings.specs.Faults.{fault_in};
 ghost use Rattle.lasting_state.specs.UntoldSteps.{WhereFull};
-ghost use Rattle.logged_machine.specs.ToldCalls.{DoesCall, IsCallWithin, NumbersBy, TellsAllRecords, lasts_by, may_last, own_bytes, own_records};
+ghost use Rattle.logged_machine.specs.ToldCalls.{DoesCall, IsCallWithin, NumbersBy, TellsAllRecords, may_last, own_bytes, own_records};
 
 use log_records::Untold;
 use model_machine::ControlFault;
@@ -44,10 +44,6 @@ pub trait Call {
         ensures err { OnErr result (parts.new ≡ parts.old) }
         ensures untold { OnErr result (telling.new.told.items ≡ telling.old.told.items) }
         ensures room { telling.new.room ≡ telling.old.room };
-
-    /// Whether this answer tells of a step that lasts.
-    fn lasts(&self, answer: &Self::Answer) -> bool
-        ensures { result ≡ lasts_by (entry self.now answer.now) };
 
     /// Notes what this answer is to the numbers of the units.
     fn note(&self, units: &mut Vec<u64>, next: &mut u64, answer: &Self::Answer)

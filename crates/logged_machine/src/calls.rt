@@ -1,10 +1,7 @@
 //! The calls of which a step may last: inputs, acknowledgements, commands and turns.
-ghost use Rattle.std.specs.Prelude.{◌≡◌, refl};
-ghost use Rattle.std.specs.Option.{is_some};
-ghost use Rattle.model_machine.specs.CommandAnswers.{lasting_command};
+ghost use Rattle.std.specs.Prelude.{refl};
 ghost use Rattle.model_machine.specs.declared.entry.ControlCall.TheVariants.{Input as InputCall, Acknowledge as AcknowledgeCall, Command as CommandCall, Turn as TurnCall};
 ghost use Rattle.model_machine.specs.declared.entry.Entry.TheVariants.{Accept, Acked as AckedEntry, Commanded, Turn as TurnEntry};
-ghost use Rattle.tm_machine.specs.ToldByCall.{ends_work};
 
 use crate::call::Call;
 use crate::names::see_spellable;
@@ -50,14 +47,6 @@ impl Call for Input<'_> {
         parts.accept(&self.terminal, self.number, self.segments, telling)
     }
 
-    fn lasts(&self, answer: &Self::Answer) -> bool {
-        match answer {
-            Ok(Taken::New(_)) => true,
-            Ok(Taken::Already) => false,
-            Err(_) => false,
-        }
-    }
-
     fn note(&self, _units: &mut Vec<u64>, _next: &mut u64, _answer: &Self::Answer) {}
 
     fn fault(&self, fault: ControlFault) -> Self::Answer {
@@ -97,14 +86,6 @@ impl Call for Acknowledgement {
         parts.acknowledge(&self.terminal, self.number, telling)
     }
 
-    fn lasts(&self, answer: &Self::Answer) -> bool {
-        match answer {
-            Ok(Acked::Removed) => true,
-            Ok(Acked::Already) => false,
-            Err(_) => false,
-        }
-    }
-
     fn note(&self, _units: &mut Vec<u64>, _next: &mut u64, _answer: &Self::Answer) {}
 
     fn fault(&self, fault: ControlFault) -> Self::Answer {
@@ -139,13 +120,6 @@ impl Call for Command {
         tm_machine::command(alloc, parts, self, telling)
     }
 
-    fn lasts(&self, answer: &Self::Answer) -> bool {
-        match answer {
-            Ok(_) => is_lasting(self),
-            Err(_) => false,
-        }
-    }
-
     fn note(&self, _units: &mut Vec<u64>, _next: &mut u64, _answer: &Self::Answer) {}
 
     fn fault(&self, fault: ControlFault) -> Self::Answer {
@@ -155,24 +129,6 @@ impl Call for Command {
     ghost of_call = { λ c answer. refl };
 
     ghost last = { λ c. refl };
-}
-
-/// Whether a command is one that lasts.
-fn is_lasting(command: &Command) -> bool
-    ensures { result ≡ is_some (lasting_command command.now) }
-{
-    match command {
-        Command::StartTransaction(_) => true,
-        Command::StopTransaction(_) => true,
-        Command::StartTerminal(_) => true,
-        Command::StopTerminal(_) => true,
-        Command::DequeueFirst(_) => true,
-        Command::DequeueAll(_) => true,
-        Command::Exit(_) => true,
-        Command::AssignClass(_, _) => true,
-        Command::AssignPriority(_, _) => true,
-        _ => false,
-    }
 }
 
 /// A region's next step. The region is one of the system.
@@ -204,13 +160,6 @@ impl Call for Turn {
         Ok(Ok(turned))
     }
 
-    fn lasts(&self, answer: &Self::Answer) -> bool {
-        match answer {
-            Ok(turned) => ends_work(turned),
-            Err(_) => false,
-        }
-    }
-
     fn note(&self, units: &mut Vec<u64>, next: &mut u64, answer: &Self::Answer) {
         match answer {
             Ok(turned) => note_units(units, next, self.region, turned),
@@ -225,17 +174,4 @@ impl Call for Turn {
     ghost of_call = { λ t answer. refl };
 
     ghost last = { λ t. refl };
-}
-
-/// Whether the work on a message ends with the turn.
-fn ends_work(turned: &Turned) -> bool
-    ensures { result ≡ ends_work turned.now }
-{
-    match turned {
-        Turned::Next(_, _, _) => true,
-        Turned::QC(_, _) => true,
-        Turned::Done(_, _) => true,
-        Turned::Abended(_, _, _) => true,
-        _ => false,
-    }
 }

@@ -1,12 +1,12 @@
 //! Checkpoints that are asked for.
-ghost use Rattle.std.specs.Prelude.{◌*◌, ◌≡◌, true, ℕ, None, Ok, IfErr, IfOk, OnOk};
+ghost use Rattle.std.specs.Prelude.{◌*◌, ◌≡◌, true, false, ℕ, None, Ok, IfErr, IfOk, OnOk};
 ghost use Rattle.tm_disk.specs.Disk.{Image};
 ghost use Rattle.model_machine.specs.CommandAnswers.{checkpoint_answer, unless_busy};
 ghost use Rattle.model_machine.specs.declared.entry.Entry.TheVariants.{Checked};
 ghost use Rattle.journal.specs.CountRanges.{AreCountsInRange};
 ghost use Rattle.logged_machine.specs.Attempts.{CountsSince, Did, LeavesCounts};
 ghost use Rattle.logged_machine.specs.CheckpointDue.{Raises};
-ghost use Rattle.logged_machine.specs.CallOutcome.{KeepsMachine, MachineGoesBy, CrashesBy};
+ghost use Rattle.logged_machine.specs.CallOutcome.{CrashesIntoPending, KeepsMachine, MachineGoesBy, PendsAnew};
 ghost use Rattle.openings.specs.Faults.{fault_in};
 ghost use Rattle.logged_machine.specs.LoggedState.{LastsNow, machine_spent_now};
 ghost use Rattle.logged_machine.specs.TakenCheckpoint.{HasNumber, IsTaken, LeavesSettled, StaysUntaken, WritesCheckpoint, again};
@@ -18,12 +18,13 @@ use tm_machine::{Parts, busy_region};
 
 impl<D: Disk> LoggedMachine<D> {
     /// Takes a checkpoint, of which it answers the number. Before a freeze no region may work on a message. No slot counts as
-    /// changed behind it.
+    /// changed behind it, and all that lasts is forced.
     pub fn checkpoint(&mut self, freeze: bool) -> Result<u64, CheckpointRefused>
         requires served { self.old.served ≡ true }
         requires unspent { machine_spent_now self.old ≡ None }
         ensures goes { MachineGoesBy D.state (fault_in (Checked freeze result)) self.old self.new (Checked freeze result) }
-        ensures crash { CrashesBy D.state (fault_in (Checked freeze result)) self.old self.new (Checked freeze result) }
+        ensures crash { CrashesIntoPending D.state self.old self.new }
+        ensures forced { OnOk result (PendsAnew D.state false self.old self.new) }
         ensures lasts { LastsNow D.state self.new }
         ensures keeps { KeepsMachine D.state self.old self.new }
         ensures counts { CountsSince D.state (2 * self.old.machine.system.logs) self.old self.new }
@@ -44,6 +45,7 @@ impl<D: Disk> LoggedMachine<D> {
         requires served { self.old.served ≡ true }
         requires counted { AreCountsInRange 0 self.old.machine.moment.lasting self.old.next_unit self.old.journal }
         ensures did { Did D.state (fault_in (Checked freeze result)) self.old self.new (Checked freeze result) }
+        ensures forced { OnOk result (PendsAnew D.state false self.old self.new) }
         ensures counts { LeavesCounts D.state (2 * self.old.machine.system.logs) self.old self.new }
         ensures raises { self.new.served ≡ true → Raises self.old.machine.system.logs self.old.journal self.new.journal self.old.next_unit self.new.next_unit }
         ensures taken { IfOk result (λ number. IsTaken self.new.machine.system number self.old.journal self.new.journal (D.state self.new.disk)) }
@@ -65,6 +67,7 @@ impl<D: Disk> LoggedMachine<D> {
         requires stays { again self.old.machine ≡ self.old.machine.moment }
         requires free { (number : ℕ) → checkpoint_answer self.old.machine.moment freeze number ≡ Ok number }
         ensures did { Did D.state (fault_in (Checked freeze result)) self.old self.new (Checked freeze result) }
+        ensures forced { OnOk result (PendsAnew D.state false self.old self.new) }
         ensures counts { LeavesCounts D.state (2 * self.old.machine.system.logs) self.old self.new }
         ensures raises { self.new.served ≡ true → Raises self.old.machine.system.logs self.old.journal self.new.journal self.old.next_unit self.new.next_unit }
         ensures taken { IfOk result (λ number. IsTaken self.new.machine.system number self.old.journal self.new.journal (D.state self.new.disk)) }

@@ -6,7 +6,7 @@ ghost use Rattle.model_machine.specs.declared.entry.ControlFault.TheVariants as 
 ghost use Rattle.tm_machine.specs.SlotChanges.{HasSlots};
 ghost use Rattle.journal.specs.CountRanges.{AreCountsInRange};
 ghost use Rattle.logged_machine.specs.CarriedParts.{IsCarried};
-ghost use Rattle.logged_machine.specs.LoggedParts.{IsLogged};
+ghost use Rattle.logged_machine.specs.LoggedParts.{HasLogged};
 ghost use Rattle.disk_law.specs.Life.{LifeOnDisk};
 ghost use Rattle.logged_machine.specs.UntakenCheckpoint.{IsSnapshot, Untaken, checkpoint_sectors, settled_parts};
 ghost use Rattle.logged_machine.specs.ToldCalls.{DoesCall, may_change, own_records};
@@ -24,7 +24,7 @@ use tm_machine::Parts;
 
 /// A call before which a checkpoint may be due.
 pub trait DueCall: Call {
-    /// Takes a checkpoint, and does the call behind it. The records of what lasts of it are appended, and not forced.
+    /// Takes a checkpoint, which forces all, and does the call behind it. The records of what lasts of it are appended, and not forced.
     fn due<D: Disk>(
         &self,
         alloc: Global,
@@ -35,10 +35,10 @@ pub trait DueCall: Call {
         next_unit: u64,
     ) -> Result<Self::Answer, ControlFault>
         requires call { IsCall parts.old.system (Self.call self.now) }
-        requires logged { (text : List ℕ) × IsLogged parts.old units.now next_unit journal.old text (D.state disk.old) }
+        requires logged { HasLogged parts.old units.now next_unit journal.old (D.state disk.old) }
         requires counted { AreCountsInRange 0 parts.old.moment.lasting next_unit journal.old }
         ensures system { parts.new.system ≡ parts.old.system }
-        ensures keeps { KeepsOnDisk parts.old.system (D.state disk.old) (D.state disk.new) }
+        ensures keeps { KeepsOnDisk parts.old.system journal.old.log (D.state disk.old) (D.state disk.new) }
         ensures counts { CountsWithin parts.old.system journal.old next_unit (D.state disk.old) (D.state disk.new) }
         ensures behind { OnOk result (HasBehindDue D.state parts.old units.entry.now next_unit (own_records (settled_parts parts.old) units.entry.now (Self.call self.entry.now)) journal.old journal.new disk.old disk.new) }
         ensures does { IfOk result (λ answer. DoesCall units.entry.now (Self.entry self.entry.now answer) (settled_parts parts.old) parts.new) }
@@ -138,10 +138,10 @@ fn still_due<C: Call, D: Disk>(
 ) -> Result<C::Answer, ControlFault>
     requires call { IsCall parts.old.system (C.call call.now) }
     requires still { may_change (C.call call.now) ≡ false }
-    requires logged { (text : List ℕ) × IsLogged parts.old units.now next_unit journal.old text (D.state disk.old) }
+    requires logged { HasLogged parts.old units.now next_unit journal.old (D.state disk.old) }
     requires counted { AreCountsInRange 0 parts.old.moment.lasting next_unit journal.old }
     ensures system { parts.new.system ≡ parts.old.system }
-    ensures keeps { KeepsOnDisk parts.old.system (D.state disk.old) (D.state disk.new) }
+    ensures keeps { KeepsOnDisk parts.old.system journal.old.log (D.state disk.old) (D.state disk.new) }
     ensures counts { CountsWithin parts.old.system journal.old next_unit (D.state disk.old) (D.state disk.new) }
     ensures behind { OnOk result (HasBehindDue D.state parts.old units.entry.now next_unit (own_records (settled_parts parts.old) units.entry.now (C.call call.entry.now)) journal.old journal.new disk.old disk.new) }
     ensures does { IfOk result (λ answer. DoesCall units.entry.now (C.entry call.entry.now answer) (settled_parts parts.old) parts.new) }

@@ -1,30 +1,50 @@
-//! What a call has told, forced.
-ghost use Rattle.std.specs.Prelude.{◌≡◌, true};
-ghost use Rattle.logged_machine.specs.ForcedLog.{IsForced, MayForce};
+//! All that was appended, forced.
+ghost use Rattle.std.specs.Prelude.{◌≡◌, true, OnErr, OnOk};
+ghost use Rattle.logged_machine.specs.Attempts.{AttemptLeaves, Broke, CountsSince, LeavesCounts};
+ghost use Rattle.logged_machine.specs.CallOutcome.{CrashesIntoPending, Failed, HasForced, KeepsMachine};
+ghost use Rattle.logged_machine.specs.CheckpointDue.{WritesLog};
+ghost use Rattle.logged_machine.specs.LoggedState.{LastsNow};
 
-use journal::Journal;
-use tm_disk::Disk;
+use crate::logged::LoggedMachine;
+use tm_disk::{Disk, DiskFault};
 
-/// Forces what a call has told, where it lasts. Where the disk fails in that, nothing is served any more.
-pub(crate) fn force<D: Disk>(
-    lasts: bool,
-    journal: &mut Journal,
-    disk: &mut D,
-    served: &mut bool,
-) -> bool
-    requires up { served.old ≡ true }
-    requires may { MayForce journal.old.log (D.state disk.old) }
-    ensures forced { IsForced D.state lasts result journal.old journal.new disk.old disk.new }
-    ensures served { served.new ≡ result }
-{
-    if !lasts {
-        return true;
+impl<D: Disk> LoggedMachine<D> {
+    /// Forces all that was appended: each image that a crash may leave has all that lasts then. It takes no memory.
+    pub fn force_log(&mut self) -> Result<(), DiskFault>
+        requires served { self.old.served ≡ true }
+        ensures done { OnOk result (HasForced D.state self.old self.new) }
+        ensures fault { OnErr result (Failed D.state self.old self.new) }
+        ensures crash { CrashesIntoPending D.state self.old self.new }
+        ensures lasts { LastsNow D.state self.new }
+        ensures keeps { KeepsMachine D.state self.old self.new }
+        ensures counts { CountsSince D.state self.old.machine.system.logs self.old self.new }
+        ensures writes { WritesLog self.old.journal.log (D.state self.old.disk) (D.state self.new.disk) }
+    {
+        let _before = self.is_served();
+        let forced = self.force_any();
+        let _behind = self.is_served();
+        forced
     }
-    match journal.force(disk) {
-        Ok(()) => true,
-        Err(_) => {
-            *served = false;
-            false
+
+    /// The same, by what it does.
+    fn force_any(&mut self) -> Result<(), DiskFault>
+        requires served { self.old.served ≡ true }
+        ensures done { OnOk result (HasForced D.state self.old self.new) }
+        ensures broke { OnErr result (Broke D.state self.old self.new) }
+        ensures leaves { AttemptLeaves D.state self.old self.new }
+        ensures keeps { KeepsMachine D.state self.old self.new }
+        ensures counts { LeavesCounts D.state self.old.machine.system.logs self.old self.new }
+        ensures writes { WritesLog self.old.journal.log (D.state self.old.disk) (D.state self.new.disk) }
+    {
+        match self.journal.force(&mut self.disk) {
+            Ok(()) => {
+                self.forced = self.parts.steps();
+                Ok(())
+            }
+            Err(fault) => {
+                self.served = false;
+                Err(fault)
+            }
         }
     }
 }

@@ -1,5 +1,5 @@
 //! A machine with its log.
-ghost use Rattle.std.specs.Prelude.{◌≡◌, ◌<◌, ◌↔◌, IfOk, IsTrue, IsFalse};
+ghost use Rattle.std.specs.Prelude.{◌≡◌, ◌<◌, ◌↔◌, false, IfOk, IsTrue, IsFalse};
 ghost use Rattle.tm_disk.specs.Disk.{IsToldToStop, armed};
 ghost use Rattle.model_machine.specs.CommandAnswers.{command_answer};
 ghost use Rattle.model_machine.specs.declared.entry.Entry.TheVariants.{Quiet as QuietEntry, Show as ShowEntry};
@@ -8,6 +8,7 @@ ghost use Rattle.model_machine.specs.MachineCalls.{is_machine_quiet, show_answer
 ghost use Rattle.lasting_state.specs.ShownTerminal.{IsShownTo};
 ghost use Rattle.tm_machine.specs.Answers.{Answers, IsAnswered};
 ghost use Rattle.tm_machine.specs.SlotChanges.{HasSlots};
+ghost use Rattle.logged_machine.specs.CallOutcome.{PendsStill};
 ghost use Rattle.logged_machine.specs.LoggedState.{LastsNow};
 
 use journal::Journal;
@@ -33,18 +34,20 @@ pub struct LoggedMachine<D: Disk> {
     pub(crate) next_unit: u64,
     /// The disk hasn't failed.
     pub(crate) served: bool,
+    /// How many lasting steps each image has that a crash may leave.
+    pub(crate) forced: u64,
 }
 
 impl<D: Disk> Model for LoggedMachine<D> {
     ghost use Rattle.std.specs.Prelude.{◌≡◌, true};
-    ghost use Rattle.logged_machine.specs.LoggedParts.{IsLogged};
+    ghost use Rattle.logged_machine.specs.LoggedParts.{PendSome};
     ghost use Rattle.logged_machine.specs.LoggedState.{LoggedState};
 
     ghost Value = { LoggedState D };
 
-    ghost view = { λ m. record { machine = m.parts; text = m.text; served = m.served; journal = m.journal; units = m.units.items; next_unit = m.next_unit; disk = m.disk } };
+    ghost view = { λ m. record { machine = m.parts; text = m.text; served = m.served; forced = m.forced; journal = m.journal; units = m.units.items; next_unit = m.next_unit; disk = m.disk } };
 
-    ghost invariant = { λ m. m.served ≡ true → IsLogged m.parts m.units.items m.next_unit m.journal m.text (D.state m.disk) };
+    ghost invariant = { λ m. m.served ≡ true → PendSome m.parts m.units.items m.next_unit m.journal m.text m.forced (D.state m.disk) };
 }
 
 impl<D: Disk> LoggedMachine<D> {
@@ -82,6 +85,13 @@ impl<D: Disk> LoggedMachine<D> {
         self.parts.steps()
     }
 
+    /// How many of them each image has that a crash may leave.
+    pub fn forced(&self) -> u64
+        ensures { result ≡ self.now.forced }
+    {
+        self.forced
+    }
+
     /// The number of the checkpoint that holds.
     pub fn checkpoint_number(&self) -> u64
         ensures { result ≡ self.now.journal.restart.checkpoint }
@@ -111,6 +121,7 @@ impl<D: Disk> LoggedMachine<D> {
         ensures can { IsTrue result ↔ IsTrue (D.state self.old.disk).can_arm }
         ensures machine { self.new.machine ≡ self.old.machine }
         ensures served { self.new.served ≡ self.old.served }
+        ensures forced { self.new.forced ≡ self.old.forced }
         ensures journal { self.new.journal ≡ self.old.journal }
         ensures units { self.new.units ≡ self.old.units }
         ensures next_unit { self.new.next_unit ≡ self.old.next_unit }
@@ -119,6 +130,7 @@ impl<D: Disk> LoggedMachine<D> {
         ensures no_fault { (D.state self.new.disk).faults ≡ (D.state self.old.disk).faults }
         ensures armed { IsTrue result → (D.state self.new.disk).until_stop ≡ armed n (D.state self.old.disk).until_stop }
         ensures nothing { IsFalse result → (D.state self.new.disk).until_stop ≡ (D.state self.old.disk).until_stop }
+        ensures pends { PendsStill D.state false self.old self.new }
         ensures lasts { LastsNow D.state self.new }
     {
         self.disk.arm(n)

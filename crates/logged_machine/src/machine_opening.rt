@@ -101,6 +101,7 @@ fn open_parts<D: Disk>(
                 units,
                 next_unit,
                 served: true,
+                forced: lasting.steps,
             },
             lasting,
         )),

@@ -1,5 +1,5 @@
 //! How a machine with its log is opened.
-ghost use Rattle.std.specs.Prelude.{◌≡◌, ◌≤◌, length, IfOk, IfErr, OnErr, Err};
+ghost use Rattle.std.specs.Prelude.{◌≡◌, ◌≤◌, [], ◌∷◌, length, IfOk, IfErr, OnErr, Err};
 ghost use Rattle.tm_disk.specs.Disk.{Stays, Within, Only};
 ghost use Rattle.model_machine.specs.Machine.{empty_state, start_of};
 ghost use Rattle.checkpointing.specs.Counts.{RaisesCounts};
@@ -33,7 +33,7 @@ pub fn open<D: Disk>(
     ensures system { parts.new.system ≡ parts.old.system }
     ensures kept { OnErr result (parts.new ≡ parts.old) }
     ensures opens { IfOk result (λ opened. OpensOn how parts.old.system text.entry.now (D.state disk.old) (D.state disk.new) parts.new opened.0 opened.1 opened.2) }
-    ensures logged { IfOk result (λ opened. IsLogged parts.new (no_units (length parts.old.system.regions)) opened.1 opened.0 text.entry.now (D.state disk.new)) }
+    ensures logged { IfOk result (λ opened. IsLogged parts.new (no_units (length parts.old.system.regions)) opened.1 opened.0 text.entry.now (opened.2 ∷ []) (D.state disk.new)) }
     ensures refuses { IfErr result (λ error. Refuses how parts.old.system text.entry.now (D.state disk.old) error) }
     ensures cause { IfErr result (λ error. OpeningCause (Err error) (D.state disk.old) (D.state disk.new)) }
     ensures stays { Stays (D.state disk.old) (D.state disk.new) }

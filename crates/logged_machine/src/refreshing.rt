@@ -9,7 +9,7 @@ use model_machine::ControlFault;
 use tm_disk::Disk;
 
 impl<D: Disk> LoggedMachine<D> {
-    /// Takes a checkpoint. The machine stands where it stood, and no slot counts as changed.
+    /// Takes a checkpoint. The machine stands where it stood, no slot counts as changed, and all that lasts is forced.
     pub(crate) fn refresh(&mut self) -> Result<(), ControlFault>
         requires served { self.old.served ≡ true }
         requires counted { AreCountsInRange 0 self.old.machine.moment.lasting self.old.next_unit self.old.journal }
@@ -24,7 +24,10 @@ impl<D: Disk> LoggedMachine<D> {
             self.units.as_slice(),
             self.next_unit,
         ) {
-            Ok(()) => Ok(()),
+            Ok(()) => {
+                self.forced = self.parts.steps();
+                Ok(())
+            }
             Err(fault) => {
                 self.served = is_memory(&fault);
                 Err(fault)

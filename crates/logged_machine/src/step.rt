@@ -1,4 +1,4 @@
-//! A call of which a step may last, done and forced.
+//! A call of which a step may last.
 ghost use Rattle.std.specs.Prelude.{◌≡◌, ◌<◌, ◌≤◌, ◌*◌, length, true, None, IfErr, IfOk, OnErr, OnOk};
 ghost use Rattle.model_machine.specs.History.{IsCall};
 ghost use Rattle.openings.specs.Faults.{fault_in};
@@ -7,12 +7,11 @@ ghost use Rattle.journal.specs.CountRanges.{AreCountsInRange};
 ghost use Rattle.logged_machine.specs.ToldCalls.{IsCallWithin, own_bytes};
 ghost use Rattle.logged_machine.specs.RecordsBehindLog.{HasRoomInArea};
 ghost use Rattle.logged_machine.specs.LoggedState.{LastsNow, machine_spent_now};
-ghost use Rattle.logged_machine.specs.CallOutcome.{KeepsMachine, MachineGoesBy, CrashesBy};
+ghost use Rattle.logged_machine.specs.CallOutcome.{CrashesIntoPending, KeepsMachine, MachineGoesBy, PendsBy};
 ghost use Rattle.logged_machine.specs.Attempts.{CountsSince, Done, DoneFrugally, Tried};
 ghost use Rattle.logged_machine.specs.CheckpointDue.{TakesCheckpointWhereDue, Raises};
 
 use crate::due::DueCall;
-use crate::forcing::force;
 use crate::logged::LoggedMachine;
 use crate::refreshing::is_memory;
 use crate::rooms::room_left;
@@ -22,14 +21,15 @@ use model_machine::ControlFault;
 use tm_disk::Disk;
 
 impl<D: Disk> LoggedMachine<D> {
-    /// Does a call, and forces what lasts of it before it is answered. A checkpoint is taken before it where one is due. A fault in
-    /// the answer's place is the disk's, or want of memory, which has changed nothing and written nothing.
+    /// Does a call, and appends what lasts of it; nothing is forced but by a checkpoint, which is taken before it where one is due. A
+    /// fault in the answer's place is the disk's, or want of memory, which has changed nothing and written nothing.
     pub fn serve<C: DueCall>(&mut self, call: &C) -> C::Answer
         requires call { IsCall self.old.machine.system (C.call call.now) }
         requires served { self.old.served ≡ true }
         requires unspent { machine_spent_now self.old ≡ None }
         ensures goes { MachineGoesBy D.state (fault_in (C.entry call.now result)) self.old self.new (C.entry call.now result) }
-        ensures crash { CrashesBy D.state (fault_in (C.entry call.now result)) self.old self.new (C.entry call.now result) }
+        ensures crash { CrashesIntoPending D.state self.old self.new }
+        ensures pends { PendsBy D.state (fault_in (C.entry call.now result)) (C.call call.now) self.old self.new }
         ensures lasts { LastsNow D.state self.new }
         ensures keeps { KeepsMachine D.state self.old self.new }
         ensures counts { CountsSince D.state (2 * self.old.machine.system.logs) self.old self.new }
@@ -68,6 +68,7 @@ impl<D: Disk> LoggedMachine<D> {
         requires counted { AreCountsInRange 0 self.old.machine.moment.lasting self.old.next_unit self.old.journal }
         ensures did { Done D.state (fault_in (C.entry call.now result)) self.old self.new (C.entry call.now result) }
     {
+        let steps = self.parts.steps();
         let done = call.due(
             self.alloc,
             &mut self.parts,
@@ -83,22 +84,19 @@ impl<D: Disk> LoggedMachine<D> {
                 return call.fault(fault);
             }
         };
+        self.forced = steps;
         call.note(&mut self.units, &mut self.next_unit, &answer);
-        let lasting = call.lasts(&answer);
-        if force(lasting, &mut self.journal, &mut self.disk, &mut self.served) {
-            return answer;
-        }
-        call.fault(ControlFault::Disk)
+        answer
     }
 
-    /// One attempt, with so much room for records.
+    /// One attempt, with so much room for records. Nothing is written.
     fn serve_once<C: DueCall>(&mut self, call: &C, room: usize) -> Result<C::Answer, Untold>
         requires call { IsCall self.old.machine.system (C.call call.now) }
         requires within { IsCallWithin (C.call call.now) }
         requires served { self.old.served ≡ true }
-        requires counted { AreCountsInRange 4294967296 self.old.machine.moment.lasting self.old.next_unit self.old.journal }
+        requires counted { AreCountsInRange 0 self.old.machine.moment.lasting self.old.next_unit self.old.journal }
         requires room { HasRoomInArea room self.old.journal.log }
-        ensures did { IfOk result (λ answer. Tried D.state (fault_in (C.entry call.now answer)) self.old self.new (C.entry call.now answer)) }
+        ensures did { IfOk result (λ answer. Tried D.state self.old self.new (C.entry call.now answer)) }
         ensures same { OnErr result (self.new ≡ self.old) }
         ensures fits { OnOk result (length (own_bytes self.old.machine self.old.units (C.call call.now)) ≤ room) }
         ensures full { IfErr result (WhereFull (room < length (own_bytes self.old.machine self.old.units (C.call call.now)))) }
@@ -112,10 +110,6 @@ impl<D: Disk> LoggedMachine<D> {
             room,
         )?;
         call.note(&mut self.units, &mut self.next_unit, &answer);
-        let lasting = call.lasts(&answer);
-        if force(lasting, &mut self.journal, &mut self.disk, &mut self.served) {
-            return Ok(answer);
-        }
-        Ok(call.fault(ControlFault::Disk))
+        Ok(answer)
     }
 }

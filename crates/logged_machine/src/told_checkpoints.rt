@@ -1,10 +1,9 @@
 //! Checkpoints with what was told behind them.
 ghost use Rattle.std.specs.Prelude.{◌≡◌, ◌≤◌, length, IfErr, OnOk, OnErr};
 ghost use Rattle.tm_disk.specs.Disk.{FailedSince, Within, WritesAtMost};
-ghost use Rattle.checkpointing.specs.CheckpointSteps.{Takes};
 ghost use Rattle.log_writer.specs.ForcedLog.{log_sectors_of};
 ghost use Rattle.model_machine.specs.declared.entry.ControlFault.TheVariants as faults;
-ghost use Rattle.journal.specs.CheckpointFor.{CanCheckpoint, parts_for};
+ghost use Rattle.journal.specs.CheckpointFor.{CanCheckpoint, TakesBehindForce, parts_for};
 ghost use Rattle.program_rows.specs.SlotsState.{slots_stores};
 ghost use Rattle.tm_machine.specs.SlotChanges.{HasSlots, slots_now};
 ghost use Rattle.logged_machine.specs.UntakenCheckpoint.{checkpoint_sectors, settled_parts};
@@ -31,8 +30,8 @@ pub fn write_told<D: Disk>(
     requires can { CanCheckpoint system.now journal.old stores.now bytes.now (D.state disk.old) }
     requires place { told.old.log.place ≡ 0 }
     requires fits { log_sectors_of (length told.old.log.appended) ≤ system.now.logs }
-    ensures keeps { KeepsOnDisk system.entry.now (D.state disk.old) (D.state disk.new) }
-    ensures steps { Within (Takes (parts_for system.entry.now journal.old.restart bytes.entry.now) journal.old.log stores.now) (D.state disk.old) (D.state disk.new) }
+    ensures keeps { KeepsOnDisk system.entry.now journal.old.log (D.state disk.old) (D.state disk.new) }
+    ensures steps { Within (TakesBehindForce (parts_for system.entry.now journal.old.restart bytes.entry.now) journal.old.log stores.now) (D.state disk.old) (D.state disk.new) }
     ensures done { OnOk result (WroteTold system.entry.now stores.now bytes.entry.now told.old.log.appended journal.old journal.new (D.state disk.old) (D.state disk.new)) }
     ensures writes { WritesAtMost (checkpoint_sectors system.entry.now stores.now.stores stores.now.changed journal.old) (D.state disk.old) (D.state disk.new) }
     ensures fault { IfErr result (λ fault. fault ≡ faults.Disk) }
@@ -60,9 +59,9 @@ pub fn write_parts<D: Disk>(
     requires place { told.old.log.place ≡ 0 }
     requires fits { log_sectors_of (length told.old.log.appended) ≤ parts.old.system.logs }
     ensures system { parts.new.system ≡ parts.old.system }
-    ensures keeps { KeepsOnDisk parts.old.system (D.state disk.old) (D.state disk.new) }
+    ensures keeps { KeepsOnDisk parts.old.system journal.old.log (D.state disk.old) (D.state disk.new) }
     ensures settled { OnOk result (parts.new ≡ settled_parts parts.old) }
-    ensures steps { Within (Takes (parts_for parts.old.system journal.old.restart bytes.entry.now) journal.old.log (slots_stores (slots_now parts.old))) (D.state disk.old) (D.state disk.new) }
+    ensures steps { Within (TakesBehindForce (parts_for parts.old.system journal.old.restart bytes.entry.now) journal.old.log (slots_stores (slots_now parts.old))) (D.state disk.old) (D.state disk.new) }
     ensures done { OnOk result (WroteTold parts.old.system (slots_stores (slots_now parts.old)) bytes.entry.now told.old.log.appended journal.old journal.new (D.state disk.old) (D.state disk.new)) }
     ensures writes { WritesAtMost (checkpoint_sectors parts.old.system parts.old.databases.stores parts.old.databases.changed journal.old) (D.state disk.old) (D.state disk.new) }
     ensures slots { OnOk result (HasSlots parts.new) }

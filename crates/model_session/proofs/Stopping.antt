@@ -10,7 +10,7 @@ use Rattle.model_session.specs.Lines.{asked_of}
 use Rattle.model_session.specs.Lives.{LastLife}
 use Rattle.model_session.specs.SessionState.{Setting, SessionState, Outage, Standing, Stop, no_life, unbegun, life_gone_on, called_on, life_ended, broken, failed, is_session_stopped, last_life}
 use Rattle.model_session.specs.SessionState.Standing.{Up, Down}
-use Rattle.model_session.specs.Session.{ServedBy, IsServedUp, IsServedDown, IsRestarted, AreServed, BeginsSession, IsSessionBegun, IsBegunBy}
+use Rattle.model_session.specs.Session.{ServedBy, IsServedUp, IsServedDown, IsRestarted, AreServed, BeginsSession, IsSessionBegun, IsBegunBy, EndsAt, IsSourceEnded}
 
 -- Where a session is down by a stop, or no life has begun, a stop is told.
 pub record HasStops (state : SessionState) : Type 0 where
@@ -21,18 +21,18 @@ one_more : (stops : List Stop) (stop : Stop) → stops ++ stop ∷ [] ≢ []
 one_more [] stop e = cc
 one_more (first ∷ stops) stop e = cc
 
-going : (state : SessionState) (life : LastLife) (entries : List Entry) → HasStops (life_gone_on state life entries)
-going state life entries = record { stopped = λ is. cc; unbegun = λ is. cc }
+going : (state : SessionState) (life : LastLife) (entries : List Entry) (forced : ℕ) → HasStops (life_gone_on state life entries forced)
+going state life entries forced = record { stopped = λ is. cc; unbegun = λ is. cc }
 
-ending : (state : SessionState) (life : LastLife) (entries : List Entry) → HasStops (life_ended state life entries)
-ending state life entries = record { stopped = λ is. cc; unbegun = λ is. cc }
+ending : (state : SessionState) (life : LastLife) (entries : List Entry) (forced : ℕ) → HasStops (life_ended state life entries forced)
+ending state life entries forced = record { stopped = λ is. cc; unbegun = λ is. cc }
 
-calling : (ends : Bool) (state : SessionState) (life : LastLife) (entries : List Entry) → HasStops (called_on ends state life entries)
-calling true state life entries = ending state life entries
-calling false state life entries = going state life entries
+calling : (ends : Bool) (state : SessionState) (life : LastLife) (entries : List Entry) (forced : ℕ) → HasStops (called_on ends state life entries forced)
+calling true state life entries forced = ending state life entries forced
+calling false state life entries forced = going state life entries forced
 
-breaking : (state : SessionState) (life : LastLife) (entries : List Entry) (stop : Stop) → HasStops (broken state life entries stop)
-breaking state life entries stop = record { stopped = λ is. one_more state.stops stop; unbegun = λ is. one_more state.stops stop }
+breaking : (state : SessionState) (life : LastLife) (entries : List Entry) (forced : ℕ) (stop : Stop) → HasStops (broken state life entries forced stop)
+breaking state life entries forced stop = record { stopped = λ is. one_more state.stops stop; unbegun = λ is. one_more state.stops stop }
 
 failing : (state : SessionState) (outage : Outage) (cold : Bool) (stop : Stop) → HasStops (failed state outage cold stop)
 failing state outage cold stop = record { stopped = λ is. one_more state.stops stop; unbegun = λ is. one_more state.stops stop }
@@ -45,10 +45,11 @@ module _ (setting : Setting) where
   by_up (Bad rule) old life new text (same, printed) h = has new old same h
   by_up (BadCommand rule) old life new text (same, printed) h = has new old same h
   by_up (Stopped terminal number reason) old life new text (same, printed) h = has new old same h
-  by_up (Call call) old life new text (inl one) h = has new _ one.goes (calling _ old life _)
-  by_up (Call call) old life new text (inr one) h = has new _ one.ends (breaking old life _ one.stop)
-  by_up (Quiet most) old life new text (inl one) h = has new _ one.goes (going old life one.turns)
-  by_up (Quiet most) old life new text (inr one) h = has new _ one.ends (breaking old life _ one.stop)
+  by_up (Call call) old life new text (inl one) h = has new _ one.goes (calling _ old life _ one.forced)
+  by_up (Call call) old life new text (inr (inl one)) h = has new _ one.ends (breaking old life _ one.forced one.stop)
+  by_up (Call call) old life new text (inr (inr one)) h = has new _ one.ends (breaking old life _ one.forced one.stop)
+  by_up (Quiet most) old life new text (inl one) h = has new _ one.goes (going old life one.turns one.forced)
+  by_up (Quiet most) old life new text (inr one) h = has new _ one.ends (breaking old life _ one.forced one.stop)
   by_up (Power pick) old life new text (same, printed) h = has new _ same (record { stopped = λ is. cc; unbegun = λ is. cc })
   by_up (PowerIn writes pick) old life new text (same, printed) h = has new _ same (record { stopped = h.stopped; unbegun = h.unbegun })
   by_up Restart old life new text (same, printed) h = has new old same h
@@ -90,7 +91,7 @@ module _ (setting : Setting) where
 -- and where turns stand of a block that was not served
 begun_on : (asked : Asked) (system : System) (old : SessionState) (standing : Standing) (new : SessionState) → IsBegunBy asked system old standing new → HasStops old → HasStops new
 begun_on (Quiet most) system old (Up life) new (inl same) h = has new old same h
-begun_on (Quiet most) system old (Up life) new (inr one) h = has new _ one.goes (going old life one.turns)
+begun_on (Quiet most) system old (Up life) new (inr one) h = has new _ one.goes (going old life one.turns one.forced)
 begun_on (Quiet most) system old (Down outage) new same h = has new old same h
 begun_on (Bad rule) system old standing new same h = has new old same h
 begun_on (BadCommand rule) system old standing new same h = has new old same h
@@ -104,3 +105,12 @@ begun_on ColdStart system old standing new same h = has new old same h
 pub stops_begun : (system : System) (others : List Block) (old new : SessionState) → IsSessionBegun system others old new → HasStops old → HasStops new
 stops_begun system [] old new same h = has new old same h
 stops_begun system (block ∷ others) old new one h = begun_on (asked_of system block) system old old.standing new one h
+
+-- and where its source has ended
+ended_at : (system : System) (old : SessionState) (standing : Standing) (new : SessionState) (text : List ℕ) → EndsAt standing system old new text → HasStops old → HasStops new
+ended_at system old (Up life) new text (inl forced) h = has new _ forced.goes (going old life [] forced.forced)
+ended_at system old (Up life) new text (inr cut) h = has new _ cut.ends (breaking old life _ life.forced cut.stop)
+ended_at system old (Down outage) new text (same, none) h = has new old same h
+
+pub stops_at_end : (system : System) (old new : SessionState) (text : List ℕ) → IsSourceEnded system old new text → HasStops old → HasStops new
+stops_at_end system old new text ends h = ended_at system old old.standing new text ends h

@@ -15,7 +15,7 @@ use Rattle.model_session.specs.Blocks.{Block}
 use Rattle.model_session.specs.Lines.{asked_of}
 use Rattle.model_session.specs.Text.{entry_text, bad_line_text, bad_command_text, stopped_text, broken_text, power_text, armed_text, up_text, down_text, opened_text, image_text}
 use Rattle.model_session.specs.QuietTurns.{IsQuieted, IsBrokenOff, quieted_text, region_behind_turns}
-use Rattle.model_session.specs.Lives.{LastLife, now_in, ends_life, is_disk_fault}
+use Rattle.model_session.specs.Lives.{LastLife, now_in, longer, ends_life, is_disk_fault, binds, IsForcedTo, IsAllForced, failed_force}
 use Rattle.model_session.specs.SessionState.{Setting, SessionState, Outage, Standing, Stop, no_life, unbegun, life_gone_on, called_on, powered_off, armed_with, broken, life_opened, failed, IsStateEmptied, IsKnown, MayBeFound, LastAnswered}
 use Rattle.model_session.specs.SessionState.Standing.{Up, Down}
 
@@ -27,40 +27,61 @@ pub record BreaksAtEntry (system : System) (call : ControlCall) (entry : Entry) 
   pub can : IsCall system call
   pub fault : is_disk_fault entry ≡ true
 
--- A call stands for the next entry of the life, which is the machine's answer at its place. It is printed. A freeze ends
--- the life.
+-- A call stands for the next entry of the life, which is the machine's answer at its place. It is printed, where its text binds only
+-- once all lasting steps are forced. A freeze ends the life.
 pub record IsCalled (system : System) (call : ControlCall) (old : SessionState) (life : LastLife) (new : SessionState) (text : List ℕ) : Type 0 where
   pub entry : Entry
+  pub forced : ℕ
   pub asked : call_of entry ≡ call
   pub may : May system (now_in system life) entry
-  pub goes : new ≡ called_on (ends_life entry) old life (entry ∷ [])
+  pub is_forced : IsForcedTo system (longer life (entry ∷ [])) (binds entry) forced
+  pub goes : new ≡ called_on (ends_life entry) old life (entry ∷ []) forced
   pub printed : text ≡ entry_text system (now_in system life) entry
 
 -- The disk failed in the call.
 pub record IsCallCutOff (system : System) (call : ControlCall) (old : SessionState) (life : LastLife) (new : SessionState) (text : List ℕ) : Type 0 where
   pub entry : Entry
+  pub forced : ℕ
   pub stop : Stop
   pub breaks : BreaksAtEntry system call entry
-  pub ends : new ≡ broken old life (entry ∷ []) stop
+  pub is_forced : IsForcedTo system life false forced
+  pub ends : new ≡ broken old life (entry ∷ []) forced stop
+  pub printed : text ≡ broken_text
+
+-- The call was answered by an entry whose text binds, and the disk failed in the force before that was printed.
+pub record IsForceCutOff (system : System) (call : ControlCall) (old : SessionState) (life : LastLife) (new : SessionState) (text : List ℕ) : Type 0 where
+  pub entry : Entry
+  pub forced : ℕ
+  pub stop : Stop
+  pub asked : call_of entry ≡ call
+  pub may : May system (now_in system life) entry
+  pub bound : binds entry ≡ true
+  pub goes_on : ends_life entry ≡ false
+  pub is_forced : IsForcedTo system (longer life (entry ∷ [])) false forced
+  pub ends : new ≡ broken old life (entry ∷ failed_force ∷ []) forced stop
   pub printed : text ≡ broken_text
 
 -- QUIET stands for turns, and has one text for all of them.
 pub record IsQuietTurned (system : System) (most : ℕ) (old : SessionState) (life : LastLife) (new : SessionState) (text : List ℕ) : Type 0 where
   pub turns : List Entry
+  pub forced : ℕ
   pub steps : AreSteps system (now_in system life) turns
   pub quieted : IsQuieted most system (now_in system life) turns
-  pub goes : new ≡ life_gone_on old life turns
+  pub is_forced : IsForcedTo system (longer life turns) false forced
+  pub goes : new ≡ life_gone_on old life turns forced
   pub printed : text ≡ quieted_text system (now_in system life) turns
 
 -- The disk failed in one of its turns.
 pub record IsTurnedOff (system : System) (most : ℕ) (old : SessionState) (life : LastLife) (new : SessionState) (text : List ℕ) : Type 0 where
   pub turns : List Entry
   pub entry : Entry
+  pub forced : ℕ
   pub stop : Stop
   pub steps : AreSteps system (now_in system life) turns
   pub begun : IsBrokenOff most system (now_in system life) turns
   pub breaks : BreaksAtEntry system (Turn (region_behind_turns system (length turns))) entry
-  pub ends : new ≡ broken old life (turns ++ entry ∷ []) stop
+  pub is_forced : IsForcedTo system (longer life turns) false forced
+  pub ends : new ≡ broken old life (turns ++ entry ∷ []) forced stop
   pub printed : text ≡ broken_text
 
 -- A bad line, and an input that is refused before it is asked for, have a text of their own and no entry. Where power
@@ -70,7 +91,9 @@ abbrev pub IsServedUp : Asked → Setting → SessionState → LastLife → Sess
 IsServedUp (Bad rule) setting old life new text = (new ≡ old) × (text ≡ bad_line_text rule)
 IsServedUp (BadCommand rule) setting old life new text = (new ≡ old) × (text ≡ bad_command_text rule)
 IsServedUp (Stopped terminal number reason) setting old life new text = (new ≡ old) × (text ≡ stopped_text terminal number reason)
-IsServedUp (Call call) setting old life new text = IsCalled setting.system call old life new text ⊎ IsCallCutOff setting.system call old life new text
+IsServedUp (Call call) setting old life new text =
+    IsCalled setting.system call old life new text
+    ⊎ (IsCallCutOff setting.system call old life new text ⊎ IsForceCutOff setting.system call old life new text)
 IsServedUp (Quiet most) setting old life new text = IsQuietTurned setting.system most old life new text ⊎ IsTurnedOff setting.system most old life new text
 IsServedUp (Power pick) setting old life new text = (new ≡ powered_off old life pick) × (text ≡ power_text)
 IsServedUp (PowerIn writes pick) setting old life new text = (new ≡ armed_with setting.can_arm writes pick old) × (text ≡ armed_text setting.can_arm writes)
@@ -171,9 +194,11 @@ BeginsSession setting first = OpensSession false setting unbegun no_life first �
 -- turns up to where they broke off.
 pub record TurnsBegun (most : ℕ) (system : System) (old : SessionState) (life : LastLife) (new : SessionState) : Type 0 where
   pub turns : List Entry
+  pub forced : ℕ
   pub steps : AreSteps system (now_in system life) turns
   pub begun : IsBrokenOff most system (now_in system life) turns
-  pub goes : new ≡ life_gone_on old life turns
+  pub is_forced : IsForcedTo system (longer life turns) false forced
+  pub goes : new ≡ life_gone_on old life turns forced
 
 abbrev pub IsBegunBy : Asked → System → SessionState → Standing → SessionState → Type 0
 IsBegunBy (Quiet most) system old (Up life) new = (new ≡ old) ⊎ TurnsBegun most system old life new
@@ -182,3 +207,25 @@ IsBegunBy _ system old standing new = new ≡ old
 abbrev pub IsSessionBegun : System → List Block → SessionState → SessionState → Type 0
 IsSessionBegun system [] old new = new ≡ old
 IsSessionBegun system (block ∷ blocks) old new = IsBegunBy (asked_of system block) system old old.standing new
+
+-- ---- the end of a source
+
+-- All lasting steps of a life are forced; or the disk fails in that, of which is told as of any stop.
+pub record IsForcedAtEnd (system : System) (old : SessionState) (life : LastLife) (new : SessionState) (text : List ℕ) : Type 0 where
+  pub forced : ℕ
+  pub all : IsAllForced system life forced
+  pub goes : new ≡ life_gone_on old life [] forced
+  pub silent : text ≡ []
+
+pub record IsEndCutOff (old : SessionState) (life : LastLife) (new : SessionState) (text : List ℕ) : Type 0 where
+  pub stop : Stop
+  pub ends : new ≡ broken old life (failed_force ∷ []) life.forced stop
+  pub printed : text ≡ broken_text
+
+-- A session whose source has ended is forced where it is up.
+abbrev pub EndsAt : Standing → System → SessionState → SessionState → List ℕ → Type 0
+EndsAt (Up life) system old new text = IsForcedAtEnd system old life new text ⊎ IsEndCutOff old life new text
+EndsAt (Down outage) system old new text = (new ≡ old) × (text ≡ [])
+
+abbrev pub IsSourceEnded : System → SessionState → SessionState → List ℕ → Type 0
+IsSourceEnded system old new text = EndsAt old.standing system old new text

@@ -5,7 +5,7 @@ use Rattle.model_machine.specs.declared.entry.Entry.TheVariants.{Checked}
 use Rattle.model_system.specs.System.{System}
 use Rattle.model_machine.specs.Machine.{LastingState, empty_state}
 use Rattle.model_session.specs.declared.asked.ImageRefused.{ImageRefused}
-use Rattle.model_session.specs.Lives.{LifeState, LastLife, last_number, now_in, longer, with_life, HasAnswered, LifeLeaves}
+use Rattle.model_session.specs.Lives.{LifeState, LastLife, last_number, longer, forced_to, with_life, HasAnswered, LifeLeaves}
 
 -- A session's system; whether its disk can be told to stop at a write to come, and whether it tells its contents; the
 -- states that the disk recovers to as it is handed in, of which there is one at most; whether it is of the definition's text then, and
@@ -89,22 +89,22 @@ abbrev pub armed_with : Bool → ℕ → ℕ → SessionState → SessionState
 armed_with can_arm writes pick state =
     record { lives = state.lives; stops = state.stops; disk = stop_armed can_arm writes pick state.disk; standing = state.standing }
 
--- the life goes on with these entries
-abbrev pub life_gone_on : SessionState → LastLife → List Entry → SessionState
-life_gone_on state life entries = record {
+-- the life goes on with these entries, so many lasting steps being forced
+abbrev pub life_gone_on : SessionState → LastLife → List Entry → ℕ → SessionState
+life_gone_on state life entries forced = record {
   lives = state.lives;
   stops = state.stops;
   disk = told_by entries state.disk;
-  standing = Up (longer life entries);
+  standing = Up (forced_to forced (longer life entries));
 }
 
 -- the life ended with these entries, without a fault
-abbrev pub life_ended : SessionState → LastLife → List Entry → SessionState
-life_ended state life entries = record {
+abbrev pub life_ended : SessionState → LastLife → List Entry → ℕ → SessionState
+life_ended state life entries forced = record {
   lives = state.lives;
   stops = state.stops;
   disk = told_by entries state.disk;
-  standing = Down (record { last = Some (longer life entries); emptied = false; stopped = false });
+  standing = Down (record { last = Some (forced_to forced (longer life entries)); emptied = false; stopped = false });
 }
 
 -- power failed: the life ended without another entry, and the disk was cut with a pick
@@ -117,17 +117,17 @@ powered_off state life pick = record {
 }
 
 -- the life goes on with these entries, or ends with them
-abbrev pub called_on : Bool → SessionState → LastLife → List Entry → SessionState
-called_on false state life entries = life_gone_on state life entries
-called_on true state life entries = life_ended state life entries
+abbrev pub called_on : Bool → SessionState → LastLife → List Entry → ℕ → SessionState
+called_on false state life entries forced = life_gone_on state life entries forced
+called_on true state life entries forced = life_ended state life entries forced
 
--- the disk failed, which ended the life with these entries, and was cut with the pick that was kept
-abbrev pub broken : SessionState → LastLife → List Entry → Stop → SessionState
-broken state life entries stop = record {
+-- the disk failed, which ended the life with these entries, so many lasting steps being forced; and was cut with the pick that was kept
+abbrev pub broken : SessionState → LastLife → List Entry → ℕ → Stop → SessionState
+broken state life entries forced stop = record {
   lives = state.lives;
   stops = state.stops ++ stop ∷ [];
   disk = cut_at_stop state.disk;
-  standing = Down (record { last = Some (longer life entries); emptied = false; stopped = true });
+  standing = Down (record { last = Some (forced_to forced (longer life entries)); emptied = false; stopped = true });
 }
 
 -- a life opened with this state and this checkpoint, so many lasting steps of the one before being kept
@@ -136,7 +136,7 @@ life_opened state outage kept checkpoint opening = record {
   lives = with_life state.lives outage.last kept;
   stops = state.stops;
   disk = state.disk;
-  standing = Up (record { opening = opening; checkpoint = checkpoint; history = [] });
+  standing = Up (record { opening = opening; checkpoint = checkpoint; history = []; forced = 0 });
 }
 
 abbrev pub or_cold : Bool → Bool → Bool
@@ -165,19 +165,24 @@ abbrev pub LastAnswered : System → Option LastLife → ℕ → Type 0
 LastAnswered system None count = count ≡ 0
 LastAnswered system (Some life) count = HasAnswered system life count
 
--- A cold start broke off, and the state is empty. All lasting steps of the last life that were answered count as kept.
+-- so many lasting steps of the last life were forced
+abbrev pub last_forced : Option LastLife → ℕ
+last_forced None = 0
+last_forced (Some life) = life.forced
+
+-- A cold start broke off, and the state is empty. All lasting steps of the last life that were forced count as kept.
 pub record IsStateEmptied (system : System) (last : Option LastLife) (emptied : Bool) (kept : ℕ) (state : LastingState) : Type 0 where
   pub broke_off : emptied ≡ true
   pub empty : state ≡ empty_state system
-  pub answered : LastAnswered system last kept
+  pub counted : kept ≡ last_forced last
 
 -- What the disk recovers to while the system is down: what was left, or the empty state where a cold start broke off.
 abbrev pub MayBeFound : Setting → Outage → ℕ → LastingState → Type 0
 MayBeFound setting outage kept state = IsStateLeft setting outage.last kept state ⊎ IsStateEmptied setting.system outage.last outage.emptied kept state
 
--- What it recovers to: while the system is up, the state behind all lasting steps of the life.
+-- What it recovers to: while the system is up, what the life would leave.
 abbrev pub MayHold : Setting → Standing → LastingState → Type 0
-MayHold setting (Up life) state = state ≡ (now_in setting.system life).lasting
+MayHold setting (Up life) state = (kept : ℕ) × LifeLeaves setting.system life kept state
 MayHold setting (Down outage) state = (kept : ℕ) × MayBeFound setting outage kept state
 
 -- The number that the disk's checkpoint isn't below while the system is down: the last one that is known of the last life; before the first

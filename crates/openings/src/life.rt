@@ -44,11 +44,12 @@ impl History {
 }
 
 /// A life of the control region: what it opened with, the number of the checkpoint with which it did, its calls with their
-/// answers, and after how many lasting steps its state is kept.
+/// answers, how many of its lasting steps were forced to the disk, and after how many its state is kept.
 #[derive(Debug, Drop)]
 pub struct Life {
     pub opening: Lasting,
     pub checkpoint: u64,
     pub history: History,
+    pub forced: u64,
     pub kept: u64,
 }

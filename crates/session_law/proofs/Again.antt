@@ -1,12 +1,10 @@
 -- An input whose own call met a stop.
-use Rattle.std.proofs.Common.{◌≡◌, ◌⊎◌, inl, inr, ⊎_elim, ℕ, ◌+◌, Bool, true, false, not, ◌&&◌, List, [], ◌∷◌, Option, Some, None, refl, sym, ap, ◌∙◌, subst, arith, cond, nat_lt}
+use Rattle.std.proofs.Common.{◌≡◌, ◌⊎◌, inl, inr, ℕ, ◌+◌, ◌≤◌, Bool, true, false, not, List, [], ◌∷◌, Option, Some, None, refl, sym, ap, ◌∙◌, subst, arith, cond, nat_lt}
 use Rattle.std.specs.Prelude.{Result, Ok, Err, nat_le, if◌then◌else◌}
-use Rattle.std.specs.List.{list_all}
 use Rattle.std.specs.Option.{option_map, option_map_or, option_or, unwrap_or}
 use Rattle.std.specs.Str.{bytes_eq}
 use Rattle.std.proofs.lemmas.Bool.Decides.{nat_tests}
 use Rattle.std.proofs.lemmas.Slice.Eq.{bytes_eq-Decides}
-use Rattle.std.proofs.lemmas.List.Folds.{list_all-append}
 use Rattle.tm_types.specs.declared.command.LastingCommand.{LastingCommand}
 use Rattle.tm_types.specs.declared.command.LastingCommand.TheVariants.{StartTransaction, StopTransaction, StartTerminal, StopTerminal, DequeueFirst, DequeueAll, Exit, AssignClass, AssignPriority}
 use Rattle.model_system.specs.System.{System}
@@ -26,13 +24,14 @@ use Rattle.model_machine.specs.CommandAnswers.{lasting_command}
 use Rattle.model_machine.specs.LastingSteps.{LastingStep, KeptInput, with_last_number, stopped_terminal, applied, with_pad_by, discarded_pad, abend_outputs, commanded, kept_input}
 use Rattle.model_machine.specs.LastingSteps.LastingStep.{Accepts, Acknowledges, Completes, Discards, Commands}
 use Rattle.model_machine.specs.MachineCalls.{by_number, accepted_step, acknowledged_step, input_answer, ack_answer, lasting_step}
-use Rattle.model_machine.specs.History.{call_of, after_entry, is_fault}
-use Rattle.model_machine.proofs.Histories.{moment_after-append}
-use Rattle.model_session.specs.Lives.{LastLife, life_moment, now_in, longer}
-use Rattle.session_law.specs.ResentInputs.{last_number_of, IsKeptBy, spares_input}
-use Rattle.session_law.proofs.Sessions.{Leaving, EndsRest, last_in as last_entry_in, now_has}
+use Rattle.model_machine.specs.History.{call_of, after_entry}
+use Rattle.model_session.specs.Lives.{LastLife, forced_to, longer}
+use Rattle.model_session.specs.SessionState.Standing.{Up}
+use Rattle.session_law.specs.ResentInputs.{last_number_of, IsForcedWithin, IsKeptBy, spares_input}
+use Rattle.session_law.specs.SentAgain.{IsDoubted}
+use Rattle.session_law.proofs.Sessions.{AllKeep, Leaving, force_keeps, more}
 use Rattle.session_law.proofs.Steps.{FineBy, applied_by, turn_fine, command_fine}
-use Rattle.session_law.proofs.Inputs.{Reached, last_in, change_named, changed_here, changed_later, last_cons, finished_terminals, pad_terminals, answer_by, later_refusals, taken}
+use Rattle.session_law.proofs.Inputs.{Reached, last_in, change_named, changed_here, changed_later, last_cons, finished_terminals, pad_terminals, answer_by, later_refusals, numbers_kept, taken}
 
 -- ---- a terminal's last number stays
 
@@ -169,30 +168,24 @@ input_leaves system moment terminal number last segments entry asked h =
     (accepted_or terminal number last (kept_input system moment.lasting terminal segments) moment.lasting (input_answer system moment terminal number segments)
     (λ id new. taken system moment terminal number segments id new) h)
 
--- A life that ends with an input leaves, whatever the stop kept, the terminal's last number as it was, or this number as used.
-pub cut_off : (system : System) (terminal : List ℕ) (number last : ℕ) (segments : List (List ℕ)) (life : LastLife) (entry : Entry) → call_of entry ≡ Input terminal number segments
-    → Leaving (Stands terminal last) system (spares_input terminal) life
-    → Leaving (λ lasting. Stands terminal last lasting ⊎ Reached terminal number lasting) system (spares_input terminal) (longer life (entry ∷ []))
-cut_off system terminal number last segments life entry asked has kept state h =
-    ⊎_elim
-    (λ all.
-    subst (λ (s : LastingState). Stands terminal last s ⊎ Reached terminal number s)
-    (sym (h.left ∙ ap (λ es. (life_moment system life es).lasting) all ∙ ap (λ (m : Moment). m.lasting) (moment_after-append system (life_moment system life []) life.history entry)))
-    (input_leaves system (now_in system life) terminal number last segments entry asked (now_has (Stands terminal last) system (spares_input terminal) life has)))
-    (λ (ends : EndsRest life.history entry h.front h.rest). inl (has kept state (record {
-      front = h.front;
-      rest = ends.others;
-      split = ends.before;
-      unanswered = front_of (list_all is_fault ends.others) (list_all is_fault (entry ∷ []))
-          (sym (list_all-append is_fault ends.others (entry ∷ [])) ∙ ap (list_all is_fault) (sym ends.rest_is) ∙ h.unanswered);
-      left = h.left;
-      counted = h.counted;
-    })))
-    (last_entry_in life.history entry h.front h.rest h.split)
+-- A life that ends with an input, in whose call or in the force behind it the disk failed, leaves the terminal's last number as it was, or
+-- this number as used, whatever the stop kept.
+pub cut_off : (system : System) (terminal : List ℕ) (number last forced : ℕ) (segments : List (List ℕ)) (life : LastLife) (entry : Entry) (after : List Entry) → call_of entry ≡ Input terminal number segments
+    → IsDoubted entry after → IsForcedWithin system (Up life) → life.forced ≤ forced → Leaving (Stands terminal last) system life
+    → Leaving (λ lasting. Stands terminal last lasting ⊎ Reached terminal number lasting) system (forced_to forced (longer life (entry ∷ after)))
+cut_off system terminal number last forced segments life entry after asked doubted within least has =
+    more Either system life (entry ∷ after) forced (entry_keeps, by doubted) within least (λ kept state leaves. inl (has kept state leaves))
   where
-    front_of : (a b : Bool) → a && b ≡ true → a ≡ true
-    front_of true b x = refl
-    front_of false b x = x
+    Either : LastingState → Type 0
+    Either lasting = Stands terminal last lasting ⊎ Reached terminal number lasting
+
+    entry_keeps : (moment : Moment) → Either moment.lasting → Either (after_entry system moment entry).lasting
+    entry_keeps moment (inl stands) = input_leaves system moment terminal number last segments entry asked stands
+    entry_keeps moment (inr reached) = inr (numbers_kept terminal number system moment entry refl reached)
+
+    by : IsDoubted entry after → AllKeep Either system after
+    by (inl (fault, none)) = subst (AllKeep Either system) (sym none) tt
+    by (inr one) = subst (AllKeep Either system) (sym one) (force_keeps Either system, tt)
 
 -- ---- sent again
 

@@ -10,10 +10,11 @@ use Rattle.model_session.specs.declared.asked.Asked.{Asked}
 use Rattle.model_session.specs.declared.asked.Asked.TheVariants.{Bad, BadCommand, Stopped, Call, Quiet, Power, PowerIn, Restart, ColdStart}
 use Rattle.model_session.specs.Blocks.{Block}
 use Rattle.model_session.specs.Lines.{asked_of}
-use Rattle.model_session.specs.Lives.{LifeState, LastLife, LifeLeaves, kept_life, with_life, longer, ends_life}
+use Rattle.model_session.specs.Lives.{LifeState, LastLife, LifeLeaves, kept_life, with_life, longer, forced_to, ends_life, failed_force}
 use Rattle.model_session.specs.SessionState.{Setting, SessionState, Outage, Standing, MayBeFound, AreAllLives, unbegun, called_on, last_life}
 use Rattle.model_session.specs.SessionState.Standing.{Up, Down}
-use Rattle.model_session.specs.Session.{ServedBy, IsServedUp, IsServedDown, IsRestarted, AreServed, BeginsSession, IsSessionBegun, IsBegunBy}
+use Rattle.model_session.specs.Session.{ServedBy, IsServedUp, IsServedDown, IsRestarted, AreServed, BeginsSession, IsBegunBy, EndsAt}
+use Rattle.session_law.specs.LeftOver.{IsLeftOver}
 use Rattle.session_law.specs.SentAgain.{alone, AreLeft}
 use Rattle.session_law.specs.ColdRuns.{cold_count, colds_in, joined, OpensEmpty, AreEmptyBehind}
 use Rattle.session_law.proofs.LifeEnds.{OpenedWith}
@@ -96,26 +97,26 @@ module _ (setting : Setting) where
   more_divided : (colds most : ℕ) (lives : List LifeState) (last : Option LastLife) (emptied : Bool) → colds ≤ most → Divides colds lives last emptied → Divides most lives last emptied
   more_divided colds most lives last emptied less d = record { runs = d.runs; now = d.now; all = d.all; few = omega (arith, less, d.few); each = d.each; here = d.here; behind = d.behind; first = d.first }
 
-  goes_divided : (colds : ℕ) (lives : List LifeState) (life : LastLife) (emptied : Bool) (entries : List Entry) → Divides colds lives (Some life) emptied → Divides colds lives (Some (longer life entries)) false
-  goes_divided colds lives life emptied entries d = record {
+  goes_divided : (colds : ℕ) (lives : List LifeState) (life : LastLife) (emptied : Bool) (entries : List Entry) (forced : ℕ) → Divides colds lives (Some life) emptied → Divides colds lives (Some (forced_to forced (longer life entries))) false
+  goes_divided colds lives life emptied entries forced d = record {
     runs = d.runs;
     now = d.now;
     all = d.all;
     few = omega (arith, d.few);
     each = d.each;
     here = λ kept. record {
-      left = same_left setting.system d.now (kept_life life kept) (kept_life (longer life entries) kept) refl (d.here kept).left;
-      begins = same_first (Begins setting) d.now (kept_life life kept) (kept_life (longer life entries) kept) refl (d.here kept).begins;
+      left = same_left setting.system d.now (kept_life life kept) (kept_life (forced_to forced (longer life entries)) kept) refl (d.here kept).left;
+      begins = same_first (Begins setting) d.now (kept_life life kept) (kept_life (forced_to forced (longer life entries)) kept) refl (d.here kept).begins;
     };
     behind = λ kept.
-        other_behind setting.system d.runs (d.now ++ kept_life life kept ∷ []) (d.now ++ kept_life (longer life entries) kept ∷ [])
-        (same_empty setting.system d.now (kept_life life kept) (kept_life (longer life entries) kept) refl) (d.behind kept);
-    first = λ none. absurd (some_none (longer life entries) none);
+        other_behind setting.system d.runs (d.now ++ kept_life life kept ∷ []) (d.now ++ kept_life (forced_to forced (longer life entries)) kept ∷ [])
+        (same_empty setting.system d.now (kept_life life kept) (kept_life (forced_to forced (longer life entries)) kept) refl) (d.behind kept);
+    first = λ none. absurd (some_none (forced_to forced (longer life entries)) none);
   }
 
   -- the next life opened with what this one left
   left_divided : (colds : ℕ) (lives : List LifeState) (life : LastLife) (emptied : Bool) (kept checkpoint : ℕ) (state : LastingState) → Divides colds lives (Some life) emptied → LifeLeaves setting.system life kept state
-      → Divides colds (lives ++ kept_life life kept ∷ []) (Some (record { opening = state; checkpoint = checkpoint; history = [] })) false
+      → Divides colds (lives ++ kept_life life kept ∷ []) (Some (record { opening = state; checkpoint = checkpoint; history = []; forced = 0 })) false
   left_divided colds lives life emptied kept checkpoint state d leaves = record {
     runs = d.runs;
     now = d.now ++ kept_life life kept ∷ [];
@@ -123,18 +124,18 @@ module _ (setting : Setting) where
     few = omega (arith, d.few);
     each = d.each;
     here = λ count. record {
-      left = one_left setting.system d.now (kept_life life kept) (kept_life (record { opening = state; checkpoint = checkpoint; history = [] }) count) leaves (d.here kept).left;
-      begins = first_stays (Begins setting) d.now (kept_life life kept) (kept_life (record { opening = state; checkpoint = checkpoint; history = [] }) count) (d.here kept).begins;
+      left = one_left setting.system d.now (kept_life life kept) (kept_life (record { opening = state; checkpoint = checkpoint; history = []; forced = 0 }) count) leaves (d.here kept).left;
+      begins = first_stays (Begins setting) d.now (kept_life life kept) (kept_life (record { opening = state; checkpoint = checkpoint; history = []; forced = 0 }) count) (d.here kept).begins;
     };
     behind = λ count.
-        other_behind setting.system d.runs (d.now ++ kept_life life kept ∷ []) ((d.now ++ kept_life life kept ∷ []) ++ kept_life (record { opening = state; checkpoint = checkpoint; history = [] }) count ∷ [])
-        (empty_stays setting.system d.now (kept_life life kept) (kept_life (record { opening = state; checkpoint = checkpoint; history = [] }) count)) (d.behind kept);
-    first = λ none. absurd (some_none (record { opening = state; checkpoint = checkpoint; history = [] }) none);
+        other_behind setting.system d.runs (d.now ++ kept_life life kept ∷ []) ((d.now ++ kept_life life kept ∷ []) ++ kept_life (record { opening = state; checkpoint = checkpoint; history = []; forced = 0 }) count ∷ [])
+        (empty_stays setting.system d.now (kept_life life kept) (kept_life (record { opening = state; checkpoint = checkpoint; history = []; forced = 0 }) count)) (d.behind kept);
+    first = λ none. absurd (some_none (record { opening = state; checkpoint = checkpoint; history = []; forced = 0 }) none);
   }
 
   -- the first life
   first_divided : (colds : ℕ) (lives : List LifeState) (emptied : Bool) (checkpoint : ℕ) (state : LastingState) → Divides colds lives None emptied → Begins setting state
-      → Divides colds lives (Some (record { opening = state; checkpoint = checkpoint; history = [] })) false
+      → Divides colds lives (Some (record { opening = state; checkpoint = checkpoint; history = []; forced = 0 })) false
   first_divided colds lives emptied checkpoint state d begins = record {
     runs = d.runs;
     now = d.now;
@@ -142,16 +143,16 @@ module _ (setting : Setting) where
     few = omega (arith, d.few);
     each = d.each;
     here = λ count.
-        subst (λ (ls : List LifeState). IsRun setting (ls ++ kept_life (record { opening = state; checkpoint = checkpoint; history = [] }) count ∷ [])) (sym (d.first refl).0)
+        subst (λ (ls : List LifeState). IsRun setting (ls ++ kept_life (record { opening = state; checkpoint = checkpoint; history = []; forced = 0 }) count ∷ [])) (sym (d.first refl).0)
         (record { left = (tt, tt); begins = begins });
     behind = λ count.
-        subst (λ (rs : List (List LifeState)). AreEmptyBehind setting.system (rs ++ (d.now ++ kept_life (record { opening = state; checkpoint = checkpoint; history = [] }) count ∷ []) ∷ [])) (sym (d.first refl).1) tt;
-    first = λ none. absurd (some_none (record { opening = state; checkpoint = checkpoint; history = [] }) none);
+        subst (λ (rs : List (List LifeState)). AreEmptyBehind setting.system (rs ++ (d.now ++ kept_life (record { opening = state; checkpoint = checkpoint; history = []; forced = 0 }) count ∷ []) ∷ [])) (sym (d.first refl).1) tt;
+    first = λ none. absurd (some_none (record { opening = state; checkpoint = checkpoint; history = []; forced = 0 }) none);
   }
 
   -- the next life opened with the empty state
   empty_divided : (colds most : ℕ) (lives : List LifeState) (life : LastLife) (emptied : Bool) (kept checkpoint : ℕ) (state : LastingState) → (d : Divides colds lives (Some life) emptied) → length d.runs + 1 ≤ most
-      → state ≡ empty_state setting.system → Divides most (lives ++ kept_life life kept ∷ []) (Some (record { opening = state; checkpoint = checkpoint; history = [] })) false
+      → state ≡ empty_state setting.system → Divides most (lives ++ kept_life life kept ∷ []) (Some (record { opening = state; checkpoint = checkpoint; history = []; forced = 0 })) false
   empty_divided colds most lives life emptied kept checkpoint state d few is =
       let run : List LifeState = d.now ++ kept_life life kept ∷ [] in
       record {
@@ -161,13 +162,13 @@ module _ (setting : Setting) where
         few = omega (arith, few, length-append d.runs (run ∷ []));
         each = all_more (IsRun setting) d.runs run d.each (d.here kept);
         here = λ count. record { left = (tt, tt); begins = inr is };
-        behind = λ count. one_behind setting.system (d.runs ++ run ∷ []) (kept_life (record { opening = state; checkpoint = checkpoint; history = [] }) count ∷ []) (d.behind kept) is;
-        first = λ none. absurd (some_none (record { opening = state; checkpoint = checkpoint; history = [] }) none);
+        behind = λ count. one_behind setting.system (d.runs ++ run ∷ []) (kept_life (record { opening = state; checkpoint = checkpoint; history = []; forced = 0 }) count ∷ []) (d.behind kept) is;
+        first = λ none. absurd (some_none (record { opening = state; checkpoint = checkpoint; history = []; forced = 0 }) none);
       }
 
   found_divided : (colds : ℕ) (lives : List LifeState) (last : Option LastLife) (emptied stopped : Bool) (kept checkpoint : ℕ) (state : LastingState) → Divides colds lives last emptied
       → MayBeFound setting (record { last = last; emptied = emptied; stopped = stopped }) kept state
-      → Divides colds (with_life lives last kept) (Some (record { opening = state; checkpoint = checkpoint; history = [] })) false
+      → Divides colds (with_life lives last kept) (Some (record { opening = state; checkpoint = checkpoint; history = []; forced = 0 })) false
   found_divided colds lives None emptied stopped kept checkpoint state d (inl found) = first_divided colds lives emptied checkpoint state d (inl found)
   found_divided colds lives None emptied stopped kept checkpoint state d (inr empty) = first_divided colds lives emptied checkpoint state d (inr empty.empty)
   found_divided colds lives (Some life) emptied stopped kept checkpoint state d (inl leaves) = left_divided colds lives life emptied kept checkpoint state d leaves
@@ -175,7 +176,7 @@ module _ (setting : Setting) where
       empty_divided colds colds lives life emptied kept checkpoint state d (subst (λ (b : Bool). length d.runs + one_if b ≤ colds) empty.broke_off d.few) empty.empty
 
   cold_divided : (colds : ℕ) (lives : List LifeState) (last : Option LastLife) (emptied : Bool) (kept checkpoint : ℕ) (state : LastingState) → Divides colds lives last emptied → state ≡ empty_state setting.system
-      → Divides (colds + 1) (with_life lives last kept) (Some (record { opening = state; checkpoint = checkpoint; history = [] })) false
+      → Divides (colds + 1) (with_life lives last kept) (Some (record { opening = state; checkpoint = checkpoint; history = []; forced = 0 })) false
   cold_divided colds lives None emptied kept checkpoint state d is = more_divided colds (colds + 1) lives _ false (omega arith) (first_divided colds lives emptied checkpoint state d (inr is))
   cold_divided colds lives (Some life) emptied kept checkpoint state d is = empty_divided colds (colds + 1) lives life emptied kept checkpoint state d (omega (arith, d.few)) is
 
@@ -195,19 +196,20 @@ module _ (setting : Setting) where
     same_divided : (colds : ℕ) (old new : SessionState) → new ≡ old → Divided colds old → Divided colds new
     same_divided colds old new same d = subst (Divided colds) (sym same) d
 
-    called_divided : (colds : ℕ) (b : Bool) (old : SessionState) (life : LastLife) (entries : List Entry) → AtStanding colds old.lives (Up life) → Divided colds (called_on b old life entries)
-    called_divided colds true old life entries d = goes_divided colds old.lives life false entries d
-    called_divided colds false old life entries d = goes_divided colds old.lives life false entries d
+    called_divided : (colds : ℕ) (b : Bool) (old : SessionState) (life : LastLife) (entries : List Entry) (forced : ℕ) → AtStanding colds old.lives (Up life) → Divided colds (called_on b old life entries forced)
+    called_divided colds true old life entries forced d = goes_divided colds old.lives life false entries forced d
+    called_divided colds false old life entries forced d = goes_divided colds old.lives life false entries forced d
 
     up_divided : (colds : ℕ) (asked : Asked) (old : SessionState) (life : LastLife) (new : SessionState) (text : List ℕ) → Divided colds old → AtStanding colds old.lives (Up life) → IsServedUp asked setting old life new text → Divided colds new
     up_divided colds (Bad rule) old life new text d at (same, printed) = same_divided colds old new same d
     up_divided colds (BadCommand rule) old life new text d at (same, printed) = same_divided colds old new same d
     up_divided colds (Stopped terminal number reason) old life new text d at (same, printed) = same_divided colds old new same d
-    up_divided colds (Call call) old life new text d at (inl one) = subst (Divided colds) (sym one.goes) (called_divided colds (ends_life one.entry) old life (one.entry ∷ []) at)
-    up_divided colds (Call call) old life new text d at (inr one) = subst (Divided colds) (sym one.ends) (goes_divided colds old.lives life false (one.entry ∷ []) at)
-    up_divided colds (Quiet most) old life new text d at (inl one) = subst (Divided colds) (sym one.goes) (called_divided colds false old life one.turns at)
-    up_divided colds (Quiet most) old life new text d at (inr one) = subst (Divided colds) (sym one.ends) (goes_divided colds old.lives life false (one.turns ++ one.entry ∷ []) at)
-    up_divided colds (Power pick) old life new text d at (same, printed) = subst (Divided colds) (sym same) (goes_divided colds old.lives life false [] at)
+    up_divided colds (Call call) old life new text d at (inl one) = subst (Divided colds) (sym one.goes) (called_divided colds (ends_life one.entry) old life (one.entry ∷ []) one.forced at)
+    up_divided colds (Call call) old life new text d at (inr (inl one)) = subst (Divided colds) (sym one.ends) (goes_divided colds old.lives life false (one.entry ∷ []) one.forced at)
+    up_divided colds (Call call) old life new text d at (inr (inr one)) = subst (Divided colds) (sym one.ends) (goes_divided colds old.lives life false (one.entry ∷ failed_force ∷ []) one.forced at)
+    up_divided colds (Quiet most) old life new text d at (inl one) = subst (Divided colds) (sym one.goes) (called_divided colds false old life one.turns one.forced at)
+    up_divided colds (Quiet most) old life new text d at (inr one) = subst (Divided colds) (sym one.ends) (goes_divided colds old.lives life false (one.turns ++ one.entry ∷ []) one.forced at)
+    up_divided colds (Power pick) old life new text d at (same, printed) = subst (Divided colds) (sym same) (goes_divided colds old.lives life false [] life.forced at)
     up_divided colds (PowerIn writes pick) old life new text d at (same, printed) = subst (Divided colds) (sym same) d
     up_divided colds Restart old life new text d at (same, printed) = same_divided colds old new same d
     up_divided colds ColdStart old life new text d at (same, printed) = same_divided colds old new same d
@@ -262,7 +264,7 @@ module _ (setting : Setting) where
 
     begun_divided : (colds : ℕ) (asked : Asked) (old : SessionState) (standing : Standing) (new : SessionState) → old.standing ≡ standing → IsBegunBy asked setting.system old standing new → Divided colds old → Divided colds new
     begun_divided colds (Quiet most) old (Up life) new at (inl same) d = same_divided colds old new same d
-    begun_divided colds (Quiet most) old (Up life) new at (inr one) d = subst (Divided colds) (sym one.goes) (called_divided colds false old life one.turns (subst (AtStanding colds old.lives) at d))
+    begun_divided colds (Quiet most) old (Up life) new at (inr one) d = subst (Divided colds) (sym one.goes) (called_divided colds false old life one.turns one.forced (subst (AtStanding colds old.lives) at d))
     begun_divided colds (Quiet most) old (Down outage) new at same d = same_divided colds old new same d
     begun_divided colds (Bad rule) old standing new at same d = same_divided colds old new same d
     begun_divided colds (BadCommand rule) old standing new at same d = same_divided colds old new same d
@@ -273,10 +275,16 @@ module _ (setting : Setting) where
     begun_divided colds Restart old standing new at same d = same_divided colds old new same d
     begun_divided colds ColdStart old standing new at same d = same_divided colds old new same d
 
-    left_over : (colds : ℕ) (others : List Block) (mid last : SessionState) → (last ≡ mid) ⊎ IsSessionBegun setting.system others mid last → Divided colds mid → Divided colds last
+    ended_divided : (colds : ℕ) (old : SessionState) (standing : Standing) (new : SessionState) (text : List ℕ) → old.standing ≡ standing → EndsAt standing setting.system old new text → Divided colds old → Divided colds new
+    ended_divided colds old (Up life) new text at (inl forced) d = subst (Divided colds) (sym forced.goes) (called_divided colds false old life [] forced.forced (subst (AtStanding colds old.lives) at d))
+    ended_divided colds old (Up life) new text at (inr cut) d = subst (Divided colds) (sym cut.ends) (goes_divided colds old.lives life false (failed_force ∷ []) life.forced (subst (AtStanding colds old.lives) at d))
+    ended_divided colds old (Down outage) new text at (same, none) d = same_divided colds old new same d
+
+    left_over : (colds : ℕ) (others : List Block) (mid last : SessionState) → IsLeftOver setting.system others mid last → Divided colds mid → Divided colds last
     left_over colds others mid last (inl same) d = same_divided colds mid last same d
-    left_over colds [] mid last (inr same) d = same_divided colds mid last same d
-    left_over colds (block ∷ others) mid last (inr one) d = begun_divided colds (asked_of setting.system block) mid mid.standing last refl one d
+    left_over colds [] mid last (inr (inl same)) d = same_divided colds mid last same d
+    left_over colds (block ∷ others) mid last (inr (inl one)) d = begun_divided colds (asked_of setting.system block) mid mid.standing last refl one d
+    left_over colds others mid last (inr (inr (text, ends))) d = ended_divided colds mid mid.standing last text refl ends d
 
     -- ---- all lives
 
@@ -293,7 +301,7 @@ module _ (setting : Setting) where
         ap (λ (ls : List LifeState). ls ++ kept_life life kept ∷ []) all ∙ append_assoc (joined runs) now (kept_life life kept ∷ []) ∙ sym (joined_more runs (now ++ kept_life life kept ∷ []))
 
     pub lives_parted : (blocks others : List Block) (first mid last : SessionState) (text : List ℕ) (lives : List LifeState) → BeginsSession setting first → AreServed setting blocks first mid text
-        → (last ≡ mid) ⊎ IsSessionBegun setting.system others mid last → AreAllLives setting.system last lives → ArePartedAs (colds_in setting.system blocks) lives
+        → IsLeftOver setting.system others mid last → AreAllLives setting.system last lives → ArePartedAs (colds_in setting.system blocks) lives
     lives_parted blocks others first mid last text lives begins served left all =
         let d : Divided (0 + colds_in setting.system blocks) last = left_over (0 + colds_in setting.system blocks) others mid last left (blocks_divided 0 blocks first mid text served (first_of_session first begins)) in
         let run : List LifeState = with_life d.now (last_life last.standing) all.count in

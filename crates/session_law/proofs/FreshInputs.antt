@@ -1,5 +1,5 @@
--- An input in whose call the disk failed is known from then on, or fresh until it is taken.
-use Rattle.std.proofs.Common.{◌≡◌, ◌⊎◌, inl, inr, ⊎_elim, ℕ, ◌+◌, ◌<◌, Bool, true, false, not, ◌&&◌, List, [], ◌∷◌, ◌++◌, refl, sym, ap, ◌∙◌, subst, arith, nat_lt}
+-- An input in whose call, or in the force behind it, the disk failed is known from then on, or fresh until it is taken.
+use Rattle.std.proofs.Common.{◌≡◌, ◌≢◌, ◌⊎◌, inl, inr, ⊎_elim, ℕ, ◌+◌, ◌<◌, Bool, true, false, not, ◌&&◌, List, [], ◌∷◌, ◌++◌, refl, sym, ap, ◌∙◌, subst, arith, nat_lt}
 use Rattle.std.specs.Prelude.{Option, Some, None, Result, Ok, Err, nat_le, ◌==◌, if◌then◌else◌}
 use Rattle.std.specs.Option.{is_some, option_map_or, option_and_then, option_or, unwrap_or}
 use Rattle.std.specs.Str.{bytes_eq}
@@ -24,14 +24,13 @@ use Rattle.model_machine.specs.Machine.{LastingState, Moment, start_of, terminal
 use Rattle.model_machine.specs.LastingSteps.{KeptInput, applied, kept_input}
 use Rattle.model_machine.specs.CommandAnswers.{state_now}
 use Rattle.model_machine.specs.MachineCalls.{Refusal, by_number, busy_by, most_segments, by_count, accepted_step, input_answer}
-use Rattle.model_machine.specs.History.{May, AreSteps, IsEnd, after_entry, history_ended_by, is_fault, moment_after}
-use Rattle.model_machine.proofs.Histories.{moment_after-append}
-use Rattle.model_session.specs.Lives.{LifeState, AreLegal, life_moment}
+use Rattle.model_machine.specs.History.{May, AreSteps, IsEnd, after_entry, history_ended_by, is_fault}
+use Rattle.model_session.specs.Lives.{LifeState, AreLegal, life_moment, binds, failed_force}
 use Rattle.session_law.specs.ResentInputs.{last_number_of}
-use Rattle.session_law.specs.SentAgain.{alone, IsLeftBy, AreLeft, entries_of_lives, IsFresh, AllKnow, LivesKnow, IsFreshInput, takes_input, fails_input, FreshUntilTaken, IsInDoubt, SettlesDoubt, KnowsInputs}
+use Rattle.session_law.specs.SentAgain.{alone, IsLeftBy, AreLeft, AreBound, entries_of_lives, IsFresh, AllKnow, LivesKnow, IsFreshInput, takes_input, fails_input, FreshUntilTaken, IsInDoubt, SettlesDoubt, KnowsInputs}
 use Rattle.session_law.proofs.Inputs.{Reached, answer_by, later_refusals, next_by, there_by, taken}
 use Rattle.session_law.proofs.Again.{Stands, last_kept, input_leaves}
-use Rattle.session_law.proofs.LifeEnds.{apart, life_leaves, OpensAfter, opened_in_doubt, linked_behind, legal_behind, OpenedWith, opened_behind, opened_either}
+use Rattle.session_law.proofs.LifeEnds.{apart, HoldsAlong, along_as, along_last, life_leaves, OpensWhole, OpensBefore, kept_to_doubt, opened_in_doubt, linked_behind, legal_behind, bound_behind, OpenedWith, opened_behind, opened_either}
 use Rattle.session_law.proofs.SentAgain.{answers_input, same_terminal, lives_know, above_none, answered_known}
 
 -- ---- answers to inputs
@@ -167,6 +166,18 @@ module _ (system : System) (terminal : List ℕ) (number last : ℕ) (next : num
   step_on moment (Checked freeze answer) may stands untaken = last_kept terminal last system moment (Checked freeze answer) refl stands
   step_on moment (Quiet quiet) may stands untaken = last_kept terminal last system moment (Quiet quiet) refl stands
 
+  -- one that doesn't bind
+  pub unbound_stands : (moment : Moment) (entry : Entry) → May system moment entry → binds entry ≡ false → Stands terminal last moment.lasting → Stands terminal last (after_entry system moment entry).lasting
+  unbound_stands moment (Accept other sent segments answer) may unbound stands =
+      unless_new moment other sent segments answer
+      (λ id is new. apart (sym (ap (λ (a : Result Taken InputRefused). binds (Accept other sent segments a)) (answers_input system moment other sent segments answer may ∙ new)) ∙ unbound)) stands
+  unbound_stands moment (Show other answer) may unbound stands = last_kept terminal last system moment (Show other answer) refl stands
+  unbound_stands moment (AckedEntry other n answer) may unbound stands = last_kept terminal last system moment (AckedEntry other n answer) refl stands
+  unbound_stands moment (TurnEntry region answer) may unbound stands = last_kept terminal last system moment (TurnEntry region answer) refl stands
+  unbound_stands moment (Commanded command answer) may unbound stands = last_kept terminal last system moment (Commanded command answer) refl stands
+  unbound_stands moment (Checked freeze answer) may unbound stands = last_kept terminal last system moment (Checked freeze answer) refl stands
+  unbound_stands moment (Quiet quiet) may unbound stands = last_kept terminal last system moment (Quiet quiet) refl stands
+
   -- one that met a fault
   fault_fails : (other : List ℕ) (sent : ℕ) (segments : List (List ℕ)) (answer : Result Taken InputRefused) → is_fault (Accept other sent segments answer) ≡ true → fails_input terminal number (Accept other sent segments answer) ≡ bytes_eq other terminal && (sent == number)
   fault_fails other sent segments (Ok (New id)) e = cc
@@ -251,35 +262,41 @@ module _ (system : System) (terminal : List ℕ) (number last : ℕ) (next : num
   GoesOn (Some entry) behind = FreshUntilTaken terminal number behind ⊎ ((fails_input terminal number entry ≡ true) × AllKnow terminal number behind)
 
   steps_fresh : (steps : List Entry) (end : Option Entry) (moment : Moment) (behind : List Entry) → AreSteps system moment steps → IsEnd system end → Stands terminal last moment.lasting
-      → (Stands terminal last (moment_after system moment steps).lasting → GoesOn end behind) → FreshUntilTaken terminal number (history_ended_by steps end ++ behind)
+      → (HoldsAlong (Stands terminal last) system moment steps → GoesOn end behind) → FreshUntilTaken terminal number (history_ended_by steps end ++ behind)
   steps_fresh [] None moment behind legal is stands on = on stands
   steps_fresh [] (Some entry) moment behind legal is stands on = (end_fresh entry is.0, λ untaken. on stands)
   steps_fresh (step ∷ steps) None moment behind legal is stands on =
-      (entry_fresh moment step legal.0 stands, λ untaken. inl (steps_fresh steps None (after_entry system moment step) behind legal.1 is (step_on moment step legal.0 stands untaken) on))
+      (entry_fresh moment step legal.0 stands, λ untaken. inl (steps_fresh steps None (after_entry system moment step) behind legal.1 is (step_on moment step legal.0 stands untaken) (λ along. on (stands, along))))
   steps_fresh (step ∷ steps) (Some entry) moment behind legal is stands on =
-      (entry_fresh moment step legal.0 stands, λ untaken. inl (steps_fresh steps (Some entry) (after_entry system moment step) behind legal.1 is (step_on moment step legal.0 stands untaken) on))
+      (entry_fresh moment step legal.0 stands, λ untaken. inl (steps_fresh steps (Some entry) (after_entry system moment step) behind legal.1 is (step_on moment step legal.0 stands untaken) (λ along. on (stands, along))))
 
   some_number : 0 < number
   some_number = omega (arith, next)
 
   -- behind a life, where it isn't taken in it
   module _ (life : LifeState) (lives : List LifeState) (opens : IsLeftBy system life lives) (linked : AreLeft system lives) (legal : AreLegal system lives) (fresh : OpenedWith (Stands terminal last) lives → FreshUntilTaken terminal number (entries_of_lives lives)) where
-    failed_behind : (steps : List Entry) (entry : Entry) → life.history ≡ history_ended_by steps (Some entry) → AreSteps system (start_of system life.opening) steps → is_fault entry ≡ true
-        → Stands terminal last (life_moment system (alone life) steps).lasting → (b : Bool) → fails_input terminal number entry ≡ b → GoesOn (Some entry) (entries_of_lives lives)
-    failed_behind steps entry all steps_legal fault stands false fails =
+    abbrev Along : List Entry → Type 0
+    Along steps = HoldsAlong (Stands terminal last) system (start_of system life.opening) steps
+
+    failed_behind : (steps : List Entry) (entry : Entry) → life.history ≡ history_ended_by steps (Some entry) → is_fault entry ≡ true → Along steps
+        → (b : Bool) → fails_input terminal number entry ≡ b → GoesOn (Some entry) (entries_of_lives lives)
+    failed_behind steps entry all fault along false fails =
+        let stands = along_last (Stands terminal last) system (start_of system life.opening) steps along in
         inl (fresh
         (opened_behind system (Stands terminal last) life lives
-        (life_leaves system (Stands terminal last) life steps (Some entry) all steps_legal stands (end_on (life_moment system (alone life) steps) entry fault stands fails)) opens))
-    failed_behind steps entry all steps_legal fault stands true fails =
+        (life_leaves system (Stands terminal last) life steps (Some entry) all along (end_on (life_moment system (alone life) steps) entry fault stands fails)) opens))
+    failed_behind steps entry all fault along true fails =
+        let stands = along_last (Stands terminal last) system (start_of system life.opening) steps along in
         ⊎_elim (λ stays. inl (fresh stays)) (λ reached. inr (fails, all_of_lives terminal number lives (lives_know system terminal number lives some_number reached linked legal)))
         (opened_either (Stands terminal last) (Reached terminal number) lives
         (opened_behind system (λ (s : LastingState). Stands terminal last s ⊎ Reached terminal number s) life lives
-        (life_leaves system (λ (s : LastingState). Stands terminal last s ⊎ Reached terminal number s) life steps (Some entry) all steps_legal (inl stands) (failed_on (life_moment system (alone life) steps) entry fails stands)) opens))
+        (life_leaves system (λ (s : LastingState). Stands terminal last s ⊎ Reached terminal number s) life steps (Some entry) all
+        (along_as (Stands terminal last) (λ (s : LastingState). Stands terminal last s ⊎ Reached terminal number s) (λ s h. inl h) system (start_of system life.opening) steps along)
+        (failed_on (life_moment system (alone life) steps) entry fails stands)) opens))
 
-    goes_behind : (steps : List Entry) (end : Option Entry) → life.history ≡ history_ended_by steps end → AreSteps system (start_of system life.opening) steps → IsEnd system end
-        → Stands terminal last (life_moment system (alone life) steps).lasting → GoesOn end (entries_of_lives lives)
-    goes_behind steps None all steps_legal is stands = fresh (opened_behind system (Stands terminal last) life lives (life_leaves system (Stands terminal last) life steps None all steps_legal stands tt) opens)
-    goes_behind steps (Some entry) all steps_legal is stands = failed_behind steps entry all steps_legal is.0 stands (fails_input terminal number entry) refl
+    goes_behind : (steps : List Entry) (end : Option Entry) → life.history ≡ history_ended_by steps end → IsEnd system end → Along steps → GoesOn end (entries_of_lives lives)
+    goes_behind steps None all is along = fresh (opened_behind system (Stands terminal last) life lives (life_leaves system (Stands terminal last) life steps None all along tt) opens)
+    goes_behind steps (Some entry) all is along = failed_behind steps entry all is.0 along (fails_input terminal number entry) refl
 
   lives_fresh : (lives : List LifeState) → OpenedWith (Stands terminal last) lives → AreLeft system lives → AreLegal system lives → FreshUntilTaken terminal number (entries_of_lives lives)
   lives_fresh [] stands linked legal = tt
@@ -287,25 +304,27 @@ module _ (system : System) (terminal : List ℕ) (number last : ℕ) (next : num
       let its = legal.0.legal in
       subst (λ (h : List Entry). FreshUntilTaken terminal number (h ++ entries_of_lives lives)) (sym its.all)
       (steps_fresh its.steps its.last (start_of system life.opening) (entries_of_lives lives) its.legal its.end stands
-      (goes_behind life lives linked.0 linked.1 legal.1 (λ opened. lives_fresh lives opened linked.1 legal.1) its.steps its.last its.all its.legal its.end))
+      (goes_behind life lives linked.0 linked.1 legal.1 (λ opened. lives_fresh lives opened linked.1 legal.1) its.steps its.last its.all its.end))
 
--- ---- one in whose call the disk failed
+-- ---- one in whose call, or in the force behind it, the disk failed
 
-module _ (system : System) (terminal : List ℕ) (number : ℕ) (life next : LifeState) (later : List LifeState) (linked : AreLeft system (life ∷ next ∷ later)) (legal : AreLegal system (life ∷ next ∷ later)) (doubt : IsInDoubt system life terminal number) where
+accept_apart : (terminal : List ℕ) (number : ℕ) (segments : List (List ℕ)) (answer : Result Taken InputRefused) → Accept terminal number segments answer ≢ failed_force
+accept_apart terminal number segments answer e = cc
+
+module _ (system : System) (terminal : List ℕ) (number : ℕ) (life next : LifeState) (later : List LifeState) (linked : AreLeft system (life ∷ next ∷ later)) (legal : AreLegal system (life ∷ next ∷ later)) (bound : AreBound system (life ∷ next ∷ later)) (doubt : IsInDoubt system life terminal number) where
   abbrev entry : Entry
   entry = Accept terminal number doubt.segments doubt.answer
 
   abbrev moment_then : Moment
   moment_then = life_moment system (alone life) doubt.before
 
-  kept_known : OpensAfter system life next life.history → SettlesDoubt system life (next ∷ later) terminal number doubt.before
+  kept_known : OpensWhole system life next doubt.before entry → SettlesDoubt system life (next ∷ later) terminal number doubt.before
   kept_known opens =
       let low : Reached terminal number (after_entry system moment_then entry).lasting = taken system moment_then terminal number doubt.segments doubt.id doubt.new in
-      let opened : Reached terminal number next.opening =
-      subst (λ (s : LastingState). Reached terminal number s)
-      (sym (opens.opening ∙ ap (λ (es : List Entry). (life_moment system (alone life) es).lasting) doubt.all ∙ ap (λ (m : Moment). m.lasting) (moment_after-append system (start_of system life.opening) doubt.before entry)))
-      low in
-      inl (opens.counted, lives_know system terminal number (next ∷ later) (above_none system terminal number doubt.id doubt.segments moment_then doubt.new) opened linked.1 legal.1)
+      inl (
+        opens.counted,
+        lives_know system terminal number (next ∷ later) (above_none system terminal number doubt.id doubt.segments moment_then doubt.new) (subst (Reached terminal number) (sym opens.opening) low) linked.1 legal.1,
+      )
 
   number_is : number ≡ last_number_of terminal moment_then.lasting + 1
   number_is =
@@ -316,24 +335,29 @@ module _ (system : System) (terminal : List ℕ) (number : ℕ) (life next : Lif
           next_by (terminal_at moment_then.lasting.terminals terminal) number moment_then.lasting.next_id doubt.id (later_refusals system moment_then terminal doubt.segments) doubt.new u e
           ∙ ap (λ (o : Option TerminalState). option_map_or (λ (w : TerminalState). w.last) o 0 + 1) (sym e)
 
-  lost_fresh : OpensAfter system life next doubt.before → SettlesDoubt system life (next ∷ later) terminal number doubt.before
+  -- No input of the terminal that was accepted before is lost.
+  last_before : OpensBefore system life next doubt.before → last_number_of terminal moment_then.lasting ≡ last_number_of terminal next.opening
+  last_before opens =
+      kept_to_doubt system life next doubt.before doubt.after entry legal.0 bound.0 doubt.all (accept_apart terminal number doubt.segments doubt.answer) opens (Stands terminal (last_number_of terminal next.opening))
+      (unbound_stands system terminal (last_number_of terminal next.opening + 1) (last_number_of terminal next.opening) refl) refl
+
+  lost_fresh : OpensBefore system life next doubt.before → SettlesDoubt system life (next ∷ later) terminal number doubt.before
   lost_fresh opens =
-      inr (
-        opens.counted,
-        lives_fresh system terminal number (last_number_of terminal moment_then.lasting) number_is (next ∷ later) (ap (last_number_of terminal) opens.opening) linked.1 legal.1,
-      )
+      inr (opens.few, lives_fresh system terminal number (last_number_of terminal moment_then.lasting) number_is (next ∷ later) (sym (last_before opens)) linked.1 legal.1)
 
   pub doubt_settled : SettlesDoubt system life (next ∷ later) terminal number doubt.before
-  doubt_settled = ⊎_elim kept_known lost_fresh (opened_in_doubt system life next doubt.before entry legal.0 linked.0 doubt.all doubt.fault)
+  doubt_settled = ⊎_elim kept_known lost_fresh (opened_in_doubt system life next doubt.before doubt.after entry linked.0 doubt.all doubt.doubted)
 
 -- ---- all of it
 
-pub inputs_known : (system : System) (lives : List LifeState) → AreLeft system lives → AreLegal system lives → KnowsInputs system lives
-inputs_known system lives linked legal = record {
-  answered = λ before later life front rest terminal number id segments split all.
+pub inputs_known : (system : System) (lives : List LifeState) → AreLeft system lives → AreLegal system lives → AreBound system lives → KnowsInputs system lives
+inputs_known system lives linked legal bound = record {
+  answered = λ before later life front rest terminal number id segments split all goes_on.
       answered_known system terminal number id segments life later front rest
-      (linked_behind system before (life ∷ later) (subst (AreLeft system) split linked)) (legal_behind system before (life ∷ later) (subst (AreLegal system) split legal)) all;
+      (linked_behind system before (life ∷ later) (subst (AreLeft system) split linked)) (legal_behind system before (life ∷ later) (subst (AreLegal system) split legal))
+      (bound_behind system before (life ∷ later) (subst (AreBound system) split bound)) all goes_on;
   in_doubt = λ before later life next terminal number split doubt.
       doubt_settled system terminal number life next later
-      (linked_behind system before (life ∷ next ∷ later) (subst (AreLeft system) split linked)) (legal_behind system before (life ∷ next ∷ later) (subst (AreLegal system) split legal)) doubt;
+      (linked_behind system before (life ∷ next ∷ later) (subst (AreLeft system) split linked)) (legal_behind system before (life ∷ next ∷ later) (subst (AreLegal system) split legal))
+      (bound_behind system before (life ∷ next ∷ later) (subst (AreBound system) split bound)) doubt;
 }

@@ -33,11 +33,11 @@ use Rattle.model_machine.specs.LastingSteps.LastingStep.{Accepts, Acknowledges, 
 use Rattle.model_machine.specs.MachineCalls.{Refusal, by_number, first_refusal, busy_conversation, unknown_code, stopped_code, many_segments, no_room, accepted_step, acknowledged_step, input_answer, ack_answer, lasting_step}
 use Rattle.model_machine.specs.History.{call_of, after_entry}
 use Rattle.model_session.specs.Blocks.{Block}
-use Rattle.model_session.specs.Lives.{LastLife, life_moment, now_in, longer}
+use Rattle.model_session.specs.Lives.{LastLife, IsForcedTo, binds, forced_to, life_moment, now_in, longer}
 use Rattle.model_session.specs.SessionState.{Setting, SessionState, life_gone_on}
 use Rattle.model_session.specs.Session.{AreServed}
-use Rattle.session_law.specs.ResentInputs.{last_number_of, HasAlways, IsKeptBy, any_call, all_ask_only}
-use Rattle.session_law.proofs.Sessions.{kept_over, leaves_with, up_has}
+use Rattle.session_law.specs.ResentInputs.{last_number_of, HasAlways, IsForcedWithin, IsKeptBy, any_call, all_ask_only}
+use Rattle.session_law.proofs.Sessions.{kept_over, leaves_all, up_has}
 use Rattle.tm_types.proofs.Positions.{less_more, zero_less, found}
 
 -- ---- the terminal of a name
@@ -307,21 +307,23 @@ taken system moment terminal number segments id new =
     by : (u : TerminalState) × (terminal_at moment.lasting.terminals terminal ≡ Some u) → number ≤ last_in terminal (change_named terminal (with_last_number number) moment.lasting.terminals)
     by (u, e) = given_at terminal number moment.lasting.terminals u e
 
--- Once an input was answered as accepted in a session, whatever a stop leaves behind any further lines, a cold start apart, has its
+-- Once an input was printed as accepted in a session, whatever a stop leaves behind any further lines, a cold start apart, has its
 -- number as one that its terminal has used. So it is not accepted again (`not_new`), but told that it was accepted before
 -- (`already`).
-pub accepted_once : (setting : Setting) (terminal : List ℕ) (number id : ℕ) (segments : List (List ℕ)) (life : LastLife) (old mid new : SessionState) (blocks : List Block) (text : List ℕ)
+pub accepted_once : (setting : Setting) (terminal : List ℕ) (number id forced : ℕ) (segments : List (List ℕ)) (life : LastLife) (old mid new : SessionState) (blocks : List Block) (text : List ℕ)
     → setting.tells ≡ true
     → input_answer setting.system (now_in setting.system life) terminal number segments ≡ Ok (New id)
-    → mid ≡ life_gone_on old life (Accept terminal number segments (Ok (New id)) ∷ [])
+    → IsForcedTo setting.system (longer life (Accept terminal number segments (Ok (New id)) ∷ [])) (binds (Accept terminal number segments (Ok (New id)))) forced
+    → mid ≡ life_gone_on old life (Accept terminal number segments (Ok (New id)) ∷ []) forced
     → all_ask_only any_call setting.system blocks ≡ true → AreServed setting blocks mid new text
     → HasAlways (Reached terminal number) setting new.standing
-accepted_once setting terminal number id segments life old mid new blocks text tells new_input goes all served =
+accepted_once setting terminal number id forced segments life old mid new blocks text tells new_input is_forced goes all served =
     kept_over (Reached terminal number) setting any_call (λ region. refl) (numbers_kept terminal number setting.system) blocks mid new text tells all served
+    (subst (λ (s : SessionState). IsForcedWithin setting.system s.standing) (sym goes) is_forced.most)
     (subst (λ (s : SessionState). HasAlways (Reached terminal number) setting s.standing) (sym goes)
     (up_has (Reached terminal number) setting any_call (λ region. refl) (numbers_kept terminal number setting.system)
-    (longer life (entry ∷ []))
-    (leaves_with (Reached terminal number) setting.system any_call life entry refl
+    (forced_to forced (longer life (entry ∷ [])))
+    (leaves_all (Reached terminal number) setting.system (forced_to forced (longer life (entry ∷ []))) (is_forced.all refl)
     (subst (λ (m : Moment). Reached terminal number m.lasting) (sym (moment_after-append setting.system (life_moment setting.system life []) life.history entry))
     (taken setting.system (now_in setting.system life) terminal number segments id new_input)))))
   where

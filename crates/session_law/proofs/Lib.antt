@@ -1,3 +1,4 @@
+pub mod ForcedWithin
 pub mod Sessions
 pub mod Steps
 pub mod Inputs
@@ -18,7 +19,10 @@ pub mod Linked
 pub mod ColdRuns
 pub mod ShownAgain
 pub mod NumberedReplies
+pub mod StaysOrGone
 pub mod AcksInDoubt
+pub mod Bound
+pub mod Ended
 pub mod SerialMessages
 pub mod SerialPicks
 pub mod SerialSlots

@@ -1,5 +1,5 @@
 -- The numbers of the replies that a terminal is shown never fall.
-use Rattle.std.proofs.Common.{◌≡◌, ℕ, ◌+◌, ◌<◌, ◌≤◌, Bool, true, false, List, [], ◌∷◌, ◌++◌, Option, Some, None, refl, sym, ap, ◌∙◌, subst, cond, arith, append_assoc}
+use Rattle.std.proofs.Common.{◌≡◌, ◌≢◌, ℕ, ◌+◌, ◌<◌, ◌≤◌, Bool, true, false, List, [], ◌∷◌, ◌++◌, Option, Some, None, refl, sym, ap, ◌∙◌, subst, cond, arith}
 use Rattle.std.specs.Prelude.{Result, Ok, Err, ◌==◌, ◌&&◌, if◌then◌else◌, slice_get, nat_lt, drop}
 use Rattle.std.specs.Option.{is_some, option_map_or}
 use Rattle.std.specs.Str.{bytes_eq}
@@ -29,13 +29,14 @@ use Rattle.model_machine.specs.LastingSteps.{LastingStep, applied, output_sent, 
 use Rattle.model_machine.specs.LastingSteps.LastingStep.{Accepts, Acknowledges, Completes, Discards, Commands}
 use Rattle.model_machine.specs.MachineCalls.{acknowledged_step, ack_by, ack_answer, show_to, show_by, show_answer, lasting_step}
 use Rattle.model_machine.specs.History.{May, AreSteps, IsEnd, call_of, after_entry, history_ended_by, is_fault, moment_after}
-use Rattle.model_session.specs.Lives.{LifeState, LastLife, AreLegal, longer}
+use Rattle.model_machine.proofs.Histories.{moment_after-append}
+use Rattle.model_session.specs.Lives.{LifeState, AreLegal, life_moment, failed_force}
 use Rattle.session_law.specs.ResentInputs.{IsKeptBy, any_call}
-use Rattle.session_law.specs.SentAgain.{alone, AreLeft}
+use Rattle.session_law.specs.SentAgain.{alone, AreLeft, IsLifeBound}
 use Rattle.session_law.specs.ShownAgain.{ShowsHigher, AllShowHigher, LivesShowHigher}
 use Rattle.session_law.proofs.Steps.{FineBy, applied_by}
-use Rattle.session_law.proofs.Sessions.{Leaving, begun, leaves_with, more}
-use Rattle.session_law.proofs.LifeEnds.{head_is, tail_is, none_there, ended_more, all_any, OpenedWith, opened_behind}
+use Rattle.session_law.proofs.Sessions.{AllKeep, Leaving, of_kind, opened_leaves}
+use Rattle.session_law.proofs.LifeEnds.{head_is, tail_is, none_there, ended_more, all_any, bound_leaves, OpenedWith, opened_behind}
 
 apart : true ≡ false → ⊥
 apart e = cc
@@ -254,10 +255,12 @@ module _ (terminal : List ℕ) where
   steps_higher system low (step ∷ steps) (Some entry) moment legal end h =
       (entry_higher system low moment step legal.0 h, steps_higher system low steps (Some entry) (after_entry system moment step) legal.1 end (from_kept (low + 1) system moment step refl h))
 
+  all_from : (system : System) (low : ℕ) (entries : List Entry) → AllKeep (AreFrom low) system entries
+  all_from system low entries = of_kind (AreFrom low) system any_call (from_kept low system) entries (all_any entries)
+
   -- what a life leaves, whatever it did
-  life_from : (system : System) (low : ℕ) (life : LifeState) → AreFrom low life.opening → Leaving (AreFrom low) system any_call (alone life)
-  life_from system low life h =
-      more (AreFrom low) system any_call (from_kept low system) (record { opening = life.opening; checkpoint = life.checkpoint; history = [] }) life.history (all_any life.history) (begun (AreFrom low) system any_call life.checkpoint life.opening h)
+  life_from : (system : System) (low : ℕ) (life : LifeState) → AreFrom low life.opening → Leaving (AreFrom low) system (alone life)
+  life_from system low life h = opened_leaves (AreFrom low) system (alone life) (all_from system low life.history) h
 
   pub lives_higher : (system : System) (low : ℕ) (lives : List LifeState) → OpenedWith (AreFrom (low + 1)) lives → AreLeft system lives → AreLegal system lives → LivesShowHigher terminal low lives
   lives_higher system low [] h linked legal = tt
@@ -305,14 +308,30 @@ module _ (terminal : List ℕ) where
         let both = split_and (number == first_number u) (is_some (slice_get u.replies 0)) (removes (nat_lt number (first_number u)) ((number == first_number u) && is_some (slice_get u.replies 0)) (first_number u) e) in
         subst (λ (v : TerminalReplies). (number ≡ first_number v) × (is_some (slice_get v.replies 0) ≡ true)) (some_is u t is) (eqb-true number (first_number u) both.0, both.1)
 
+    -- where its first reply has this number, a terminal has none of them behind the removal of the first, or of all
+    pub first_gone : (outputs : List TerminalReplies) → HoldsAt (IsFrom 0) outputs → ((t : TerminalReplies) → replies_at terminal outputs ≡ Some t → (number ≡ first_number t) × (is_some (slice_get t.replies 0) ≡ true))
+        → HoldsAt (IsFrom (number + 1)) (with_terminal terminal without_first outputs)
+    first_gone outputs h first = λ u e.
+        let was = changed_here without_first (λ t. refl) outputs u e in
+        let its = first was.0 was.1 in
+        let both = removed was.0.next number was.0.replies (h was.0 was.1).numbered its.1 its.0 in
+        subst (IsFrom (number + 1)) (sym was.2) (record { numbered = both.0; least = both.1 })
+
+    run_above : (next : ℕ) (replies : List Reply) → RunUpTo next replies → is_some (slice_get replies 0) ≡ true → number ≡ option_map_or (λ (r : Reply). r.number) (slice_get replies 0) next → number + 1 ≤ next
+    run_above next [] run there is = cc
+    run_above next (r ∷ replies) run there is = omega (arith, run.0, is)
+
+    pub all_gone : (outputs : List TerminalReplies) → HoldsAt (IsFrom 0) outputs → ((t : TerminalReplies) → replies_at terminal outputs ≡ Some t → (number ≡ first_number t) × (is_some (slice_get t.replies 0) ≡ true))
+        → HoldsAt (IsFrom (number + 1)) (with_terminal terminal without_replies outputs)
+    all_gone outputs h first = λ u e.
+        let was = changed_here without_replies (λ t. refl) outputs u e in
+        let its = first was.0 was.1 in
+        subst (IsFrom (number + 1)) (sym was.2) (record { numbered = tt; least = run_above was.0.next was.0.replies (h was.0 was.1).numbered its.1 its.0 })
+
     pub gone_then : (moment : Moment) → ack_answer moment terminal number ≡ Ok Removed → AreFrom 0 moment.lasting → AreFrom (number + 1) (after_entry system moment removal).lasting
     gone_then moment is h =
         subst (λ (answer : Result Acked AckRefused). AreFrom (number + 1) (option_map_or (λ step. applied step moment.lasting) (acknowledged_step terminal answer) moment.lasting)) (sym is)
-        (λ u e.
-        let was = changed_here without_first (λ t. refl) moment.lasting.outputs u e in
-        let first = first_is (output_at moment.lasting.outputs terminal) was.0 was.1 is in
-        let both = removed was.0.next number was.0.replies (h was.0 was.1).numbered first.1 first.0 in
-        subst (IsFrom (number + 1)) (sym was.2) (record { numbered = both.0; least = both.1 }))
+        (first_gone moment.lasting.outputs h (λ t there. first_is (output_at moment.lasting.outputs terminal) t there is))
 
     gone_here : (step : Entry) (steps : List Entry) (last : Option Entry) (moment : Moment) (rest : List Entry) → AreSteps system moment (step ∷ steps) → IsEnd system last → AreFrom 0 moment.lasting → step ≡ removal → history_ended_by steps last ≡ rest
         → IsGone moment [] rest
@@ -343,15 +362,13 @@ module _ (terminal : List ℕ) where
           higher = there.higher;
         }
 
-    pub gone_for_good : (life : LifeState) (later : List LifeState) (front rest : List Entry) → AreLeft system (life ∷ later) → AreLegal system (life ∷ later) → AreFrom 0 life.opening → life.history ≡ front ++ removal ∷ rest
-        → AllShowHigher terminal number rest × LivesShowHigher terminal number later
-    gone_for_good life later front rest linked legal h split =
+    pub gone_for_good : (life : LifeState) (later : List LifeState) (front rest : List Entry) → AreLeft system (life ∷ later) → AreLegal system (life ∷ later) → IsLifeBound system life → AreFrom 0 life.opening
+        → life.history ≡ front ++ removal ∷ rest → rest ≢ failed_force ∷ [] → AllShowHigher terminal number rest × LivesShowHigher terminal number later
+    gone_for_good life later front rest linked legal bound h split goes_on =
         let is = legal.0.legal in
         let there : IsGone (start_of system life.opening) front rest = gone is.steps is.last (start_of system life.opening) front rest is.legal is.end h (sym is.all ∙ split) in
-        let base : LastLife = record { opening = life.opening; checkpoint = life.checkpoint; history = front } in
-        let whole : (front ++ removal ∷ []) ++ rest ≡ life.history = append_assoc front (removal ∷ []) rest ∙ sym split in
-        let left : Leaving (AreFrom (number + 1)) system any_call (alone life) =
-        subst (λ (es : List Entry). Leaving (AreFrom (number + 1)) system any_call (record { opening = life.opening; checkpoint = life.checkpoint; history = es })) whole
-        (more (AreFrom (number + 1)) system any_call (from_kept (number + 1) system) (longer base (removal ∷ [])) rest (all_any rest)
-        (leaves_with (AreFrom (number + 1)) system any_call base removal refl there.from)) in
+        let from : AreFrom (number + 1) (after_entry system (life_moment system (alone life) front) removal).lasting =
+        subst (λ (m : Moment). AreFrom (number + 1) m.lasting) (moment_after-append system (start_of system life.opening) front removal) there.from in
+        let left : Leaving (AreFrom (number + 1)) system (alone life) =
+        bound_leaves (AreFrom (number + 1)) system life front rest removal bound split refl goes_on (all_from system (number + 1) rest) from in
         (there.higher, lives_higher system number later (opened_behind system (AreFrom (number + 1)) life later left linked.0) linked.1 legal.1)

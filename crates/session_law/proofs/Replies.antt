@@ -34,7 +34,7 @@ use Rattle.model_machine.specs.History.{call_of}
 use Rattle.model_session.specs.Blocks.{Block}
 use Rattle.model_session.specs.SessionState.{Setting, SessionState}
 use Rattle.model_session.specs.Session.{AreServed}
-use Rattle.session_law.specs.ResentInputs.{shown_reply, HasAlways, IsKeptBy, spares, all_ask_only}
+use Rattle.session_law.specs.ResentInputs.{shown_reply, HasAlways, IsForcedWithin, IsKeptBy, spares, all_ask_only}
 use Rattle.session_law.proofs.Sessions.{kept_over}
 use Rattle.session_law.proofs.Steps.{FineBy, applied_by, turn_fine, command_fine}
 
@@ -202,9 +202,9 @@ module _ (terminal : List ℕ) (r : Reply) where
   -- So it is whatever stops and restarts lie between, a cold start apart.
   pub shown_again : (setting : Setting) (old new : SessionState) (blocks : List Block) (text : List ℕ)
       → setting.tells ≡ true → all_ask_only (spares terminal) setting.system blocks ≡ true → AreServed setting blocks old new text
-      → HasAlways Waits setting old.standing → HasAlways Waits setting new.standing
-  shown_again setting old new blocks text tells all served has =
-      kept_over Waits setting (spares terminal) (λ region. refl) (replies_kept setting.system) blocks old new text tells all served has
+      → IsForcedWithin setting.system old.standing → HasAlways Waits setting old.standing → HasAlways Waits setting new.standing
+  shown_again setting old new blocks text tells all served within has =
+      kept_over Waits setting (spares terminal) (λ region. refl) (replies_kept setting.system) blocks old new text tells all served within has
 
   -- And it is what the terminal is shown, unless it is stopped.
   pub shown : (moment : Moment) (t : TerminalState) → terminal_at moment.lasting.terminals terminal ≡ Some t → t.stopped ≡ false → Waits moment.lasting → show_answer moment terminal ≡ Showed r.number

@@ -1,5 +1,5 @@
 -- An input that is sent again is answered by what was kept.
-use Rattle.std.proofs.Common.{◌≡◌, ℕ, ◌+◌, ◌-◌, ◌<◌, ◌≤◌, Bool, true, false, List, [], ◌∷◌, ◌++◌, refl, sym, ap, ◌∙◌, subst, arith, append_assoc, nat_lt}
+use Rattle.std.proofs.Common.{◌≡◌, ◌≢◌, ℕ, ◌+◌, ◌<◌, ◌≤◌, Bool, true, false, List, [], ◌∷◌, ◌++◌, refl, sym, ap, ◌∙◌, subst, arith, nat_lt}
 use Rattle.std.specs.Prelude.{Option, Some, None, Result, Ok, Err, nat_le, if◌then◌else◌}
 use Rattle.std.specs.Option.{option_map_or, option_or, unwrap_or}
 use Rattle.std.specs.Str.{bytes_eq}
@@ -16,11 +16,12 @@ use Rattle.model_machine.specs.declared.entry.InputRefused.TheVariants.{Terminal
 use Rattle.model_machine.specs.Machine.{Moment, start_of, terminal_at}
 use Rattle.model_machine.specs.MachineCalls.{Refusal, by_number, input_answer}
 use Rattle.model_machine.specs.History.{May, AreSteps, IsEnd, after_entry, history_ended_by, is_fault, moment_after}
-use Rattle.model_session.specs.Lives.{LifeState, LastLife, AreLegal, longer}
+use Rattle.model_machine.proofs.Histories.{moment_after-append}
+use Rattle.model_session.specs.Lives.{LifeState, AreLegal, life_moment, failed_force}
 use Rattle.session_law.specs.ResentInputs.{last_number_of, any_call}
-use Rattle.session_law.specs.SentAgain.{alone, AreLeft, IsInputKnown, KnowsInput, AllKnow, LivesKnow}
-use Rattle.session_law.proofs.Sessions.{Leaving, begun, leaves_with, more}
-use Rattle.session_law.proofs.LifeEnds.{head_is, tail_is, none_there, apart, ended_more, all_any, OpenedWith, opened_behind}
+use Rattle.session_law.specs.SentAgain.{alone, AreLeft, AreBound, IsInputKnown, KnowsInput, AllKnow, LivesKnow}
+use Rattle.session_law.proofs.Sessions.{Leaving, of_kind, opened_leaves}
+use Rattle.session_law.proofs.LifeEnds.{head_is, tail_is, none_there, apart, ended_more, all_any, bound_leaves, OpenedWith, opened_behind}
 use Rattle.session_law.proofs.Inputs.{Reached, answer_by, later_refusals, next_by, there_by, numbers_kept, taken}
 
 -- ---- answers to inputs
@@ -99,16 +100,18 @@ module _ (system : System) (terminal : List ℕ) (number : ℕ) where
   steps_know (step ∷ steps) (Some entry) moment legal end some low =
       (entry_knows moment step legal.0 some low, steps_know steps (Some entry) (after_entry system moment step) legal.1 end some (numbers_kept terminal number system moment step refl low))
 
+  -- whatever a life leaves that opened so
+  pub reached_leaves : (life : LifeState) → Reached terminal number life.opening → Leaving (Reached terminal number) system (alone life)
+  reached_leaves life low =
+      opened_leaves (Reached terminal number) system (alone life)
+      (of_kind (Reached terminal number) system any_call (numbers_kept terminal number system) life.history (all_any life.history)) low
+
   pub lives_know : (lives : List LifeState) → 0 < number → OpenedWith (Reached terminal number) lives → AreLeft system lives → AreLegal system lives → LivesKnow terminal number lives
   lives_know [] some low linked legal = tt
   lives_know (life ∷ lives) some low linked legal =
       let is = legal.0.legal in (
         subst (AllKnow terminal number) (sym is.all) (steps_know is.steps is.last (start_of system life.opening) is.legal is.end some low),
-        lives_know lives some
-            (opened_behind system (Reached terminal number) life lives
-            (more (Reached terminal number) system any_call (numbers_kept terminal number system) (record { opening = life.opening; checkpoint = life.checkpoint; history = [] }) life.history (all_any life.history)
-            (begun (Reached terminal number) system any_call life.checkpoint life.opening low)) linked.0)
-            linked.1 legal.1,
+        lives_know lives some (opened_behind system (Reached terminal number) life lives (reached_leaves life low) linked.0) linked.1 legal.1,
       )
 
   -- ---- one that was answered as new
@@ -164,15 +167,14 @@ module _ (system : System) (terminal : List ℕ) (number : ℕ) where
           know = there.know;
         }
 
-    pub answered_known : (life : LifeState) (later : List LifeState) (front rest : List Entry) → AreLeft system (life ∷ later) → AreLegal system (life ∷ later) → life.history ≡ front ++ taken_entry ∷ rest
-        → AllKnow terminal number rest × LivesKnow terminal number later
-    answered_known life later front rest linked legal split =
+    pub answered_known : (life : LifeState) (later : List LifeState) (front rest : List Entry) → AreLeft system (life ∷ later) → AreLegal system (life ∷ later) → AreBound system (life ∷ later)
+        → life.history ≡ front ++ taken_entry ∷ rest → rest ≢ failed_force ∷ [] → AllKnow terminal number rest × LivesKnow terminal number later
+    answered_known life later front rest linked legal bound split goes_on =
         let is = legal.0.legal in
         let there : IsPlaced (start_of system life.opening) front rest = placed is.steps is.last (start_of system life.opening) front rest is.legal is.end (sym is.all ∙ split) in
-        let base : LastLife = record { opening = life.opening; checkpoint = life.checkpoint; history = front } in
-        let whole : (front ++ taken_entry ∷ []) ++ rest ≡ life.history = append_assoc front (taken_entry ∷ []) rest ∙ sym split in
-        let left : Leaving (Reached terminal number) system any_call (alone life) =
-        subst (λ (h : List Entry). Leaving (Reached terminal number) system any_call (record { opening = life.opening; checkpoint = life.checkpoint; history = h })) whole
-        (more (Reached terminal number) system any_call (numbers_kept terminal number system) (longer base (taken_entry ∷ [])) rest (all_any rest)
-        (leaves_with (Reached terminal number) system any_call base taken_entry refl there.reached)) in
+        let low : Reached terminal number (after_entry system (life_moment system (alone life) front) taken_entry).lasting =
+        subst (λ (m : Moment). Reached terminal number m.lasting) (moment_after-append system (start_of system life.opening) front taken_entry) there.reached in
+        let left : Leaving (Reached terminal number) system (alone life) =
+        bound_leaves (Reached terminal number) system life front rest taken_entry bound.0 split refl goes_on
+        (of_kind (Reached terminal number) system any_call (numbers_kept terminal number system) rest (all_any rest)) low in
         (there.know, lives_know later there.some (opened_behind system (Reached terminal number) life later left linked.0) linked.1 legal.1)

@@ -1,5 +1,5 @@
 -- How much the blocks of a session add to what it has done.
-use Rattle.std.proofs.Common.{◌≡◌, ◌⊎◌, inl, inr, ℕ, ◌+◌, ◌*◌, ◌≤◌, Bool, true, false, List, [], ◌∷◌, ◌++◌, Option, Some, None, length, refl, ap, ◌∙◌, arith}
+use Rattle.std.proofs.Common.{◌≡◌, inl, inr, ℕ, ◌+◌, ◌*◌, ◌≤◌, Bool, true, false, List, [], ◌∷◌, ◌++◌, Option, Some, None, length, refl, ap, ◌∙◌, arith}
 use Rattle.std.proofs.lemmas.List.{length-append}
 use Rattle.model_machine.specs.declared.entry.Entry.{Entry}
 use Rattle.model_machine.specs.Machine.{LastingState}
@@ -8,10 +8,11 @@ use Rattle.model_session.specs.declared.asked.Asked.{Asked}
 use Rattle.model_session.specs.declared.asked.Asked.TheVariants.{Bad, BadCommand, Stopped, Call, Quiet, Power, PowerIn, Restart, ColdStart}
 use Rattle.model_session.specs.Blocks.{Block}
 use Rattle.model_session.specs.Lines.{asked_of}
-use Rattle.model_session.specs.Lives.{LifeState, LastLife, ends_life, kept_life, with_life}
+use Rattle.model_session.specs.Lives.{LifeState, LastLife, ends_life, failed_force, kept_life, with_life}
 use Rattle.model_session.specs.SessionState.{Setting, SessionState, Outage, Standing, Stop, broken, called_on, powered_off, failed, life_gone_on, last_life, no_life, life_opened, unbegun}
 use Rattle.model_session.specs.SessionState.Standing.{Up, Down}
-use Rattle.model_session.specs.Session.{AreServed, BeginsSession, IsSessionBegun, IsBegunBy, IsRestarted, IsServedDown, IsServedUp, ServedBy}
+use Rattle.model_session.specs.Session.{AreServed, BeginsSession, IsSessionBegun, IsBegunBy, IsRestarted, IsServedDown, IsServedUp, ServedBy, EndsAt, IsSourceEnded}
+use Rattle.session_law.specs.LeftOver.{IsLeftOver}
 use Rattle.session_law.specs.Measures.{last_measure, life_measure, lives_measure, measure, most_measure, most_weight, block_weight}
 use Rattle.session_law.proofs.Blocks.{light}
 
@@ -30,18 +31,18 @@ abbrev pub measure_at : SessionState → Standing → ℕ
 measure_at state standing = lives_measure state.lives + last_measure (last_life standing) + length state.stops
 
 -- Entries add one each, a stop adds one, and so does an opening.
-pub called_measure : (b : Bool) (state : SessionState) (life : LastLife) (entries : List Entry) → measure (called_on b state life entries) ≡ measure_at state (Up life) + length entries
-called_measure true state life entries = omega (arith, length-append life.history entries)
-called_measure false state life entries = omega (arith, length-append life.history entries)
+pub called_measure : (b : Bool) (state : SessionState) (life : LastLife) (entries : List Entry) (forced : ℕ) → measure (called_on b state life entries forced) ≡ measure_at state (Up life) + length entries
+called_measure true state life entries forced = omega (arith, length-append life.history entries)
+called_measure false state life entries forced = omega (arith, length-append life.history entries)
 
-pub gone_measure : (state : SessionState) (life : LastLife) (entries : List Entry) → measure (life_gone_on state life entries) ≡ measure_at state (Up life) + length entries
-gone_measure state life entries = called_measure false state life entries
+pub gone_measure : (state : SessionState) (life : LastLife) (entries : List Entry) (forced : ℕ) → measure (life_gone_on state life entries forced) ≡ measure_at state (Up life) + length entries
+gone_measure state life entries forced = called_measure false state life entries forced
 
 pub powered_measure : (state : SessionState) (life : LastLife) (pick : ℕ) → measure (powered_off state life pick) ≡ measure_at state (Up life)
 powered_measure state life pick = omega (arith, length-append life.history [])
 
-pub broken_measure : (state : SessionState) (life : LastLife) (entries : List Entry) (stop : Stop) → measure (broken state life entries stop) ≡ measure_at state (Up life) + length entries + 1
-broken_measure state life entries stop = omega (arith, length-append life.history entries, length-append state.stops (stop ∷ []))
+pub broken_measure : (state : SessionState) (life : LastLife) (entries : List Entry) (forced : ℕ) (stop : Stop) → measure (broken state life entries forced stop) ≡ measure_at state (Up life) + length entries + 1
+broken_measure state life entries forced stop = omega (arith, length-append life.history entries, length-append state.stops (stop ∷ []))
 
 pub opened_measure : (state : SessionState) (outage : Outage) (kept checkpoint : ℕ) (opening : LastingState) → measure (life_opened state outage kept checkpoint opening) ≡ measure_at state (Down outage) + 1
 opened_measure state outage kept checkpoint opening = omega (arith, lives_behind state.lives outage.last kept)
@@ -65,40 +66,42 @@ module _ (setting : Setting) (old new : SessionState) (text : List ℕ) where
       risen (measure_at old standing) (measure new) 0 most (omega (arith, ap measure e, ap (λ s. last_measure (last_life s)) stands)) (omega arith)
 
   up_rises : (asked : Asked) (life : LastLife) → old.standing ≡ Up life → IsServedUp asked setting old life new text → Rises (measure_at old (Up life)) (measure new) (block_weight asked)
-  up_rises (Bad rule) life stands h = same_rises (Up life) 2 stands h.0
-  up_rises (BadCommand rule) life stands h = same_rises (Up life) 2 stands h.0
-  up_rises (Stopped terminal number reason) life stands h = same_rises (Up life) 2 stands h.0
+  up_rises (Bad rule) life stands h = same_rises (Up life) 3 stands h.0
+  up_rises (BadCommand rule) life stands h = same_rises (Up life) 3 stands h.0
+  up_rises (Stopped terminal number reason) life stands h = same_rises (Up life) 3 stands h.0
   up_rises (Call call) life stands (inl h) =
-      risen (measure_at old (Up life)) (measure new) 1 2 (ap measure h.goes ∙ called_measure (ends_life h.entry) old life (h.entry ∷ [])) (omega arith)
-  up_rises (Call call) life stands (inr h) =
-      risen (measure_at old (Up life)) (measure new) 2 2 (omega (arith, ap measure h.ends, broken_measure old life (h.entry ∷ []) h.stop)) (omega arith)
+      risen (measure_at old (Up life)) (measure new) 1 3 (ap measure h.goes ∙ called_measure (ends_life h.entry) old life (h.entry ∷ []) h.forced) (omega arith)
+  up_rises (Call call) life stands (inr (inl h)) =
+      risen (measure_at old (Up life)) (measure new) 2 3 (omega (arith, ap measure h.ends, broken_measure old life (h.entry ∷ []) h.forced h.stop)) (omega arith)
+  up_rises (Call call) life stands (inr (inr h)) =
+      risen (measure_at old (Up life)) (measure new) 3 3 (omega (arith, ap measure h.ends, broken_measure old life (h.entry ∷ failed_force ∷ []) h.forced h.stop)) (omega arith)
   up_rises (Quiet most) life stands (inl h) =
-      risen (measure_at old (Up life)) (measure new) (length h.turns) (most + 1) (ap measure h.goes ∙ gone_measure old life h.turns) (omega (arith, h.quieted.few))
+      risen (measure_at old (Up life)) (measure new) (length h.turns) (most + 1) (ap measure h.goes ∙ gone_measure old life h.turns h.forced) (omega (arith, h.quieted.few))
   up_rises (Quiet most) life stands (inr h) =
       risen (measure_at old (Up life)) (measure new) (length h.turns + 2) (most + 1)
-      (omega (arith, ap measure h.ends, broken_measure old life (h.turns ++ h.entry ∷ []) h.stop, length-append h.turns (h.entry ∷ []))) (omega (arith, h.begun.few))
+      (omega (arith, ap measure h.ends, broken_measure old life (h.turns ++ h.entry ∷ []) h.forced h.stop, length-append h.turns (h.entry ∷ []))) (omega (arith, h.begun.few))
   up_rises (Power pick) life stands h =
-      risen (measure_at old (Up life)) (measure new) 0 2 (omega (arith, ap measure h.0, powered_measure old life pick)) (omega arith)
+      risen (measure_at old (Up life)) (measure new) 0 3 (omega (arith, ap measure h.0, powered_measure old life pick)) (omega arith)
   up_rises (PowerIn writes pick) life stands h =
-      risen (measure_at old (Up life)) (measure new) 0 2 (omega (arith, ap measure h.0, ap (λ s. last_measure (last_life s)) stands)) (omega arith)
-  up_rises Restart life stands h = same_rises (Up life) 2 stands h.0
-  up_rises ColdStart life stands h = same_rises (Up life) 2 stands h.0
+      risen (measure_at old (Up life)) (measure new) 0 3 (omega (arith, ap measure h.0, ap (λ s. last_measure (last_life s)) stands)) (omega arith)
+  up_rises Restart life stands h = same_rises (Up life) 3 stands h.0
+  up_rises ColdStart life stands h = same_rises (Up life) 3 stands h.0
 
-  restart_rises : (cold : Bool) (outage : Outage) → old.standing ≡ Down outage → IsRestarted cold setting old outage new text → Rises (measure_at old (Down outage)) (measure new) 2
+  restart_rises : (cold : Bool) (outage : Outage) → old.standing ≡ Down outage → IsRestarted cold setting old outage new text → Rises (measure_at old (Down outage)) (measure new) 3
   restart_rises cold outage stands (inl h) =
-      risen (measure_at old (Down outage)) (measure new) 1 2 (ap measure h.0.goes ∙ opened_measure old outage h.0.kept h.0.checkpoint h.0.state) (omega arith)
+      risen (measure_at old (Down outage)) (measure new) 1 3 (ap measure h.0.goes ∙ opened_measure old outage h.0.kept h.0.checkpoint h.0.state) (omega arith)
   restart_rises cold outage stands (inr (inl h)) =
-      risen (measure_at old (Down outage)) (measure new) 1 2 (ap measure h.0.ends ∙ failed_measure old outage cold h.0.stop) (omega arith)
-  restart_rises cold outage stands (inr (inr h)) = same_rises (Down outage) 2 stands h.stays
+      risen (measure_at old (Down outage)) (measure new) 1 3 (ap measure h.0.ends ∙ failed_measure old outage cold h.0.stop) (omega arith)
+  restart_rises cold outage stands (inr (inr h)) = same_rises (Down outage) 3 stands h.stays
 
   down_rises : (asked : Asked) (outage : Outage) → old.standing ≡ Down outage → IsServedDown asked setting old outage new text → Rises (measure_at old (Down outage)) (measure new) (block_weight asked)
-  down_rises (Bad rule) outage stands h = same_rises (Down outage) 2 stands h.0
-  down_rises (BadCommand rule) outage stands h = same_rises (Down outage) 2 stands h.0
-  down_rises (Stopped terminal number reason) outage stands h = same_rises (Down outage) 2 stands h.0
-  down_rises (Call call) outage stands h = same_rises (Down outage) 2 stands h.0
+  down_rises (Bad rule) outage stands h = same_rises (Down outage) 3 stands h.0
+  down_rises (BadCommand rule) outage stands h = same_rises (Down outage) 3 stands h.0
+  down_rises (Stopped terminal number reason) outage stands h = same_rises (Down outage) 3 stands h.0
+  down_rises (Call call) outage stands h = same_rises (Down outage) 3 stands h.0
   down_rises (Quiet most) outage stands h = same_rises (Down outage) (most + 1) stands h.0
-  down_rises (Power pick) outage stands h = same_rises (Down outage) 2 stands h.0
-  down_rises (PowerIn writes pick) outage stands h = same_rises (Down outage) 2 stands h.0
+  down_rises (Power pick) outage stands h = same_rises (Down outage) 3 stands h.0
+  down_rises (PowerIn writes pick) outage stands h = same_rises (Down outage) 3 stands h.0
   down_rises Restart outage stands h = restart_rises false outage stands h
   down_rises ColdStart outage stands h = restart_rises true outage stands h
 
@@ -131,7 +134,7 @@ begun_by : (system : System) (asked : Asked) (old new : SessionState) (standing 
 begun_by system (Quiet most) old new (Up life) stands le (inl e) = risen (measure old) (measure new) 0 most_weight (omega (arith, ap measure e)) (omega arith)
 begun_by system (Quiet most) old new (Up life) stands le (inr h) =
     risen (measure old) (measure new) (length h.turns) most_weight
-    (omega (arith, ap measure h.goes, gone_measure old life h.turns, ap (λ s. last_measure (last_life s)) stands)) (omega (arith, le, h.begun.few))
+    (omega (arith, ap measure h.goes, gone_measure old life h.turns h.forced, ap (λ s. last_measure (last_life s)) stands)) (omega (arith, le, h.begun.few))
 begun_by system (Quiet most) old new (Down outage) stands le e = risen (measure old) (measure new) 0 most_weight (omega (arith, ap measure e)) (omega arith)
 begun_by system (Bad rule) old new standing stands le e = risen (measure old) (measure new) 0 most_weight (omega (arith, ap measure e)) (omega arith)
 begun_by system (BadCommand rule) old new standing stands le e = risen (measure old) (measure new) 0 most_weight (omega (arith, ap measure e)) (omega arith)
@@ -146,13 +149,28 @@ pub begun_rises : (system : System) (blocks : List Block) (old new : SessionStat
 begun_rises system [] old new e = risen (measure old) (measure new) 0 most_weight (omega (arith, ap measure e)) (omega arith)
 begun_rises system (block ∷ blocks) old new h = begun_by system (asked_of system block) old new old.standing refl (light system block) h
 
--- A session of at most a million blocks has done this much at most, with a QUIET that broke off.
+-- The end of its source adds the entry of a force in which the disk failed, and a stop, or nothing.
+ended_by : (system : System) (old new : SessionState) (text : List ℕ) (standing : Standing) → old.standing ≡ standing → EndsAt standing system old new text → Rises (measure old) (measure new) 2
+ended_by system old new text (Up life) stands (inl h) =
+    risen (measure old) (measure new) 0 2 (omega (arith, ap measure h.goes, gone_measure old life [] h.forced, ap (λ s. last_measure (last_life s)) stands)) (omega arith)
+ended_by system old new text (Up life) stands (inr h) =
+    risen (measure old) (measure new) 2 2 (omega (arith, ap measure h.ends, broken_measure old life (failed_force ∷ []) life.forced h.stop, ap (λ s. last_measure (last_life s)) stands)) (omega arith)
+ended_by system old new text (Down outage) stands h = risen (measure old) (measure new) 0 2 (omega (arith, ap measure h.0)) (omega arith)
+
+pub ended_rises : (system : System) (old new : SessionState) (text : List ℕ) → IsSourceEnded system old new text → Rises (measure old) (measure new) 2
+ended_rises system old new text ends = ended_by system old new text old.standing refl ends
+
+-- A session of at most a million blocks has done this much at most, with a QUIET that broke off, or the end of its source.
 pub session_rises : (setting : Setting) (blocks others : List Block) (first mid last : SessionState) (text : List ℕ) → length blocks ≤ 1000000
-    → BeginsSession setting first → AreServed setting blocks first mid text → (last ≡ mid) ⊎ IsSessionBegun setting.system others mid last → measure last ≤ most_measure
+    → BeginsSession setting first → AreServed setting blocks first mid text → IsLeftOver setting.system others mid last → measure last ≤ most_measure
 session_rises setting blocks others first mid last text few begins served (inl same) =
     let rise = blocks_rise setting blocks first mid text served in
     omega (arith, few, begun_measure setting first begins, rise.no_more, ap measure same)
-session_rises setting blocks others first mid last text few begins served (inr h) =
+session_rises setting blocks others first mid last text few begins served (inr (inl h)) =
     let rise = blocks_rise setting blocks first mid text served in
     let behind = begun_rises setting.system others mid last h in
+    omega (arith, few, begun_measure setting first begins, rise.no_more, behind.no_more)
+session_rises setting blocks others first mid last text few begins served (inr (inr (closing, h))) =
+    let rise = blocks_rise setting blocks first mid text served in
+    let behind = ended_rises setting.system mid last closing h in
     omega (arith, few, begun_measure setting first begins, rise.no_more, behind.no_more)

@@ -1,5 +1,5 @@
 -- A reply is shown again until it is taken away, whatever stops and restarts lie between.
-use Rattle.std.proofs.Common.{◌≡◌, ℕ, Bool, true, false, not, ◌&&◌, List, [], ◌∷◌, ◌++◌, Option, Some, None, refl, sym, ap, ◌∙◌, subst, append_assoc}
+use Rattle.std.proofs.Common.{◌≡◌, ◌≢◌, ℕ, Bool, true, false, not, ◌&&◌, List, [], ◌∷◌, ◌++◌, Option, Some, None, refl, sym, ap, ◌∙◌, subst}
 use Rattle.std.specs.Prelude.{Result, Ok, Err, ◌==◌, if◌then◌else◌, slice_get, nat_lt}
 use Rattle.std.specs.Option.{is_some, option_and_then, option_map_or}
 use Rattle.std.specs.Str.{bytes_eq}
@@ -23,14 +23,13 @@ use Rattle.model_machine.specs.Machine.{LastingState, Moment, start_of, output_a
 use Rattle.model_machine.specs.LastingSteps.{applied}
 use Rattle.model_machine.specs.MachineCalls.{acknowledged_step, ack_by, ack_answer}
 use Rattle.model_machine.specs.History.{call_of, after_entry}
-use Rattle.model_machine.proofs.Histories.{moment_after-append}
-use Rattle.model_session.specs.Lives.{LifeState, LastLife, life_moment, longer}
+use Rattle.model_session.specs.Lives.{LifeState, life_moment, failed_force}
 use Rattle.session_law.specs.ResentInputs.{spares, IsKeptBy}
-use Rattle.session_law.specs.SentAgain.{alone, AreLeft}
+use Rattle.session_law.specs.SentAgain.{alone, AreLeft, IsLifeBound}
 use Rattle.session_law.specs.ShownAgain.{takes_reply, takes_none, WaitsOn, LivesWaitOn}
-use Rattle.session_law.proofs.Sessions.{Leaving, begun, leaves_with, more}
+use Rattle.session_law.proofs.Sessions.{AllKeep, of_kind, opened_leaves}
 use Rattle.session_law.proofs.Replies.{Waits, replies_kept}
-use Rattle.session_law.proofs.LifeEnds.{OpenedWith, opened_behind}
+use Rattle.session_law.proofs.LifeEnds.{bound_leaves, OpenedWith, opened_behind}
 
 apart : true ≡ false → ⊥
 apart e = cc
@@ -112,33 +111,28 @@ module _ (terminal : List ℕ) (reply : Reply) where
   waits_on system moment [] h = h
   waits_on system moment (entry ∷ entries) h = (h, λ spared. waits_on system (after_entry system moment entry) entries (kept_until system moment entry spared h))
 
+  keep_all : (system : System) (entries : List Entry) → takes_none terminal reply.number entries ≡ true → AllKeep (Waits terminal reply) system entries
+  keep_all system entries none = of_kind (Waits terminal reply) system kind (keeps system) entries none
+
   pub lives_wait : (system : System) (lives : List LifeState) → OpenedWith (Waits terminal reply) lives → AreLeft system lives → LivesWaitOn system terminal reply lives
   lives_wait system [] has linked = tt
   lives_wait system (life ∷ lives) has linked = (
     waits_on system (start_of system life.opening) life.history has,
     λ none. lives_wait system lives
-        (opened_behind system (Waits terminal reply) life lives
-        (more (Waits terminal reply) system kind (keeps system) (record { opening = life.opening; checkpoint = life.checkpoint; history = [] }) life.history none
-        (begun (Waits terminal reply) system kind life.checkpoint life.opening has)) linked.0)
+        (opened_behind system (Waits terminal reply) life lives (opened_leaves (Waits terminal reply) system (alone life) (keep_all system life.history none) has) linked.0)
         linked.1,
   )
 
-  pub shown_on : (system : System) (life : LifeState) (later : List LifeState) (front rest : List Entry) (number : ℕ) → AreLeft system (life ∷ later) → life.history ≡ front ++ Show terminal (ShowReply number) ∷ rest
-      → Waits terminal reply (life_moment system (alone life) front).lasting
+  pub shown_on : (system : System) (life : LifeState) (later : List LifeState) (front rest : List Entry) (number : ℕ) → AreLeft system (life ∷ later) → IsLifeBound system life
+      → life.history ≡ front ++ Show terminal (ShowReply number) ∷ rest → rest ≢ failed_force ∷ [] → Waits terminal reply (life_moment system (alone life) front).lasting
       → WaitsOn system terminal reply (life_moment system (alone life) front) (Show terminal (ShowReply number) ∷ rest)
       × (takes_none terminal reply.number rest ≡ true → LivesWaitOn system terminal reply later)
-  shown_on system life later front rest number linked split has =
+  shown_on system life later front rest number linked bound split goes_on has =
       let entry : Entry = Show terminal (ShowReply number) in
-      let base : LastLife = record { opening = life.opening; checkpoint = life.checkpoint; history = front } in
-      let whole : (front ++ entry ∷ []) ++ rest ≡ life.history = append_assoc front (entry ∷ []) rest ∙ sym split in
-      let behind : Waits terminal reply (life_moment system base (front ++ entry ∷ [])).lasting =
-      subst (λ (m : Moment). Waits terminal reply m.lasting) (sym (moment_after-append system (start_of system life.opening) front entry))
-      (kept_until system (life_moment system base front) entry refl has) in (
+      let behind : Waits terminal reply (after_entry system (life_moment system (alone life) front) entry).lasting = kept_until system (life_moment system (alone life) front) entry refl has in (
         waits_on system (life_moment system (alone life) front) (entry ∷ rest) has,
         λ none. lives_wait system later
             (opened_behind system (Waits terminal reply) life later
-            (subst (λ (h : List Entry). Leaving (Waits terminal reply) system kind (record { opening = life.opening; checkpoint = life.checkpoint; history = h })) whole
-            (more (Waits terminal reply) system kind (keeps system) (longer base (entry ∷ [])) rest none
-            (leaves_with (Waits terminal reply) system kind base entry refl behind))) linked.0)
+            (bound_leaves (Waits terminal reply) system life front rest entry bound split refl goes_on (keep_all system rest none) behind) linked.0)
             linked.1,
       )

@@ -8,11 +8,12 @@ use Rattle.model_session.specs.declared.asked.Asked.{Asked}
 use Rattle.model_session.specs.declared.asked.Asked.TheVariants.{Bad, BadCommand, Stopped, Call, Quiet, Power, PowerIn, Restart, ColdStart}
 use Rattle.model_session.specs.Blocks.{Block}
 use Rattle.model_session.specs.Lines.{asked_of}
-use Rattle.model_session.specs.Lives.{LastLife, LifeLeaves, ends_life, life_moment, with_life}
+use Rattle.model_session.specs.Lives.{LastLife, LifeLeaves, ends_life, life_moment, now_in, with_life}
 use Rattle.model_session.specs.SessionState.{IsStateLeft, MayBeFound, MayHold, Outage, SessionState, Setting, Standing, called_on, last_life, no_life, unbegun}
 use Rattle.model_session.specs.SessionState.Standing.{Up, Down}
-use Rattle.model_session.specs.Session.{AreServed, BeginsSession, FailsToOpen, IsSessionBegun, IsBegunBy, IsRestarted, IsServedDown, IsServedUp, MayOpenWith, OpensSession, ServedBy}
+use Rattle.model_session.specs.Session.{AreServed, BeginsSession, FailsToOpen, IsSessionBegun, IsBegunBy, IsRestarted, IsServedDown, IsServedUp, MayOpenWith, OpensSession, ServedBy, EndsAt}
 use Rattle.session_law.specs.Counts.{LastsUpTo, OpensUpTo, LivesUpTo, most_raised}
+use Rattle.session_law.specs.LeftOver.{IsLeftOver}
 use Rattle.session_law.specs.Measures.{last_measure, lives_measure, measure}
 use Rattle.session_law.proofs.Lasting.{empty_lasts, lasts_higher}
 use Rattle.session_law.proofs.Entries.{entries_last}
@@ -55,11 +56,21 @@ module _ (setting : Setting) (valid : IsSystem setting.system) where
     by (Up life) stands opens is =
         lasts_higher (bound + most_raised * last_measure (Some life)) (high + most_raised * measure state) held
         (omega (arith, ap (λ s. last_measure (last_life s)) stands))
-        (subst (LastsUpTo (bound + most_raised * last_measure (Some life))) (sym is) (front_lasts bound life life.history [] (sym (append-nil life.history)) opens))
+        (left_lasts bound life is.0 held is.1 opens)
     by (Down outage) stands opens is =
         lasts_higher (bound + most_raised * last_measure outage.last) (high + most_raised * measure state) held
         (omega (arith, ap (λ s. last_measure (last_life s)) stands))
         (found_lasts bound (omega (arith, some)) outage is.0 held is.1 opens)
+
+  -- and so does what lasts of a life that is up
+  pub now_lasts : (high : ℕ) (state : SessionState) → LivesUpTo setting high state → (life : LastLife) → state.standing ≡ Up life → LastsUpTo (high + most_raised * measure state) (now_in setting.system life).lasting
+  now_lasts high state h life stands =
+      lasts_higher (bound + most_raised * last_measure (Some life)) (high + most_raised * measure state) (now_in setting.system life).lasting
+      (omega (arith, ap (λ s. last_measure (last_life s)) stands))
+      (front_lasts bound life life.history [] (sym (append-nil life.history)) (subst (λ s. OpensUpTo setting bound (last_life s)) stands h))
+    where
+      bound : ℕ
+      bound = high + most_raised * lives_measure state.lives
 
   -- ---- blocks
   module _ (tells : setting.tells ≡ true) (high : ℕ) (some : 1 ≤ high) where
@@ -76,9 +87,9 @@ module _ (setting : Setting) (valid : IsSystem setting.system) where
     same_stands : (old new : SessionState) (standing : Standing) → old.standing ≡ standing → new ≡ old → At old standing → LivesUpTo setting high new
     same_stands old new standing stands e h = subst (LivesUpTo setting high) (sym e) (subst (At old) (sym stands) h)
 
-    called_stands : (b : Bool) (old : SessionState) (life : LastLife) (entries : List Entry) → At old (Up life) → LivesUpTo setting high (called_on b old life entries)
-    called_stands true old life entries h = h
-    called_stands false old life entries h = h
+    called_stands : (b : Bool) (old : SessionState) (life : LastLife) (entries : List Entry) (forced : ℕ) → At old (Up life) → LivesUpTo setting high (called_on b old life entries forced)
+    called_stands true old life entries forced h = h
+    called_stands false old life entries forced h = h
 
     opens_stands : (cold : Bool) (old new : SessionState) (outage : Outage) → OpensSession cold setting old outage new → At old (Down outage) → LivesUpTo setting high new
     opens_stands cold old new outage opens h =
@@ -96,8 +107,9 @@ module _ (setting : Setting) (valid : IsSystem setting.system) where
       up_stands (Bad rule) life stands h at = same_stands old new (Up life) stands h.0 at
       up_stands (BadCommand rule) life stands h at = same_stands old new (Up life) stands h.0 at
       up_stands (Stopped terminal number reason) life stands h at = same_stands old new (Up life) stands h.0 at
-      up_stands (Call call) life stands (inl h) at = subst (LivesUpTo setting high) (sym h.goes) (called_stands (ends_life h.entry) old life (h.entry ∷ []) at)
-      up_stands (Call call) life stands (inr h) at = subst (LivesUpTo setting high) (sym h.ends) at
+      up_stands (Call call) life stands (inl h) at = subst (LivesUpTo setting high) (sym h.goes) (called_stands (ends_life h.entry) old life (h.entry ∷ []) h.forced at)
+      up_stands (Call call) life stands (inr (inl h)) at = subst (LivesUpTo setting high) (sym h.ends) at
+      up_stands (Call call) life stands (inr (inr h)) at = subst (LivesUpTo setting high) (sym h.ends) at
       up_stands (Quiet most) life stands (inl h) at = subst (LivesUpTo setting high) (sym h.goes) at
       up_stands (Quiet most) life stands (inr h) at = subst (LivesUpTo setting high) (sym h.ends) at
       up_stands (Power pick) life stands h at = subst (LivesUpTo setting high) (sym h.0) at
@@ -153,6 +165,17 @@ module _ (setting : Setting) (valid : IsSystem setting.system) where
     turned_stands Restart old new standing stands e at = same_stands old new standing stands e at
     turned_stands ColdStart old new standing stands e at = same_stands old new standing stands e at
 
-    pub turns_stand : (blocks : List Block) (old new : SessionState) → IsSessionBegun setting.system blocks old new → LivesUpTo setting high old → LivesUpTo setting high new
+    turns_stand : (blocks : List Block) (old new : SessionState) → IsSessionBegun setting.system blocks old new → LivesUpTo setting high old → LivesUpTo setting high new
     turns_stand [] old new e at = subst (LivesUpTo setting high) (sym e) at
     turns_stand (block ∷ blocks) old new h at = turned_stands (asked_of setting.system block) old new old.standing refl h at
+
+    -- and the end of its source
+    ended_stands : (old new : SessionState) (text : List ℕ) (standing : Standing) → old.standing ≡ standing → EndsAt standing setting.system old new text → At old standing → LivesUpTo setting high new
+    ended_stands old new text (Up life) stands (inl h) at = subst (LivesUpTo setting high) (sym h.goes) at
+    ended_stands old new text (Up life) stands (inr h) at = subst (LivesUpTo setting high) (sym h.ends) at
+    ended_stands old new text (Down outage) stands h at = same_stands old new (Down outage) stands h.0 at
+
+    pub left_stands : (others : List Block) (mid last : SessionState) → IsLeftOver setting.system others mid last → LivesUpTo setting high mid → LivesUpTo setting high last
+    left_stands others mid last (inl same) at = subst (LivesUpTo setting high) (sym same) at
+    left_stands others mid last (inr (inl turned)) at = turns_stand others mid last turned at
+    left_stands others mid last (inr (inr (text, ends))) at = ended_stands mid last text mid.standing refl ends at

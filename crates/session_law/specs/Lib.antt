@@ -5,5 +5,6 @@ pub mod Measures
 pub mod SpentCounters
 pub mod SentAgain
 pub mod ShownAgain
+pub mod LeftOver
 pub mod ColdRuns
 pub mod SerialOrder

@@ -22,17 +22,17 @@ last_measure (Some life) = life_measure life.history
 abbrev pub measure : SessionState → ℕ
 measure state = lives_measure state.lives + last_measure (last_life state.standing) + length state.stops
 
--- What a block may add to it: an entry and a stop, and a QUIET the entries of its turns.
+-- What a block may add to it: an entry, that of a force in which the disk failed, and a stop; and a QUIET the entries of its turns.
 abbrev pub block_weight : Asked → ℕ
 block_weight (Quiet most) = most + 1
-block_weight _ = 2
+block_weight _ = 3
 
 -- what a block may add at most, as a QUIET names at most a million turns
 abbrev pub most_weight : ℕ
 most_weight = 1000001
 
 -- what a session may come to whose source has at most a million lines: its opening, its blocks, and the turns of a QUIET that broke
--- off
+-- off, or the end of its source
 abbrev pub most_measure : ℕ
 most_measure = 1 + most_weight * 1000000 + most_weight
 

@@ -1,5 +1,5 @@
 -- Inputs and replies that are sent again.
-use Rattle.std.specs.Prelude.{◌≡◌, ℕ, Bool, true, false, not, List, Option, Some}
+use Rattle.std.specs.Prelude.{◌≡◌, ℕ, ◌+◌, ◌≤◌, Bool, true, false, not, List, Option, Some}
 use Rattle.std.specs.List.{list_all}
 use Rattle.std.specs.Option.{option_map_or}
 use Rattle.std.specs.Str.{bytes_eq}
@@ -16,6 +16,7 @@ use Rattle.model_session.specs.declared.asked.Asked.{Asked}
 use Rattle.model_session.specs.declared.asked.Asked.TheVariants.{Call, ColdStart}
 use Rattle.model_session.specs.Blocks.{Block}
 use Rattle.model_session.specs.Lines.{asked_of}
+use Rattle.model_session.specs.Lives.{now_in}
 use Rattle.model_session.specs.SessionState.{Setting, Outage, Standing, MayBeFound}
 use Rattle.model_session.specs.SessionState.Standing.{Up, Down}
 
@@ -37,6 +38,11 @@ outage_at (Down outage) = outage
 -- Whatever a stop at this place leaves has this.
 abbrev pub HasAlways : (LastingState → Type 0) → Setting → Standing → Type 0
 HasAlways P setting standing = (kept : ℕ) (state : LastingState) → MayBeFound setting (outage_at standing) kept state → P state
+
+-- No more lasting steps of a life that is up are forced than it has.
+abbrev pub IsForcedWithin : System → Standing → Type 0
+IsForcedWithin system (Up life) = life.opening.steps + life.forced ≤ (now_in system life).lasting.steps
+IsForcedWithin system (Down outage) = Unit {0}
 
 -- ---- what lies between
 

@@ -1,5 +1,5 @@
 -- What is sent again, over the lives of a session: inputs.
-use Rattle.std.specs.Prelude.{◌≡◌, ◌⊎◌, ℕ, ◌-◌, ◌<◌, ◌≤◌, ◌==◌, Bool, true, false, ◌&&◌, List, [], ◌∷◌, ◌++◌, Result, Ok, Err}
+use Rattle.std.specs.Prelude.{◌≡◌, ◌⊎◌, ℕ, ◌-◌, ◌<◌, ◌≤◌, ◌==◌, ◌≢◌, Bool, true, false, ◌&&◌, List, [], ◌∷◌, ◌++◌, Result, Ok, Err}
 use Rattle.std.specs.List.{AllByRecursion}
 use Rattle.std.specs.Str.{bytes_eq}
 use Rattle.model_system.specs.System.{System}
@@ -11,13 +11,13 @@ use Rattle.model_machine.specs.declared.entry.InputRefused.{InputRefused}
 use Rattle.model_machine.specs.declared.entry.InputRefused.TheVariants.{StoppedTerminal, Expected, Fault}
 use Rattle.model_machine.specs.MachineCalls.{input_answer}
 use Rattle.model_machine.specs.History.{is_fault}
-use Rattle.model_session.specs.Lives.{LifeState, LastLife, last_number, LifeLeaves, life_moment}
+use Rattle.model_session.specs.Lives.{LifeState, LastLife, last_number, LifeLeaves, life_moment, binds, failed_force}
 
 -- ---- lives one after another
 
 -- a life by what it opened with and its entries
 abbrev pub alone : LifeState → LastLife
-alone life = record { opening = life.opening; checkpoint = life.checkpoint; history = life.history }
+alone life = record { opening = life.opening; checkpoint = life.checkpoint; history = life.history; forced = life.forced }
 
 -- A life opened with what the one before it left, of which so many lasting steps are kept, and with a checkpoint of a higher number than
 -- any that this told of.
@@ -46,6 +46,19 @@ AreLeft system (life ∷ lives) = IsLeftBy system life lives × AreLeft system l
 -- how many lasting steps these entries of a life are
 abbrev pub steps_of : System → LifeState → List Entry → ℕ
 steps_of system life entries = (life_moment system (alone life) entries).lasting.steps - life.opening.steps
+
+-- All lasting steps of a life up to an entry whose text binds are forced; but where the disk failed in the force behind it.
+abbrev pub IsLifeBound : System → LifeState → Type 0
+IsLifeBound system life =
+    (front rest : List Entry) (entry : Entry) → life.history ≡ front ++ entry ∷ rest → binds entry ≡ true
+    → (rest ≡ failed_force ∷ []) ⊎ (steps_of system life (front ++ entry ∷ []) ≤ life.forced)
+
+abbrev pub AreBound : System → List LifeState → Type 0
+AreBound system lives = AllByRecursion (IsLifeBound system) lives
+
+-- The disk failed in the call of this entry, or in the force behind it, which ended the life.
+abbrev pub IsDoubted : Entry → List Entry → Type 0
+IsDoubted entry after = ((is_fault entry ≡ true) × (after ≡ [])) ⊎ (after ≡ failed_force ∷ [])
 
 abbrev pub entries_of_lives : List LifeState → List Entry
 entries_of_lives [] = []
@@ -100,29 +113,31 @@ FreshUntilTaken terminal number (entry ∷ entries) =
     IsFreshInput terminal number entry
     × (takes_input terminal number entry ≡ false → FreshUntilTaken terminal number entries ⊎ ((fails_input terminal number entry ≡ true) × AllKnow terminal number entries))
 
--- The disk failed in the call of an input that would have been new, which ended the life.
+-- The disk failed in the call of an input that is new, or in the force before that was printed, which ended the life.
 pub record IsInDoubt (system : System) (life : LifeState) (terminal : List ℕ) (number : ℕ) : Type 0 where
   pub before : List Entry
+  pub after : List Entry
   pub segments : List (List ℕ)
   pub answer : Result Taken InputRefused
   pub id : ℕ
-  pub all : life.history ≡ before ++ Accept terminal number segments answer ∷ []
-  pub fault : is_fault (Accept terminal number segments answer) ≡ true
+  pub all : life.history ≡ before ++ Accept terminal number segments answer ∷ after
+  pub doubted : IsDoubted (Accept terminal number segments answer) after
   pub new : input_answer system (life_moment system (alone life) before) terminal number segments ≡ Ok (New id)
 
 -- Its step is kept, and it is known from then on; or its step is not, and it is fresh whenever it is sent again, until it is taken.
 abbrev pub SettlesDoubt : System → LifeState → List LifeState → (terminal : List ℕ) → (number : ℕ) → List Entry → Type 0
 SettlesDoubt system life later terminal number before =
     ((life.kept ≡ steps_of system life life.history) × LivesKnow terminal number later)
-    ⊎ ((life.kept ≡ steps_of system life before) × FreshUntilTaken terminal number (entries_of_lives later))
+    ⊎ ((life.kept ≤ steps_of system life before) × FreshUntilTaken terminal number (entries_of_lives later))
 
 -- Behind any stops and restarts an input under a number is answered as accepted before exactly where its step was kept, and is
--- taken as new exactly where it was not: one that was answered as new is known from then on, in its life and in all behind it;
--- and one in whose call the disk failed is known then where its step counts as kept, and else fresh until it is taken.
+-- taken as new exactly where it was not: one that was printed as new is known from then on, in its life and in all behind it;
+-- and one in whose call, or in the force behind it, the disk failed is known then where its step counts as kept, and else fresh until it
+-- is taken.
 pub record KnowsInputs (system : System) (lives : List LifeState) : Type 0 where
   pub answered :
       (before later : List LifeState) (life : LifeState) (front rest : List Entry) (terminal : List ℕ) (number id : ℕ) (segments : List (List ℕ))
-      → lives ≡ before ++ life ∷ later → life.history ≡ front ++ Accept terminal number segments (Ok (New id)) ∷ rest
+      → lives ≡ before ++ life ∷ later → life.history ≡ front ++ Accept terminal number segments (Ok (New id)) ∷ rest → rest ≢ failed_force ∷ []
       → AllKnow terminal number rest × LivesKnow terminal number later
   pub in_doubt :
       (before later : List LifeState) (life next : LifeState) (terminal : List ℕ) (number : ℕ)

@@ -1,5 +1,5 @@
 -- What is sent again, over the lives of a session: replies.
-use Rattle.std.specs.Prelude.{◌≡◌, ◌⊎◌, ℕ, ◌<◌, ◌==◌, Bool, true, false, not, ◌&&◌, List, [], ◌∷◌, ◌++◌, Some, Result, Ok}
+use Rattle.std.specs.Prelude.{◌≡◌, ◌⊎◌, ◌≢◌, ℕ, ◌<◌, ◌≤◌, ◌==◌, Bool, true, false, not, ◌&&◌, List, [], ◌∷◌, ◌++◌, Some, Result, Ok}
 use Rattle.std.specs.List.{list_all, AllByRecursion}
 use Rattle.std.specs.Str.{bytes_eq}
 use Rattle.tm_types.specs.declared.message.Reply.{Reply}
@@ -15,10 +15,10 @@ use Rattle.model_machine.specs.declared.entry.AckRefused.{AckRefused}
 use Rattle.model_machine.specs.declared.entry.ShowAnswer.TheVariants.{Reply as ShowReply}
 use Rattle.model_machine.specs.Machine.{Moment, start_of}
 use Rattle.model_machine.specs.MachineCalls.{ack_answer}
-use Rattle.model_machine.specs.History.{call_of, after_entry, is_fault}
-use Rattle.model_session.specs.Lives.{LifeState, life_moment}
+use Rattle.model_machine.specs.History.{call_of, after_entry}
+use Rattle.model_session.specs.Lives.{LifeState, life_moment, failed_force}
 use Rattle.session_law.specs.ResentInputs.{shown_reply}
-use Rattle.session_law.specs.SentAgain.{alone, steps_of}
+use Rattle.session_law.specs.SentAgain.{alone, steps_of, IsDoubted}
 
 -- a call that takes the terminal's reply of this number away: its acknowledgement, or a command that dequeues replies of the terminal
 abbrev pub takes_reply : List ℕ → ℕ → ControlCall → Bool
@@ -54,12 +54,13 @@ AllShowHigher terminal number entries = AllByRecursion (ShowsHigher terminal num
 abbrev pub LivesShowHigher : List ℕ → ℕ → List LifeState → Type 0
 LivesShowHigher terminal number lives = AllByRecursion (λ life. AllShowHigher terminal number life.history) lives
 
--- The disk failed in the call of an acknowledgement that would have removed its reply, which ended the life.
+-- The disk failed in the call of an acknowledgement that removes its reply, or in the force before that was printed, which ended the life.
 pub record IsAckInDoubt (system : System) (life : LifeState) (terminal : List ℕ) (number : ℕ) : Type 0 where
   pub before : List Entry
+  pub after : List Entry
   pub answer : Result Acked AckRefused
-  pub all : life.history ≡ before ++ AckedEntry terminal number answer ∷ []
-  pub fault : is_fault (AckedEntry terminal number answer) ≡ true
+  pub all : life.history ≡ before ++ AckedEntry terminal number answer ∷ after
+  pub doubted : IsDoubted (AckedEntry terminal number answer) after
   pub removes : ack_answer (life_moment system (alone life) before) terminal number ≡ Ok Removed
 
 -- The reply of this number is what the terminal was shown at this moment, and is what it is shown on in these lives.
@@ -69,25 +70,33 @@ pub record IsShownOn (system : System) (terminal : List ℕ) (number : ℕ) (mom
   pub shown : shown_reply terminal moment.lasting ≡ Some reply
   pub waits : LivesWaitOn system terminal reply lives
 
--- Its step is kept, and the reply is never shown again; or its step is not, and the terminal is shown the reply on.
+-- The terminal was shown the reply of this number among these entries.
+pub record WasShown (terminal : List ℕ) (number : ℕ) (entries : List Entry) : Type 0 where
+  pub front : List Entry
+  pub rest : List Entry
+  pub are : entries ≡ front ++ Show terminal (ShowReply number) ∷ rest
+
+-- Its step is kept, and the reply is never shown again; or its step is not, and the terminal is shown the reply on, if it was shown it or
+-- all steps before are kept.
 abbrev pub SettlesAck : System → LifeState → List LifeState → (terminal : List ℕ) → (number : ℕ) → List Entry → Type 0
 SettlesAck system life later terminal number before =
     ((life.kept ≡ steps_of system life life.history) × LivesShowHigher terminal number later)
-    ⊎ ((life.kept ≡ steps_of system life before) × IsShownOn system terminal number (life_moment system (alone life) before) later)
+    ⊎ ((life.kept ≤ steps_of system life before)
+    × (WasShown terminal number before ⊎ (life.kept ≡ steps_of system life before) → IsShownOn system terminal number (life_moment system (alone life) before) later))
 
 -- Behind any stops and restarts a reply that a terminal was shown is what it is shown again, until it is acknowledged or dequeued. Once
--- it was acknowledged it is never shown again; and one in the call of whose acknowledgement the disk failed is never shown again where
--- that one's step counts as kept, and else is what the terminal is shown on.
+-- that was printed as acknowledged it is never shown again; and one in the call of whose acknowledgement, or in the force behind it, the
+-- disk failed is never shown again where that one's step counts as kept, and else is what the terminal is shown on.
 pub record ShowsReplies (system : System) (lives : List LifeState) : Type 0 where
   pub again :
       (before later : List LifeState) (life : LifeState) (front rest : List Entry) (terminal : List ℕ) (number : ℕ) (reply : Reply)
-      → lives ≡ before ++ life ∷ later → life.history ≡ front ++ Show terminal (ShowReply number) ∷ rest
+      → lives ≡ before ++ life ∷ later → life.history ≡ front ++ Show terminal (ShowReply number) ∷ rest → rest ≢ failed_force ∷ []
       → shown_reply terminal (life_moment system (alone life) front).lasting ≡ Some reply
       → WaitsOn system terminal reply (life_moment system (alone life) front) (Show terminal (ShowReply number) ∷ rest)
       × (takes_none terminal reply.number rest ≡ true → LivesWaitOn system terminal reply later)
   pub never :
       (before later : List LifeState) (life : LifeState) (front rest : List Entry) (terminal : List ℕ) (number : ℕ)
-      → lives ≡ before ++ life ∷ later → life.history ≡ front ++ AckedEntry terminal number (Ok Removed) ∷ rest
+      → lives ≡ before ++ life ∷ later → life.history ≡ front ++ AckedEntry terminal number (Ok Removed) ∷ rest → rest ≢ failed_force ∷ []
       → AllShowHigher terminal number rest × LivesShowHigher terminal number later
   pub in_doubt :
       (before later : List LifeState) (life next : LifeState) (terminal : List ℕ) (number : ℕ)

@@ -17,7 +17,7 @@ use Rattle.disk_law.specs.JournalState.{JournalState}
 use Rattle.tm_control.specs.ControlOnDisk.{ControlOnDisk}
 use Rattle.tm_control.specs.ControlCalls.{StaysSo, AddsBy, ControlCountsSince, KeepsLog, RaisesBy, StaysSpent, StaysUndone, with_room}
 use Rattle.session_law.specs.Measures.{call_raises}
-use Rattle.session_lives.specs.ControlCounts.{CountsUp, KeepsPace}
+use Rattle.session_lives.specs.ControlCounts.{CountsUp, KeepsPace, force_raises}
 
 -- ---- bounds
 
@@ -33,7 +33,7 @@ module _ {D : Type 0} (state : D → DiskState) where
   pub counts_more : (low high : ℕ) (control : ControlOnDisk D) → low ≤ high → CountsUp state low control → CountsUp state high control
   counts_more low high control le h = record {
     own = λ up. stands_more low high control.journal control.next_unit le (h.own up);
-    images = λ image left. up_to_more control.control.system low high image le (h.images image left);
+    images = λ image left. up_to_more control.control.system (low + force_raises) (high + force_raises) image (omega (arith, le)) (h.images image left);
   }
 
   -- ---- nothing is counted on
@@ -53,17 +53,15 @@ module _ {D : Type 0} (state : D → DiskState) where
   pub pace_log : (old new : ControlOnDisk D) → old.up ≡ true → length old.control.history ≤ length new.control.history → new.control.system ≡ old.control.system → KeepsLog old new → NoMore (state old.disk) (state new.disk)
       → KeepsPace state old new
   pace_log old new up more same log no_more few high h =
-      let own : StandsUpTo (high + call_raises * length old.control.history) old.journal old.next_unit = h.own up in
+      let own : StandsUpTo (high + call_raises * length new.control.history) old.journal old.next_unit =
+      stands_more (high + call_raises * length old.control.history) (high + call_raises * length new.control.history) old.journal old.next_unit (omega (arith, more)) (h.own up) in
       record {
-        own = λ now. record {
-          epoch = omega (arith, more, ap (λ (j : JournalState). j.restart.epoch) log.journal, own.epoch);
-          sequence = omega (arith, more, ap (λ (j : JournalState). j.log.sequence + j.log.place) log.journal, own.sequence);
-          checkpoint = omega (arith, more, ap (λ (j : JournalState). j.restart.checkpoint) log.journal, own.checkpoint);
-          unit = omega (arith, more, log.next_unit, own.unit);
-        };
+        own = λ now.
+            subst (λ (j : JournalState). StandsUpTo (high + call_raises * length new.control.history) j new.next_unit) (sym log.journal)
+            (subst (λ n. StandsUpTo (high + call_raises * length new.control.history) old.journal n) (sym log.next_unit) own);
         images = λ image left.
-            subst (λ (s : System). CountsUpTo s (high + call_raises * length new.control.history) image) (sym same)
-            (up_to_more old.control.system (high + call_raises * length old.control.history) (high + call_raises * length new.control.history) image (omega (arith, more)) (h.images image (no_more image left)));
+            subst (λ (s : System). CountsUpTo s (high + call_raises * length new.control.history + force_raises) image) (sym same)
+            (up_to_more old.control.system (high + call_raises * length old.control.history + force_raises) (high + call_raises * length new.control.history + force_raises) image (omega (arith, more)) (h.images image (no_more image left)));
       }
 
   pub pace_kept : (old new : ControlOnDisk D) → old.up ≡ true → length old.control.history ≤ length new.control.history → StaysSo state old new → KeepsLog old new → new.disk ≡ old.disk → KeepsPace state old new
@@ -84,10 +82,30 @@ module _ {D : Type 0} (state : D → DiskState) where
           unit = omega (arith, longer, r.unit, own.unit);
         };
         images = λ image left.
-            subst (λ (s : System). CountsUpTo s (high + call_raises * length new.control.history) image) (sym stays.system)
-            (up_to_more old.control.system (high + call_raises * length old.control.history + 2 * old.control.system.logs) (high + call_raises * length new.control.history) image (omega (arith, longer, few))
+            subst (λ (s : System). CountsUpTo s (high + call_raises * length new.control.history + force_raises) image) (sym stays.system)
+            (up_to_more old.control.system (high + call_raises * length old.control.history + 2 * old.control.system.logs) (high + call_raises * length new.control.history + force_raises) image (omega (arith, longer, few))
             (counts (high + call_raises * length old.control.history) own image (disk.now_counts (state old.disk).clock image stays.later left)));
       }
+
+  -- ---- all is forced
+
+  -- behind a force an image counts further by what the log's area has at most
+  pub pace_forced : (old new : ControlOnDisk D) → old.up ≡ true → IsDisk (state new.disk) → StaysSo state old new
+      → (new.up ≡ true → (high : ℕ) → StandsUpTo high old.journal old.next_unit → StandsUpTo high new.journal new.next_unit) → ControlCountsSince state old.control.system.logs old new
+      → length old.control.history ≤ length new.control.history → KeepsPace state old new
+  pace_forced old new up disk stays raises counts more few high h =
+      let own : StandsUpTo (high + call_raises * length old.control.history) old.journal old.next_unit = h.own up in
+      record {
+        own = λ now.
+            stands_more (high + call_raises * length old.control.history) (high + call_raises * length new.control.history) new.journal new.next_unit (omega (arith, more))
+            (raises now (high + call_raises * length old.control.history) own);
+        images = λ image left.
+            subst (λ (s : System). CountsUpTo s (high + call_raises * length new.control.history + force_raises) image) (sym stays.system)
+            (up_to_more old.control.system (high + call_raises * length old.control.history + old.control.system.logs) (high + call_raises * length new.control.history + force_raises) image (omega (arith, more, few))
+            (counts (high + call_raises * length old.control.history) own image (disk.now_counts (state old.disk).clock image stays.later left)));
+      }
+
+  -- ---- an answer
 
   -- A call keeps pace.
   pub pace_call : (sectors : ℕ) (fault : Option ControlFault) (entry : Entry) (old new : ControlOnDisk D) → sectors ≤ 2 * old.control.system.logs → old.up ≡ true → IsDisk (state new.disk) → StaysSo state old new

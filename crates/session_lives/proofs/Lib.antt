@@ -1,6 +1,7 @@
 pub mod Counting
 pub mod Happening
 pub mod Telling
+pub mod Bound
 pub mod Asked
 pub mod Replies
 pub mod Turned

@@ -1,17 +1,13 @@
 -- What is left of a session that is closed.
-use Rattle.std.proofs.Common.{◌≡◌, ℕ, Bool, true, false, List, [], ◌∷◌, ◌++◌, map, sym, ◌∙◌, ap, subst, refl, inl}
+use Rattle.std.proofs.Common.{◌≡◌, ℕ, true, List, [], ◌∷◌, ◌++◌, map, sym, ◌∙◌, ap, subst, refl}
 use Rattle.std.proofs.lemmas.List.{append-nil, map-append}
-use Rattle.std.specs.Prelude.{Option, Some, None, Ok}
+use Rattle.std.specs.Prelude.{Option, Some, None}
 use Rattle.std.specs.Option.{option_map, is_some}
-use Rattle.tm_disk.specs.Disk.{Image, DiskState, IsSameDisk}
+use Rattle.tm_disk.specs.Disk.{DiskState, IsSameDisk}
 use Rattle.model_system.specs.System.{System}
-use Rattle.model_machine.specs.Machine.{start_of}
-use Rattle.model_machine.specs.History.{moment_after, control_moment}
-use Rattle.model_image.specs.RecoveredState.{Recovers}
 use Rattle.model_session.specs.Lives.{LifeState, LastLife, AreLegal, HasAnswered, kept_life, with_life}
 use Rattle.model_session.specs.SessionState.{DiskEvent, Stop, AreStops}
-use Rattle.model_session.specs.SessionState.Standing.{Up as StandsUp}
-use Rattle.tm_control.specs.ControlOnDisk.{ControlOnDisk, LastsBy}
+use Rattle.tm_control.specs.ControlOnDisk.{ControlOnDisk}
 use Rattle.openings.specs.declared.life.Life.{Life}
 use Rattle.session_lives.specs.declared.place.Idle.{Idle}
 use Rattle.session_lives.specs.declared.place.Place.TheVariants.{Up, Down, Moved}
@@ -21,9 +17,9 @@ use Rattle.session_lives.specs.declared.place.Session.{Session}
 use Rattle.session_lives.specs.DiskEvents.{AreEvents}
 use Rattle.session_lives.specs.ToldNumbers.{numbers_told, numbers_of, told_numbers}
 use Rattle.session_lives.proofs.Telling.{with_numbers}
-use Rattle.session_lives.specs.RunningSession.{life_of, last_life_of, last_up, kept_steps, session_at, HoldsSession, IsUpReady, IsSessionReady, IsReadyAt, IsUpSound, IsDownSound, IsSoundAt}
+use Rattle.session_lives.specs.RunningSession.{life_of, last_life_of, last_up, kept_steps, session_at, IsUpReady, IsSessionReady, IsReadyAt, IsUpSound, IsDownSound, IsSoundAt}
 use Rattle.session_lives.specs.ClosedSession.{listed, IsClosedUp, IsClosedDown, IsClosedAt, IsSessionClosed, Remains, SessionLeaves}
-use Rattle.session_lives.proofs.Ends.{same_life, answered_by, answered_of, numbered_by}
+use Rattle.session_lives.proofs.Ends.{same_life, answered_by, answered_of, numbered_by, up_holds}
 use Rattle.session_lives.proofs.Restarted.{legal_with}
 
 lives_listed : (lives : List Life) (last : Option Life) → map life_of (lives ++ listed last) ≡ with_life (map life_of lives) (option_map last_life_of last) (kept_steps last)
@@ -57,25 +53,16 @@ module _ {D : Type 0} (state : D → DiskState) (system : System) (source : List
         told = told_all (map life_of lives) (map life_of kept.lives.items) (option_map last_life_of idle.last) (kept_steps idle.last) all sound.told;
       }
 
-  up_holds : (control : ControlOnDisk D) (up : Bool) → up ≡ true → control.control.system ≡ system → LastsBy up control.control control.checkpoint control.text (state control.disk) → (image : Image)
-      → (state control.disk).may_leave image → HoldsSession state system source handed (StandsUp (last_up control)) image
-  up_holds control false is same lasts image left = cc
-  up_holds control true is same lasts image left = inl (record {
-    state = (control_moment control.control).lasting;
-    recovers = subst (λ s. Recovers s image (Ok (control_moment control.control).lasting)) same (lasts.images image left);
-    may = ap (λ s. (moment_after s (start_of s control.control.opening) control.control.history).lasting) same;
-  })
-
   up_remains : (control : ControlOnDisk D) (kept : Kept) (disk : D) (lives : List Life) (stops : List Stop) → IsUpReady control kept → IsUpSound state system source handed events control kept
       → IsClosedUp state control kept disk lives stops → Remains state system source handed disk (session_at events (Up control) kept) lives stops
   up_remains control kept disk lives stops ready sound over =
       let life : LifeState = kept_life (last_up control) over.life.kept in
-      let same : life_of over.life ≡ life = ap (λ l. kept_life l over.life.kept) (same_life control.control.opening over.life.opening control.checkpoint over.life.checkpoint control.control.history over.life.history over.closes.opening over.closes.checkpoint over.closes.history) in
+      let same : life_of over.life ≡ life = ap (λ l. kept_life l over.life.kept) (same_life control.control.opening over.life.opening control.checkpoint over.life.checkpoint control.control.history over.life.history control.forced over.life.forced over.closes.opening over.closes.checkpoint over.closes.history over.closes.forced) in
       let all : map life_of lives ≡ with_life (map life_of kept.lives.items) (Some (last_up control)) over.life.kept =
       ap (map life_of) over.lives_are ∙ map-append life_of kept.lives.items (over.life ∷ []) ∙ ap (λ l. map life_of kept.lives.items ++ l ∷ []) same in
       let answered : HasAnswered system (last_up control) over.life.kept =
-      answered_of control.control.system system control.control.opening control.control.opening control.checkpoint control.checkpoint control.control.history control.control.history over.life.kept
-      sound.system_is refl refl refl (answered_by control.up control.control control.checkpoint control.text (state control.disk) over.life.kept over.lasts over.closes.legal over.closes.numbers over.closes.kept) in
+      answered_of control.control.system system control.control.opening control.control.opening control.checkpoint control.checkpoint control.control.history control.control.history control.forced control.forced over.life.kept
+      sound.system_is refl refl refl refl (answered_by control.up control.control control.forced control.checkpoint control.text (state control.disk) over.life.kept over.lasts over.closes.legal over.closes.numbers over.closes.kept) in
       record {
         lives_are = record { count = over.life.kept; answered = answered; are = all };
         legal = subst (λ l. AreLegal system l) (sym all) (legal_with system (map life_of kept.lives.items) (Some (last_up control)) over.life.kept over.life.kept sound.legal answered);
@@ -89,7 +76,8 @@ module _ {D : Type 0} (state : D → DiskState) (system : System) (source : List
         told = told_all (map life_of lives) (map life_of kept.lives.items) (Some (last_up control)) over.life.kept all sound.told;
         numbered = λ image left.
             numbered_by state system source handed control sound.system_is control.up image over.lasts (subst (λ d. (state d).may_leave image) over.closes.disk_is left);
-        images = λ image left. up_holds control control.up ready.up sound.system_is over.lasts image (subst (λ d. (state d).may_leave image) over.closes.disk_is left);
+        images = λ image left.
+            up_holds state system source handed control sound.system_is control.up ready.up over.lasts image (subst (λ d. (state d).may_leave image) over.closes.disk_is left);
       }
 
   remains_at : (place : Place D) (kept : Kept) (disk : D) (lives : List Life) (stops : List Stop) → IsReadyAt state place kept → IsSoundAt state system source handed events place kept

@@ -18,10 +18,9 @@ use Rattle.model_session.specs.declared.asked.Asked.{Asked}
 use Rattle.model_session.specs.declared.asked.Asked.TheVariants.{Bad, BadCommand, Stopped, Call, Quiet, Power, PowerIn, Restart, ColdStart}
 use Rattle.model_session.specs.Text.{broken_text, down_text}
 use Rattle.model_session.specs.Lives.{LifeState, LastLife, AreLegal, LifeLeaves, with_life}
-use Rattle.model_session.specs.SessionState.{Setting, Outage, DiskEvent, SessionState, AreStops, IsStateEmptied, MayBeFound, LastAnswered, IsStateLeft, or_cold, life_opened, failed}
+use Rattle.model_session.specs.SessionState.{Setting, Outage, DiskEvent, SessionState, AreStops, IsStateEmptied, MayBeFound, LastAnswered, IsStateLeft, last_forced, or_cold, life_opened, failed}
 use Rattle.model_session.specs.SessionState.Standing.{Up as StandsUp, Down as StandsDown}
 use Rattle.model_session.specs.SessionState.DiskEvent.{CutWith}
-use Rattle.model_session.proofs.Kept.{kept_has}
 use Rattle.model_session.specs.Session.{MayOpenWith, MayRefuse, OpensFirst, OpensAbove, IsRestarted, OpensSession as OpensLife, FailsToOpen}
 use Rattle.restart_data.specs.declared.restart.RestartSector.{RestartSector}
 use Rattle.restart_data.specs.Restart.{restart_in}
@@ -51,7 +50,7 @@ use Rattle.session_lives.specs.declared.place.Place.TheVariants.{Up, Down}
 use Rattle.session_lives.specs.declared.place.Kept.{Kept}
 use Rattle.session_lives.specs.declared.place.Session.{Session}
 use Rattle.session_lives.specs.RunningSession.{life_of, last_life_of, last_up, kept_steps, outage_of, session_at, session_of, session_down, session_setting, CountsDown, CountsFirst, LeadsBy, IsBrokenAs, IsRefusedFirst, IsOfDefinition, IsEmptyImage, IsRight, IsOfText, HoldsSession, IsNumberedAt, IsDownSound, IsSessionSound, IsSoundAt, error_of}
-use Rattle.session_lives.specs.ControlCounts.{CountsUp}
+use Rattle.session_lives.specs.ControlCounts.{CountsUp, force_raises}
 use Rattle.session_lives.specs.ToldNumbers.{numbers_told, numbers_so_far}
 use Rattle.session_lives.proofs.Counting.{stands_more}
 use Rattle.session_lives.proofs.Told.{told_text, one_restart, no_restart}
@@ -110,7 +109,7 @@ abbrev count_of : Option Life → Bool → ℕ → ℕ
 count_of None cold steps = 0
 count_of (Some life) cold steps = (life_kept_by cold life steps).kept
 
-kept_life_is : (cold : Bool) (life : Life) (steps : ℕ) → life_of (life_kept_by cold life steps) ≡ record { opening = life.opening; checkpoint = life.checkpoint; history = life.history; kept = (life_kept_by cold life steps).kept }
+kept_life_is : (cold : Bool) (life : Life) (steps : ℕ) → life_of (life_kept_by cold life steps) ≡ record { opening = life.opening; checkpoint = life.checkpoint; history = life.history; forced = life.forced; kept = (life_kept_by cold life steps).kept }
 kept_life_is true life steps = refl
 kept_life_is false life steps = refl
 
@@ -160,28 +159,23 @@ module _ {D : Type 0} (state : D → DiskState) (is_disk : (disk : D) → IsDisk
   found_is : (kept : ℕ) (state_then opening : LastingState) → opening ≡ state_then → MayBeFound setting outage kept state_then → MayBeFound setting outage kept opening
   found_is kept state_then opening same may = subst (λ s. MayBeFound setting outage kept s) (sym same) may
 
-  -- as it is counted: what is left of a life has all of its answered steps
-  counted_as : (last : Option Life) (kept : ℕ) (opening : LastingState) → LastAnswered system (option_map last_life_of last) (kept_steps last)
-      → IsStateLeft setting (option_map last_life_of last) kept opening → IsStateLeft setting (option_map last_life_of last) (count_of last false opening.steps) opening
-  counted_as None kept opening answered left = left
-  counted_as (Some life) kept opening answered left =
-      subst (λ n. LifeLeaves system (last_life_of life) n opening)
-      (higher life.kept kept (opening.steps - life.opening.steps) (kept_has system (last_life_of life) life.kept kept opening answered left) left.counted) left
+  -- as it is counted: what is left of a life has all of its steps that were forced
+  counted_as : (last : Option Life) (kept : ℕ) (opening : LastingState) → IsStateLeft setting (option_map last_life_of last) kept opening
+      → IsStateLeft setting (option_map last_life_of last) (count_of last false opening.steps) opening
+  counted_as None kept opening left = left
+  counted_as (Some life) kept opening left =
+      subst (λ n. LifeLeaves system (last_life_of life) n opening) (higher life.forced kept (opening.steps - life.opening.steps) left.enough left.counted) left
 
   -- and where nothing is left, just these
-  emptied_as : (last : Option Life) (kept : ℕ) (emptied : Bool) (opening : LastingState) → LastAnswered system (option_map last_life_of last) (kept_steps last)
-      → IsStateEmptied system (option_map last_life_of last) emptied kept opening → IsStateEmptied system (option_map last_life_of last) emptied (count_of last false opening.steps) opening
-  emptied_as None kept emptied opening answered is = record { broke_off = is.broke_off; empty = is.empty; answered = refl }
-  emptied_as (Some life) kept emptied opening answered is = record {
-    broke_off = is.broke_off;
-    empty = is.empty;
-    answered = subst (λ n. LastAnswered system (option_map last_life_of (Some life)) n)
-        (nothing_more life.kept life.opening.steps opening.steps (ap (λ s. s.steps) is.empty)) answered;
-  }
+  emptied_as : (last : Option Life) (kept : ℕ) (emptied : Bool) (opening : LastingState) → IsStateEmptied system (option_map last_life_of last) emptied kept opening
+      → IsStateEmptied system (option_map last_life_of last) emptied (count_of last false opening.steps) opening
+  emptied_as None kept emptied opening is = record { broke_off = is.broke_off; empty = is.empty; counted = refl }
+  emptied_as (Some life) kept emptied opening is =
+      record { broke_off = is.broke_off; empty = is.empty; counted = sym (nothing_more life.forced life.opening.steps opening.steps (ap (λ s. s.steps) is.empty)) }
 
   count_found : (kept : ℕ) (opening : LastingState) → MayBeFound setting outage kept opening → MayBeFound setting outage (count_of idle.last false opening.steps) opening
-  count_found kept opening (inl left) = inl (counted_as idle.last kept opening sound.answered left)
-  count_found kept opening (inr emptied) = inr (emptied_as idle.last kept idle.emptied opening sound.answered emptied)
+  count_found kept opening (inl left) = inl (counted_as idle.last kept opening left)
+  count_found kept opening (inr emptied) = inr (emptied_as idle.last kept idle.emptied opening emptied)
 
   found_by : (image : Image) (opening : LastingState) → HoldsSession state system source handed (StandsDown outage) image → Recovers system image (Ok opening)
       → MayBeFound setting outage (count_of idle.last false opening.steps) opening
@@ -244,9 +238,9 @@ module _ {D : Type 0} (state : D → DiskState) (is_disk : (disk : D) → IsDisk
   opened_state cold gone =
       ap (λ p. session_at events p session.kept) gone.place
       ∙ same_state (with_life (map life_of old.lives.items) outage.last (count_of idle.last cold gone.control.control.opening.steps)) (map life_of session.kept.lives.items)
-      old.stops.items session.kept.stops.items (past_with events old.pick) (past_with events session.kept.pick) (StandsUp (life_with gone.control.control.opening gone.control.checkpoint [])) (StandsUp (last_up gone.control))
+      old.stops.items session.kept.stops.items (past_with events old.pick) (past_with events session.kept.pick) (StandsUp (life_with gone.control.control.opening gone.control.checkpoint [] 0)) (StandsUp (last_up gone.control))
       (ap (map life_of) gone.lives ∙ lives_with old.lives.items idle.last cold gone.control.control.opening.steps) gone.stops (ap (past_with events) gone.pick)
-      (ap StandsUp (same_life gone.control.control.opening gone.control.control.opening gone.control.checkpoint gone.control.checkpoint [] gone.control.control.history refl refl gone.opens.history))
+      (ap StandsUp (same_life gone.control.control.opening gone.control.control.opening gone.control.checkpoint gone.control.checkpoint [] gone.control.control.history 0 gone.control.forced refl refl gone.opens.history gone.opens.forced))
 
   opened_measured : (cold : Bool) (gone : HasOpened state idle old cold session) → measure (session_at events (Up gone.control) session.kept) ≡ measure before + 1
   opened_measured cold gone =
@@ -254,16 +248,16 @@ module _ {D : Type 0} (state : D → DiskState) (is_disk : (disk : D) → IsDisk
       ∙ opened_measure before outage (count_of idle.last cold gone.control.control.opening.steps) gone.control.checkpoint gone.control.control.opening
 
   opened_counts : (cold : Bool) (gone : HasOpened state idle old cold session) (high : ℕ) → CountsFirst system high (state handed)
-      → CountsUp state (high + call_raises * measure (session_at events (Up gone.control) session.kept)) gone.control
+      → CountsUp state (high + call_raises * measure (session_at events (Up gone.control) session.kept) - force_raises) gone.control
   opened_counts cold gone high first =
-      let more : bound high + 1 ≤ high + call_raises * measure (session_at events (Up gone.control) session.kept) = omega (arith, opened_measured cold gone) in
+      let more : bound high + 1 ≤ high + call_raises * measure (session_at events (Up gone.control) session.kept) - force_raises = omega (arith, opened_measured cold gone) in
       record {
         own = λ up.
-            stands_more (bound high + 1) (high + call_raises * measure (session_at events (Up gone.control) session.kept)) gone.control.journal gone.control.next_unit more
+            stands_more (bound high + 1) (high + call_raises * measure (session_at events (Up gone.control) session.kept) - force_raises) gone.control.journal gone.control.next_unit more
             (gone.stands (bound high) (λ found. tells_now first.tells) (λ found. shown_counts high first));
         images = λ image left.
-            subst (λ (s : System). CountsUpTo s (high + call_raises * measure (session_at events (Up gone.control) session.kept)) image) (sym (gone.opens.system_is ∙ sound.system_is))
-            (up_to_more system (bound high + 1) (high + call_raises * measure (session_at events (Up gone.control) session.kept)) image more (raised gone.control.disk gone.counts high first image left));
+            subst (λ (s : System). CountsUpTo s (high + call_raises * measure (session_at events (Up gone.control) session.kept) - force_raises + force_raises) image) (sym (gone.opens.system_is ∙ sound.system_is))
+            (up_to_more system (bound high + 1) (high + call_raises * measure (session_at events (Up gone.control) session.kept) - force_raises + force_raises) image (omega (arith, more)) (raised gone.control.disk gone.counts high first image left));
       }
 
   -- ---- the numbers that were told
@@ -313,7 +307,7 @@ module _ {D : Type 0} (state : D → DiskState) (is_disk : (disk : D) → IsDisk
     where
       still : (cold : Bool) → MayBeFound setting outage recalls.may.0 recalls.state → MayBeFound setting (outage_with outage.last (or_cold cold outage.emptied) true) recalls.may.0 recalls.state
       still cold (inl left) = inl left
-      still true (inr emptied) = inr (record { broke_off = refl; empty = emptied.empty; answered = emptied.answered })
+      still true (inr emptied) = inr (record { broke_off = refl; empty = emptied.empty; counted = emptied.counted })
       still false (inr emptied) = inr emptied
   keeps_holding cold image (inr unopened) = inr (record { no_life = unopened.no_life; before = unopened.before; left = unopened.left; alike = unopened.alike })
 
@@ -326,7 +320,7 @@ module _ {D : Type 0} (state : D → DiskState) (is_disk : (disk : D) → IsDisk
       → HoldsSession state system source handed (StandsDown (outage_with outage.last (or_cold cold outage.emptied) true)) image
   broken_by false first image keeps holds = keeps_holding false image (alike_holds first image keeps.alike holds)
   broken_by true first image (inl same) holds = keeps_holding true image (subst (λ i. HoldsSession state system source handed (StandsDown outage) i) (sym same) holds)
-  broken_by true first image (inr empty) holds = inl (record { state = empty_state system; recovers = empty.recovers; may = (kept_steps idle.last, inr (record { broke_off = refl; empty = refl; answered = sound.answered })) })
+  broken_by true first image (inr empty) holds = inl (record { state = empty_state system; recovers = empty.recovers; may = (last_forced outage.last, inr (record { broke_off = refl; empty = refl; counted = refl })) })
 
   same_image : (cold : Bool) (image : Image) → KeepsBy (how_of cold) system source image image
   same_image false image = record { alike = λ answer is. is; texts = inl refl; number = λ low is. is }
@@ -697,12 +691,12 @@ module _ {D : Type 0} (state : D → DiskState) (is_disk : (disk : D) → IsDisk
       opens_empty : IsEmptyImage system (StandsDown outage) (state idle.disk).shown
           → IsStateEmptied system outage.last outage.emptied (count_of idle.last false gone.control.control.opening.steps) gone.control.control.opening
       opens_empty emptied =
-          emptied_as idle.last (kept_steps idle.last) idle.emptied gone.control.control.opening sound.answered
+          emptied_as idle.last (last_forced outage.last) idle.emptied gone.control.control.opening
           (record {
             broke_off = emptied.broke_off;
             empty = ok_is gone.control.control.opening (empty_state system)
                 (one_answer_of system (state idle.disk).shown (Ok gone.control.control.opening) (Ok (empty_state system)) recovers emptied.empty);
-            answered = sound.answered;
+            counted = refl;
           })
 
       of : IsOfText state system source handed (StandsDown outage) (state idle.disk).shown

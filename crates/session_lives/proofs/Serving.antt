@@ -1,5 +1,5 @@
 -- What was asked of a control region that is up, as a block that was served.
-use Rattle.std.proofs.Common.{◌≡◌, ℕ, ◌+◌, ◌*◌, ◌≤◌, ◌<◌, Bool, true, false, List, [], ◌∷◌, ◌++◌, length, map, sym, ◌∙◌, ap, subst, refl, arith, inl, inr}
+use Rattle.std.proofs.Common.{◌≡◌, ℕ, ◌+◌, ◌-◌, ◌*◌, ◌≤◌, ◌<◌, Bool, true, false, List, [], ◌∷◌, ◌++◌, length, map, sym, ◌∙◌, ap, subst, refl, arith, inl, inr, append_assoc}
 use Rattle.std.proofs.lemmas.List.{append-nil}
 use Rattle.std.specs.Prelude.{if◌then◌else◌, Option, Some, None, Ok, Err, vec_len, vec_capacity}
 use Rattle.tm_disk.specs.Disk.{DiskState, IsSameDisk, Only, Rose}
@@ -8,33 +8,37 @@ use Rattle.model_system.specs.System.{System}
 use Rattle.model_machine.specs.declared.entry.Entry.{Entry}
 use Rattle.model_machine.specs.declared.entry.Entry.TheVariants.{Accept, Show, Acked, Turn as TurnEntry, Commanded, Checked, Quiet as IsQuiet}
 use Rattle.model_machine.specs.declared.entry.ControlCall.TheVariants.{Turn}
-use Rattle.model_machine.specs.Machine.{start_of}
+use Rattle.model_machine.specs.Machine.{LastingState, Moment, start_of}
 use Rattle.model_machine.specs.History.{May, AreSteps, IsCall, call_of, control_moment, moment_after}
 use Rattle.model_session.specs.declared.asked.Asked.{Asked}
 use Rattle.model_session.specs.declared.asked.Asked.TheVariants.{Bad, BadCommand, Stopped, Call, Quiet, Power as AskedPower, PowerIn, Restart, ColdStart}
 use Rattle.model_session.specs.Text.{entry_text, broken_text, armed_text}
 use Rattle.model_session.specs.QuietTurns.{AreTurns, IsQuieted, IsBrokenOff, quieted_text, region_behind_turns}
-use Rattle.model_session.specs.Lives.{AreLegal, now_in}
+use Rattle.model_session.specs.Lives.{AreLegal, IsAllForced, IsForcedTo, binds, failed_force, longer, now_in}
 use Rattle.model_session.specs.SessionState.{Setting, DiskEvent, DiskPast, SessionState, AreStops, life_gone_on, called_on, broken, stop_armed, told_one, told_by}
 use Rattle.model_session.specs.SessionState.Standing.{Up as StandsUp}
 use Rattle.model_session.specs.SessionState.DiskEvent.{StopsAt, CutWith, Tells}
-use Rattle.model_session.specs.Session.{IsServedUp, IsBegunBy}
-use Rattle.tm_control.specs.ControlOnDisk.{ControlOnDisk}
-use Rattle.tm_control.specs.ControlCalls.{IsSameControl, AddedNothing, StaysSo}
+use Rattle.model_session.specs.Session.{IsServedUp, IsBegunBy, IsSourceEnded}
+use Rattle.tm_control.specs.ControlOnDisk.{ControlOnDisk, Lasts, front_of, lasting_after_entries}
+use Rattle.tm_control.specs.ControlCalls.{IsSameControl, StaysSo}
 use Rattle.session_lives.specs.declared.called.Called.{Called}
 use Rattle.session_lives.specs.declared.called.Called.TheVariants.{Answered, Frozen, Power, Broke, Memory, Spent}
+use Rattle.session_lives.specs.declared.called.Ending.{Ending}
+use Rattle.session_lives.specs.declared.called.Ending.TheVariants.{Forced, Broke as HasBroken}
 use Rattle.session_lives.specs.declared.called.Served.{Served}
 use Rattle.session_lives.specs.declared.place.Place.TheVariants.{Up}
 use Rattle.session_lives.specs.declared.place.Kept.{Kept}
 use Rattle.session_lives.specs.declared.place.Session.{Session}
 use Rattle.session_law.specs.Measures.{call_raises, lives_measure, measure}
 use Rattle.session_law.specs.SpentCounters.{HasSpent, IsSpentAt}
-use Rattle.session_lives.specs.ControlCounts.{CountsUp, KeepsPace}
+use Rattle.session_lives.specs.ControlCounts.{CountsUp, KeepsPace, force_raises}
 use Rattle.session_lives.specs.DiskEvents.{GoesOn, AreEvents}
 use Rattle.session_lives.specs.ToldNumbers.{numbers_in, numbers_told, told_numbers, ShowsTold}
 use Rattle.session_lives.specs.RunningSession.{life_of, last_up, session_at, session_of, session_up, session_setting, CountsFirst, IsUpReady, IsUpSound, IsSessionSound, IsSoundAt, IsReadyAt, LeadsBy}
-use Rattle.session_lives.specs.AskedControl.{IsAsked, DoesAsked, Freezes, AskedFails, PowersOff, Undoes, IsSpentUp, LooksAtCounters, StaysBy, pick_by}
+use Rattle.session_lives.specs.AskedControl.{IsAsked, IsBound, IsForcedSo, DidNothing, DoesAsked, Freezes, AskedFails, PowersOff, Undoes, IsSpentUp, LooksAtCounters, StaysBy, pick_by}
 use Rattle.session_lives.specs.Openings.{IsEndable, HasEndedLife, IsAloneBy, IsCallSettled, CountsOn, IsServedSo}
+use Rattle.session_lives.specs.SourceEnd.{IsEndSettled, end_text}
+use Rattle.session_lives.proofs.Bound.{bound_same, fails_before, front_is, most_up}
 use Rattle.session_lives.proofs.Counting.{counts_more}
 use Rattle.session_lives.proofs.Happening.{events_go, events_one, events_told, events_armed}
 use Rattle.session_lives.proofs.Telling.{numbers_more, fault_numbers, turns_numbers, turns_told, cut_numbers, armed_numbers, one_numbers, numbers_behind}
@@ -74,7 +78,7 @@ module _ {D : Type 0} (state : D → DiskState) (a b : ControlOnDisk D) where
   up_undone ColdStart added = added.up
 
 module _ {D : Type 0} (state : D → DiskState) (system : System) (source : List ℕ) (handed : D) (events : List DiskEvent) (a b : ControlOnDisk D) (old kept : Kept) (session : Session D) (text : List ℕ)
-    (sound : IsUpSound state system source handed events a old) (stays : IsSameControl state a b) (lives : kept.lives ≡ old.lives) (stops : kept.stops ≡ old.stops) (pace : KeepsPace state a b) where
+    (sound : IsUpSound state system source handed events a old) (stays : IsSameControl state a b) (lives : kept.lives ≡ old.lives) (stops : kept.stops ≡ old.stops) (pace : KeepsPace state a b) (lasts : Lasts state b) where
   abbrev before : SessionState
   before = session_at events (Up a) old
 
@@ -90,15 +94,15 @@ module _ {D : Type 0} (state : D → DiskState) (system : System) (source : List
   goes_up now on = ap (λ (s : Session D). session_of now s) on
 
   up_after : (now : List DiskEvent) → session ≡ session_up b kept → (entries : List Entry) → past_with now kept.pick ≡ told_by entries past → b.control.history ≡ a.control.history ++ entries
-      → session_of now session ≡ life_gone_on before (last_up a) entries
+      → session_of now session ≡ life_gone_on before (last_up a) entries b.forced
   up_after now on entries same history = goes_up now on ∙ up_state events now a b old kept entries stays.opening stays.checkpoint history lives stops same
 
-  past_after : (now : List DiskEvent) → session ≡ session_up b kept → (then_past : DiskPast) → past_with now kept.pick ≡ then_past → b.control.history ≡ a.control.history
+  past_after : (now : List DiskEvent) → session ≡ session_up b kept → (then_past : DiskPast) → past_with now kept.pick ≡ then_past → DidNothing state a b
       → session_of now session ≡ state_with (map life_of old.lives.items) old.stops.items then_past (StandsUp (last_up a))
-  past_after now on then_past is history = goes_up now on ∙ up_with now a b old kept then_past stays.opening stays.checkpoint history lives stops is
+  past_after now on then_past is added = goes_up now on ∙ up_with now a b old kept then_past stays.opening stays.checkpoint added.adds.history added.forced lives stops is
 
-  same_after : session ≡ session_up b kept → kept.pick ≡ old.pick → b.control.history ≡ a.control.history → session_of events session ≡ before
-  same_after on pick history = past_after events on past (ap (past_with events) pick) history
+  same_after : session ≡ session_up b kept → kept.pick ≡ old.pick → DidNothing state a b → session_of events session ≡ before
+  same_after on pick added = past_after events on past (ap (past_with events) pick) added
 
   -- ---- what happened at the disk
 
@@ -201,6 +205,48 @@ module _ {D : Type 0} (state : D → DiskState) (system : System) (source : List
   begun_in : (most : ℕ) (turns : List Entry) → IsBrokenOff most a.control.system (control_moment a.control) turns → IsBrokenOff most system (now_in system (last_up a)) turns
   begun_in most turns begun = subst (λ s. IsBrokenOff most s (moment_after s (start_of s a.control.opening) a.control.history) turns) sound.system_is begun
 
+  -- ---- what is forced
+
+  moment_now : (entries : List Entry) → b.control.history ≡ a.control.history ++ entries → control_moment b.control ≡ now_in system (longer (last_up a) entries)
+  moment_now entries history =
+      ap (λ (s : System). moment_after s (start_of s b.control.opening) b.control.history) (stays.system ∙ sound.system_is)
+      ∙ ap (λ o. moment_after system (start_of system o) b.control.history) stays.opening
+      ∙ ap (moment_after system (start_of system a.control.opening)) history
+
+  forced_to_now : (bound : Bool) (entries : List Entry) → b.up ≡ true → b.control.history ≡ a.control.history ++ entries → IsBound bound a b → IsForcedTo system (longer (last_up a) entries) bound b.forced
+  forced_to_now bound entries up history is =
+      let most : b.control.opening.steps + b.forced ≤ (control_moment b.control).lasting.steps = most_up state b up lasts in
+      let steps : (control_moment b.control).lasting.steps ≡ (now_in system (longer (last_up a) entries)).lasting.steps = ap (λ (m : Moment). m.lasting.steps) (moment_now entries history) in
+      let opening : b.control.opening.steps ≡ a.control.opening.steps = ap (λ (o : LastingState). o.steps) stays.opening in
+      record {
+        least = is.least;
+        most = omega (arith, most, steps, opening);
+        all = λ binding. let all : b.forced ≡ front_of b.control = is.all binding in omega (arith, all, most, steps, opening);
+      }
+
+  -- where the disk has failed, no more than stood before its last entry
+  most_before : (entries : List Entry) (last : Entry) → b.up ≡ false → b.control.history ≡ a.control.history ++ entries ++ last ∷ []
+      → a.control.opening.steps + b.forced ≤ (now_in system (longer (last_up a) entries)).lasting.steps
+  most_before entries last down history =
+      let left = fails_before b.up b.control b.forced b.checkpoint b.text (state b.disk) down lasts in
+      let front : left.before ≡ a.control.history ++ entries = front_is left.before (a.control.history ++ entries) left.entry last (sym left.all ∙ history) in
+      let steps : (lasting_after_entries b.control.system b.control.opening left.before).steps ≡ (now_in system (longer (last_up a) entries)).lasting.steps =
+      ap (λ (s : System). (lasting_after_entries s b.control.opening left.before).steps) (stays.system ∙ sound.system_is)
+      ∙ ap (λ o. (lasting_after_entries system o left.before).steps) stays.opening
+      ∙ ap (λ es. (lasting_after_entries system a.control.opening es).steps) front in
+      omega (arith, left.most, steps, ap (λ (o : LastingState). o.steps) stays.opening)
+
+  forced_before : (entries : List Entry) (last : Entry) → b.up ≡ false → b.control.history ≡ a.control.history ++ (entries ++ last ∷ []) → IsBound false a b → IsForcedTo system (longer (last_up a) entries) false b.forced
+  forced_before entries last down history is = record {
+    least = is.least;
+    most = most_before entries last down (history ∙ sym (append_assoc a.control.history entries (last ∷ [])));
+    all = λ binding. cc;
+  }
+
+  forced_here : (last : Entry) → b.up ≡ false → b.control.history ≡ a.control.history ++ last ∷ [] → b.forced ≡ a.forced → IsForcedTo system (last_up a) false b.forced
+  forced_here last down history same =
+      subst (λ (es : List Entry). IsForcedTo system (record (last_up a) { history = es }) false b.forced) (append-nil a.control.history) (forced_before [] last down history (bound_same a b same))
+
   -- ---- the numbers that were told
 
   abbrev Told : List DiskEvent → Type 0
@@ -258,7 +304,9 @@ module _ {D : Type 0} (state : D → DiskState) (system : System) (source : List
   told_failed (Bad rule) never = absurd never
   told_failed (BadCommand rule) never = absurd never
   told_failed (Stopped terminal number reason) never = absurd never
-  told_failed (Call call) failed = told_none (failed.entry ∷ []) failed.broke.history (fault_numbers failed.entry failed.fault)
+  told_failed (Call call) (inl failed) = told_none (failed.entry ∷ []) failed.broke.history (fault_numbers failed.entry failed.fault)
+  told_failed (Call call) (inr failed) =
+      told_none (failed.entry ∷ failed_force ∷ []) failed.history (numbers_more (failed.entry ∷ []) (failed_force ∷ []) ∙ ap (λ (numbers : List ℕ). numbers ++ []) failed.silent)
   told_failed (Quiet most) failed =
       told_none (failed.turns ++ failed.entry ∷ []) failed.history
       (numbers_more failed.turns (failed.entry ∷ [])
@@ -289,15 +337,15 @@ module _ {D : Type 0} (state : D → DiskState) (system : System) (source : List
 
   -- up to where the lives before and the stops have brought it
   abbrev base : ℕ → ℕ
-  base high = high + call_raises * (lives_measure (map life_of old.lives.items) + length old.stops.items + 1)
+  base high = high + call_raises * (lives_measure (map life_of old.lives.items) + length old.stops.items + 1) - force_raises
 
-  counts_now : (high : ℕ) → CountsFirst system high (state handed) → CountsUp state (high + call_raises * measure (session_at events (Up b) kept)) b
+  counts_now : (high : ℕ) → CountsFirst system high (state handed) → CountsUp state (high + call_raises * measure (session_at events (Up b) kept) - force_raises) b
   counts_now high first =
       let logs : a.control.system.logs ≤ 2048 = subst (λ (s : System). s.logs ≤ 2048) (sym sound.system_is) sound.valid.most_logs in
       let same_lives : lives_measure (map life_of kept.lives.items) ≡ lives_measure (map life_of old.lives.items) = ap (λ v. lives_measure (map life_of v.items)) lives in
       let same_stops : length kept.stops.items ≡ length old.stops.items = ap (λ v. length v.items) stops in
-      counts_more state (base high + call_raises * length b.control.history) (high + call_raises * measure (session_at events (Up b) kept)) b (omega (arith, same_lives, same_stops))
-      (pace logs (base high) (counts_more state (high + call_raises * measure before) (base high + call_raises * length a.control.history) a (omega arith) (sound.counts high first)))
+      counts_more state (base high + call_raises * length b.control.history) (high + call_raises * measure (session_at events (Up b) kept) - force_raises) b (omega (arith, same_lives, same_stops))
+      (pace logs (base high) (counts_more state (high + call_raises * measure before - force_raises) (base high + call_raises * length a.control.history) a (omega arith) (sound.counts high first)))
 
   -- ---- what is sound behind it
 
@@ -349,12 +397,12 @@ module _ {D : Type 0} (state : D → DiskState) (system : System) (source : List
   -- ---- what was served
 
   turned_after : session ≡ session_up b kept → kept.pick ≡ old.pick → (turns : List Entry) → AreTurns a.control.system 0 (control_moment a.control) turns
-      → b.control.history ≡ a.control.history ++ turns → session_of events session ≡ life_gone_on before (last_up a) turns
+      → b.control.history ≡ a.control.history ++ turns → session_of events session ≡ life_gone_on before (last_up a) turns b.forced
   turned_after on pick turns are history =
       up_after events on turns (ap (past_with events) pick ∙ sym (turns_told a.control.system 0 (control_moment a.control) turns past are)) history
 
-  nothing : session ≡ session_up b kept → kept.pick ≡ old.pick → AddedNothing state a b → session_of events session ≡ before
-  nothing on pick added = same_after on pick added.adds.history
+  nothing : session ≡ session_up b kept → kept.pick ≡ old.pick → DidNothing state a b → session_of events session ≡ before
+  nothing on pick added = same_after on pick added
 
   does : (asked : Asked) → (does_it : DoesAsked state asked a b text) → kept.pick ≡ pick_by asked Answered (state a.disk).can_arm old.pick → session ≡ session_up b kept
       → IsServedUp asked setting before (last_up a) (session_of (events_done asked does_it) session) text
@@ -363,22 +411,26 @@ module _ {D : Type 0} (state : D → DiskState) (system : System) (source : List
   does (Stopped terminal number reason) (added, printed) pick on = (nothing on pick added, printed)
   does (Call call) told pick on = inl (record {
     entry = told.entry;
+    forced = b.forced;
     asked = told.asked;
     may = may_in told.entry told.answered.adds.may;
-    goes = subst (λ ends. session_of (with_entry told.entry) session ≡ called_on ends before (last_up a) (told.entry ∷ [])) (sym told.goes_on)
+    is_forced = forced_to_now (binds told.entry) (told.entry ∷ []) told.answered.up told.answered.adds.history told.forced;
+    goes = subst (λ ends. session_of (with_entry told.entry) session ≡ called_on ends before (last_up a) (told.entry ∷ []) b.forced) (sym told.goes_on)
         (up_after (with_entry told.entry) on (told.entry ∷ []) (told_picked told.entry events old.pick kept.pick pick) told.answered.adds.history);
     printed = text_in told.entry told.printed;
   })
   does (Quiet most) turned pick on = inl (record {
     turns = turned.turns;
+    forced = b.forced;
     steps = steps_in turned.turns turned.steps;
     quieted = quieted_in most turned.turns turned.quieted;
+    is_forced = forced_to_now false turned.turns turned.up turned.adds.history turned.forced;
     goes = turned_after on pick turned.turns turned.quieted.turns turned.adds.history;
     printed = quiet_text_in turned.turns turned.printed;
   })
   does (AskedPower pick) never is on = absurd never
   does (PowerIn writes pick) (added, printed) is on =
-      (past_after (with_stop writes pick) on (stop_armed setting.can_arm writes pick past) (armed_past writes pick is) added.adds.history, subst (λ can. text ≡ armed_text can writes) sound.same.can_arm printed)
+      (past_after (with_stop writes pick) on (stop_armed setting.can_arm writes pick past) (armed_past writes pick is) added, subst (λ can. text ≡ armed_text can writes) sound.same.can_arm printed)
   does Restart (added, printed) pick on = (nothing on pick added, printed)
   does ColdStart (added, printed) pick on = (nothing on pick added, printed)
 
@@ -386,12 +438,14 @@ module _ {D : Type 0} (state : D → DiskState) (system : System) (source : List
       → IsServedUp asked setting before (last_up a) (session_of (events_frozen asked frozen) session) text
   freezes (Call call) frozen pick over = inl (record {
     entry = frozen.entry;
+    forced = b.forced;
     asked = frozen.asked;
     may = may_in frozen.entry frozen.answered.adds.may;
-    goes = subst (λ ends. session_of (with_entry frozen.entry) session ≡ called_on ends before (last_up a) (frozen.entry ∷ [])) (sym frozen.ends)
+    is_forced = forced_to_now (binds frozen.entry) (frozen.entry ∷ []) frozen.answered.up frozen.answered.adds.history frozen.forced;
+    goes = subst (λ ends. session_of (with_entry frozen.entry) session ≡ called_on ends before (last_up a) (frozen.entry ∷ []) b.forced) (sym frozen.ends)
         (ap (λ p. session_at (with_entry frozen.entry) p session.kept) over.place
-        ∙ ended_state state (with_entry frozen.entry) a b old kept session.kept (told_one frozen.entry past) over.idle (frozen.entry ∷ []) over.down lives stops
-        (told_picked frozen.entry events old.pick session.kept.pick (over.pick ∙ pick)) stays.opening stays.checkpoint frozen.answered.adds.history);
+        ∙ ended_state state (with_entry frozen.entry) a b old kept session.kept (told_one frozen.entry past) over.idle (frozen.entry ∷ []) b.forced over.down lives stops
+        (told_picked frozen.entry events old.pick session.kept.pick (over.pick ∙ pick)) stays.opening stays.checkpoint frozen.answered.adds.history refl);
     printed = text_in frozen.entry frozen.printed;
   })
   freezes (Bad rule) never is over = absurd never
@@ -408,21 +462,36 @@ module _ {D : Type 0} (state : D → DiskState) (system : System) (source : List
   events_stopped = events ++ CutWith old.pick ∷ []
 
   ends_with : {pick : ℕ} → (entries : List Entry) → b.control.history ≡ a.control.history ++ entries → (over : HasEndedLife state b kept (Some pick) true session)
-      → session_of events_stopped session ≡ broken before (last_up a) entries (b.began, (state over.down.disk).faults)
+      → session_of events_stopped session ≡ broken before (last_up a) entries b.forced (b.began, (state over.down.disk).faults)
   ends_with entries history over =
       ap (λ p. session_at events_stopped p session.kept) over.place ∙ broken_state state events a b old kept session.kept over.idle entries over.down lives stops over.pick stays.opening stays.checkpoint history
 
   fails : (asked : Asked) → AskedFails state asked a b → HasEndedLife state b kept (Some kept.pick) true session → IsServedUp asked setting before (last_up a) (session_of events_stopped session) broken_text
-  fails (Call call) failed over = inr (record {
+  fails (Call call) (inl failed) over = inr (inl (record {
     entry = failed.entry;
+    forced = b.forced;
     stop = (b.began, (state over.down.disk).faults);
     breaks = record { asked = failed.asked; can = subst (λ c. IsCall system c) failed.asked (subst (λ s. IsCall s (call_of failed.entry)) sound.system_is failed.broke.call); fault = failed.fault };
+    is_forced = forced_here failed.entry failed.broke.down failed.broke.history failed.forced;
     ends = ends_with (failed.entry ∷ []) failed.broke.history over;
     printed = refl;
-  })
+  }))
+  fails (Call call) (inr failed) over = inr (inr (record {
+    entry = failed.entry;
+    forced = b.forced;
+    stop = (b.began, (state over.down.disk).faults);
+    asked = failed.asked;
+    may = may_in failed.entry failed.may;
+    bound = failed.bound;
+    goes_on = failed.goes_on;
+    is_forced = forced_before (failed.entry ∷ []) failed_force failed.down failed.history failed.forced;
+    ends = ends_with (failed.entry ∷ failed_force ∷ []) failed.history over;
+    printed = refl;
+  }))
   fails (Quiet most) failed over = inr (record {
     turns = failed.turns;
     entry = failed.entry;
+    forced = b.forced;
     stop = (b.began, (state over.down.disk).faults);
     steps = steps_in failed.turns failed.steps;
     begun = begun_in most failed.turns failed.begun;
@@ -431,6 +500,7 @@ module _ {D : Type 0} (state : D → DiskState) (system : System) (source : List
       can = subst (λ c. IsCall system c) (failed.asked ∙ ap (λ s. Turn (region_behind_turns s (length failed.turns))) sound.system_is) (subst (λ s. IsCall s (call_of failed.entry)) sound.system_is failed.can);
       fault = failed.fault;
     };
+    is_forced = forced_before failed.turns failed.entry failed.down failed.history failed.forced;
     ends = ends_with (failed.turns ++ failed.entry ∷ []) failed.history over;
     printed = refl;
   })
@@ -443,7 +513,8 @@ module _ {D : Type 0} (state : D → DiskState) (system : System) (source : List
   fails ColdStart never over = absurd never
 
   rose_in : (asked : Asked) → AskedFails state asked a b → Rose (state a.disk).faults (state b.disk).faults
-  rose_in (Call call) failed = failed.broke.failed
+  rose_in (Call call) (inl failed) = failed.broke.failed
+  rose_in (Call call) (inr failed) = failed.failed
   rose_in (Quiet most) failed = failed.failed
   rose_in (Bad rule) never = absurd never
   rose_in (BadCommand rule) never = absurd never
@@ -457,8 +528,8 @@ module _ {D : Type 0} (state : D → DiskState) (system : System) (source : List
       → IsServedUp asked setting before (last_up a) (session_of (events ++ CutWith pick ∷ []) session) text
   powers (AskedPower asked) pick (same, unchanged, added, printed) over = (
     ap (λ p. session_at (events ++ CutWith pick ∷ []) p session.kept) over.place
-        ∙ ended_state state (events ++ CutWith pick ∷ []) a b old kept session.kept (past_with (events ++ CutWith asked ∷ []) 0) over.idle [] over.down lives stops
-        (ap (past_with (events ++ CutWith pick ∷ [])) over.pick ∙ ap (λ n. past_with (events ++ CutWith n ∷ []) 0) same) stays.opening stays.checkpoint (added.adds.history ∙ sym (append-nil a.control.history)),
+        ∙ ended_state state (events ++ CutWith pick ∷ []) a b old kept session.kept (past_with (events ++ CutWith asked ∷ []) 0) over.idle [] a.forced over.down lives stops
+        (ap (past_with (events ++ CutWith pick ∷ [])) over.pick ∙ ap (λ n. past_with (events ++ CutWith n ∷ []) 0) same) stays.opening stays.checkpoint (added.adds.history ∙ sym (append-nil a.control.history)) added.forced,
     printed,
   )
   powers (Bad rule) pick never over = absurd never
@@ -473,7 +544,14 @@ module _ {D : Type 0} (state : D → DiskState) (system : System) (source : List
   undoes : (asked : Asked) → Undoes state asked a b → kept.pick ≡ old.pick → session ≡ session_up b kept → IsBegunBy asked system before before.standing (session_of events session)
   undoes (Quiet most) (inl added) pick on = inl (nothing on pick added)
   undoes (Quiet most) (inr stand) pick on =
-      inr (record { turns = stand.turns; steps = steps_in stand.turns stand.steps; begun = begun_in most stand.turns stand.begun; goes = turned_after on pick stand.turns stand.begun.turns stand.adds.history })
+      inr (record {
+        turns = stand.turns;
+        forced = b.forced;
+        steps = steps_in stand.turns stand.steps;
+        begun = begun_in most stand.turns stand.begun;
+        is_forced = forced_to_now false stand.turns stand.up stand.adds.history stand.forced;
+        goes = turned_after on pick stand.turns stand.begun.turns stand.adds.history;
+      })
   undoes (Bad rule) added pick on = nothing on pick added
   undoes (BadCommand rule) added pick on = nothing on pick added
   undoes (Stopped terminal number reason) added pick on = nothing on pick added
@@ -495,7 +573,7 @@ module _ {D : Type 0} (state : D → DiskState) (system : System) (source : List
         counter = spent.counter;
         spent = spent.spent;
         own = λ high first. let stands = (counts_now high first).own up in
-            record { epoch_low = stands.epoch; sequence_low = stands.sequence; checkpoint_low = stands.checkpoint; unit_low = stands.unit };
+            record { epoch_low = omega (arith, stands.epoch); sequence_low = omega (arith, stands.sequence); checkpoint_low = omega (arith, stands.checkpoint); unit_low = omega (arith, stands.unit) };
       })
 
   spent_now_at : session ≡ session_up b kept → b.up ≡ true → IsSpentUp b → IsSpentAt setting.counts setting (session_of events session)
@@ -605,6 +683,35 @@ module _ {D : Type 0} (state : D → DiskState) (system : System) (source : List
         sound = up_sound events on (calm_undone asked undone) (happened_now (stays_else state asked Spent a b not_spent by)) (told_undone asked undone);
       })
 
+  -- ---- the end of the source
+
+  pub ended_up : (ending : Ending) → StaysSo state a b → IsForcedSo state ending a b → kept.pick ≡ old.pick → IsEndSettled state (session_up b kept) ending session
+      → LeadsBy state (λ setting old new. IsSourceEnded setting.system old new (end_text ending)) system source handed events (session_up a old) session
+  ended_up Forced by behind pick on =
+      let history : b.control.history ≡ a.control.history ++ [] = behind.adds.history ∙ sym (append-nil a.control.history) in
+      record {
+        events_now = events;
+        goes = inl (record {
+          forced = b.forced;
+          all = subst (λ (es : List Entry). IsAllForced system (record (last_up a) { history = es }) b.forced) (append-nil a.control.history)
+              ((forced_to_now true [] behind.up history (record { least = behind.least; all = λ bound. behind.all })).all refl);
+          goes = up_after events on [] (ap (past_with events) pick) history;
+          silent = refl;
+        });
+        sound = up_sound events on behind.no_fault (happened_now by) (told_same behind.adds.history);
+      }
+  ended_up HasBroken by fails pick over = record {
+    events_now = events_stopped;
+    goes = inr (record {
+      stop = (b.began, (state over.down.disk).faults);
+      ends = ends_with (failed_force ∷ []) fails.broke.history over ∙ ap (λ n. broken before (last_up a) (failed_force ∷ []) n (b.began, (state over.down.disk).faults)) fails.forced;
+      printed = refl;
+    });
+    sound = broke_sound events_stopped over
+        (subst (λ n. AreEvents state system (events ++ CutWith n ∷ []) handed over.idle.disk) pick (happened_cut kept.pick over by))
+        (told_cut old.pick (told_none (failed_force ∷ []) fails.broke.history refl)) fails.broke.failed;
+  }
+
 -- ---- what is ready behind it
 
 module _ {D : Type 0} (state : D → DiskState) (a b : ControlOnDisk D) (old kept : Kept) (session : Session D) (text : List ℕ)
@@ -658,6 +765,10 @@ module _ {D : Type 0} (state : D → DiskState) (a b : ControlOnDisk D) (old kep
 
   ready_over : {cut : Option ℕ} → (stopped : Bool) → HasEndedLife state b kept cut stopped session → IsReadyAt state session.place session.kept
   ready_over stopped over = subst (λ p. IsReadyAt state p session.kept) (sym over.place) over.ready
+
+  pub ready_ended : (ending : Ending) → IsForcedSo state ending a b → IsEndSettled state (session_up b kept) ending session → IsReadyAt state session.place session.kept
+  ready_ended Forced behind on = ready_on behind.up on
+  ready_ended HasBroken fails over = ready_over true over
 
   pub ready_up : (asked : Asked) (called : Called) (served : Served) → IsAsked state asked a b text called → IsCallSettled state (session_up b kept) called session served → IsReadyAt state session.place session.kept
   ready_up asked Answered served does_it settled = ready_on (up_done asked does_it) settled.0

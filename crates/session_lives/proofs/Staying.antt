@@ -12,7 +12,7 @@ use Rattle.session_lives.specs.AskedControl.{StaysBy}
 
 module _ {D : Type 0} (state : D → DiskState) where
   -- a control region that stays as it was is the same
-  same_of : (a b : ControlOnDisk D) → StaysSo state a b → IsSameControl state a b
+  pub same_of : (a b : ControlOnDisk D) → StaysSo state a b → IsSameControl state a b
   same_of a b stays = record {
     system = stays.system;
     opening = stays.opening;

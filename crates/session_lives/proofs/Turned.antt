@@ -21,6 +21,7 @@ use Rattle.session_lives.specs.AskedControl.{AddsEntries, FailsTurning, TurnsSta
 use Rattle.session_lives.specs.RegionTurns.{TurnsSoFar, HasEnded}
 use Rattle.session_lives.specs.ControlCounts.{KeepsPace}
 use Rattle.session_lives.proofs.Asked.{stays_so, stays_so_on}
+use Rattle.session_lives.proofs.Bound.{bound_least, bound_same}
 use Rattle.session_lives.proofs.Counting.{pace_none, pace_on}
 
 -- where entries behind others lead
@@ -66,6 +67,7 @@ module _ {D : Type 0} (state : D → DiskState) where
     steps = tt;
     turns = tt;
     counted = refl;
+    forced = bound_same old old refl;
     up = up;
     no_fault = refl;
     stays = stays_so state old;
@@ -93,9 +95,9 @@ module _ {D : Type 0} (state : D → DiskState) where
 
   pub turns_next : (count : ℕ) (old now new : ControlOnDisk D) (turned : Turned)
       → TurnsSoFar state count old now → is_machine_quiet now.control.system (control_moment now.control) ≡ false
-      → Answered state now new (TurnEntry (region_behind_turns now.control.system count) (Ok turned)) → StaysSo state now new → KeepsPace state now new
+      → Answered state now new (TurnEntry (region_behind_turns now.control.system count) (Ok turned)) → StaysSo state now new → KeepsPace state now new → now.forced ≤ new.forced
       → TurnsSoFar state (count + 1) old new
-  turns_next count old now new turned far left answered stays pace =
+  turns_next count old now new turned far left answered stays pace least =
       let entry : Entry = TurnEntry (region_behind_turns now.control.system count) (Ok turned) in
       record {
         entries = far.entries ++ entry ∷ [];
@@ -104,6 +106,7 @@ module _ {D : Type 0} (state : D → DiskState) where
         turns = AreTurns-append old.control.system entry far.entries 0 (control_moment old.control) far.turns (still_left false count old now far left)
             (ap Turn (next_region count old now far) ∙ ap (λ n. Turn (region_behind_turns old.control.system n)) (sym (zero-add (length far.entries))));
         counted = length-append far.entries (entry ∷ []) ∙ ap (λ n. n + 1) far.counted;
+        forced = bound_least old new (omega (arith, far.forced.least, least));
         up = answered.up;
         no_fault = answered.no_fault ∙ far.no_fault;
         stays = stays_so_on state old now new far.stays stays;
@@ -112,10 +115,10 @@ module _ {D : Type 0} (state : D → DiskState) where
 
   -- the turn of a region that is the next one
   pub turned_next : (count : ℕ) (old now new : ControlOnDisk D) (turned : Turned) (region : ℕ) → TurnsSoFar state count old now → is_machine_quiet now.control.system (control_moment now.control) ≡ false
-      → region ≡ region_behind_turns now.control.system count → Answered state now new (TurnEntry region (Ok turned)) → StaysSo state now new → KeepsPace state now new
+      → region ≡ region_behind_turns now.control.system count → Answered state now new (TurnEntry region (Ok turned)) → StaysSo state now new → KeepsPace state now new → now.forced ≤ new.forced
       → TurnsSoFar state (count + 1) old new
-  turned_next count old now new turned region far left next answered stays pace =
-      turns_next count old now new turned far left (subst (λ r. Answered state now new (TurnEntry r (Ok turned))) next answered) stays pace
+  turned_next count old now new turned region far left next answered stays pace least =
+      turns_next count old now new turned far left (subst (λ r. Answered state now new (TurnEntry r (Ok turned))) next answered) stays pace least
 
   -- the turns end where nothing is left to do, or with the last
   pub turns_end : (most count : ℕ) (quiet : Bool) (old new : ControlOnDisk D) → TurnsSoFar state count old new → count ≤ most
@@ -128,6 +131,7 @@ module _ {D : Type 0} (state : D → DiskState) where
         steps = far.steps;
         quieted = record { turns = far.turns; few = subst (λ n. n ≤ most) (sym far.counted) few; ended = λ left. far.counted ∙ last (sym still ∙ left) };
         counted = far.counted;
+        forced = far.forced;
         left = still;
         up = far.up;
         no_fault = far.no_fault;
@@ -140,8 +144,8 @@ module _ {D : Type 0} (state : D → DiskState) where
 
   -- or they break off
   pub turns_stand : (most count : ℕ) (old now new : ControlOnDisk D) → TurnsSoFar state count old now → count < most
-      → is_machine_quiet now.control.system (control_moment now.control) ≡ false → AddedNothing state now new → TurnsStand state most old new
-  turns_stand most count old now new far few left nothing = record {
+      → is_machine_quiet now.control.system (control_moment now.control) ≡ false → AddedNothing state now new → new.forced ≡ now.forced → TurnsStand state most old new
+  turns_stand most count old now new far few left nothing same = record {
     turns = far.entries;
     adds = record {
       system = nothing.adds.system ∙ far.adds.system;
@@ -150,6 +154,7 @@ module _ {D : Type 0} (state : D → DiskState) where
     };
     steps = far.steps;
     begun = broken_off most count old now far few left;
+    forced = bound_least old new (omega (arith, far.forced.least, same));
     up = nothing.up;
     no_fault = nothing.no_fault ∙ far.no_fault;
   }
@@ -157,8 +162,8 @@ module _ {D : Type 0} (state : D → DiskState) where
   -- or the disk fails in one
   pub turns_fail : (most count : ℕ) (old now new : ControlOnDisk D) (entry : Entry) → TurnsSoFar state count old now → count < most
       → is_machine_quiet now.control.system (control_moment now.control) ≡ false → call_of entry ≡ Turn (region_behind_turns now.control.system count) → is_disk_fault entry ≡ true
-      → BrokeOff state now new entry → FailsTurning state most old new
-  turns_fail most count old now new entry far few left asked fault broke = record {
+      → BrokeOff state now new entry → new.forced ≡ now.forced → FailsTurning state most old new
+  turns_fail most count old now new entry far few left asked fault broke same = record {
     turns = far.entries;
     entry = entry;
     history = broke.history ∙ ap (λ h. h ++ entry ∷ []) far.adds.history ∙ append_assoc old.control.history far.entries (entry ∷ []);
@@ -167,12 +172,13 @@ module _ {D : Type 0} (state : D → DiskState) where
     asked = asked ∙ ap Turn (next_region count old now far);
     can = subst (λ s. IsCall s (call_of entry)) far.adds.system broke.call;
     fault = fault;
+    forced = bound_least old new (omega (arith, far.forced.least, same));
     down = broke.down;
     failed = subst (λ n. Rose n (state new.disk).faults) far.no_fault broke.failed;
   }
 
   pub turned_fails : (most count : ℕ) (old now new : ControlOnDisk D) (region : ℕ) → TurnsSoFar state count old now → count < most
       → is_machine_quiet now.control.system (control_moment now.control) ≡ false → region ≡ region_behind_turns now.control.system count
-      → BrokeOff state now new (TurnEntry region (Err Disk)) → FailsTurning state most old new
-  turned_fails most count old now new region far few left next broke =
-      turns_fail most count old now new (TurnEntry region (Err Disk)) far few left (ap Turn next) refl broke
+      → BrokeOff state now new (TurnEntry region (Err Disk)) → new.forced ≡ now.forced → FailsTurning state most old new
+  turned_fails most count old now new region far few left next broke same =
+      turns_fail most count old now new (TurnEntry region (Err Disk)) far few left (ap Turn next) refl broke same

@@ -5,10 +5,12 @@ pub mod AskedControl
 pub mod RegionTurns
 pub mod RunningSession
 pub mod Openings
+pub mod SourceEnd
 pub mod ClosedSession
 pub use Rattle.model_machine.specs.Machine
 pub use Rattle.model_session.specs.Lines
 pub use Rattle.model_session.specs.Lives
+pub use Rattle.model_session.specs.Session
 pub use Rattle.model_session.specs.SessionState
 pub use Rattle.model_session.specs.Text
 pub use Rattle.tm_disk.specs.Disk

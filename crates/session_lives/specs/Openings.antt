@@ -73,10 +73,10 @@ how_of true = Cold
 how_of false = Found
 
 -- The last life as it is kept once another opens, with so many steps: behind a cold start all that were answered count; else
--- all that are found, and no less than were answered, also where a cold start that broke off has left nothing.
+-- all that are found, and no less than were forced, also where a cold start that broke off has left nothing.
 abbrev pub life_kept_by : Bool → Life → ℕ → Life
 life_kept_by true life steps = life
-life_kept_by false life steps = record life { kept = max life.kept (steps - life.opening.steps) }
+life_kept_by false life steps = record life { kept = max life.forced (steps - life.opening.steps) }
 
 abbrev pub with_last_life : List Life → Option Life → Bool → ℕ → List Life
 with_last_life lives None cold steps = lives

@@ -1,5 +1,5 @@
 -- Turns of the regions, one after another.
-use Rattle.std.specs.Prelude.{◌≡◌, ℕ, Bool, true, List, length}
+use Rattle.std.specs.Prelude.{◌≡◌, ℕ, Bool, true, false, List, length}
 use Rattle.tm_disk.specs.Disk.{DiskState}
 use Rattle.model_machine.specs.declared.entry.Entry.{Entry}
 use Rattle.model_machine.specs.MachineCalls.{is_machine_quiet}
@@ -10,7 +10,7 @@ use Rattle.tm_control.specs.ControlCalls.{StaysSo}
 use Rattle.session_lives.specs.declared.turns.Turning.{Turning}
 use Rattle.session_lives.specs.declared.turns.Turning.TheVariants.{Ended, Broke, Memory, Spent}
 use Rattle.session_lives.specs.ControlCounts.{KeepsPace}
-use Rattle.session_lives.specs.AskedControl.{AddsEntries, FailsTurning, TurnsStand, IsSpentUp}
+use Rattle.session_lives.specs.AskedControl.{AddsEntries, IsBound, FailsTurning, TurnsStand, IsSpentUp}
 
 -- so many turns were done so far
 pub record TurnsSoFar {D : Type 0} (state : D → DiskState) (count : ℕ) (old new : ControlOnDisk D) : Type 0 where
@@ -19,6 +19,7 @@ pub record TurnsSoFar {D : Type 0} (state : D → DiskState) (count : ℕ) (old 
   pub steps : AreSteps old.control.system (control_moment old.control) entries
   pub turns : AreTurns old.control.system 0 (control_moment old.control) entries
   pub counted : length entries ≡ count
+  pub forced : IsBound false old new
   pub up : new.up ≡ true
   pub no_fault : (state new.disk).faults ≡ (state old.disk).faults
   pub stays : StaysSo state old new
@@ -31,6 +32,7 @@ pub record HasEnded {D : Type 0} (state : D → DiskState) (most count : ℕ) (q
   pub steps : AreSteps old.control.system (control_moment old.control) entries
   pub quieted : IsQuieted most old.control.system (control_moment old.control) entries
   pub counted : length entries ≡ count
+  pub forced : IsBound false old new
   pub left : is_machine_quiet old.control.system (moment_after old.control.system (control_moment old.control) entries) ≡ quiet
   pub up : new.up ≡ true
   pub no_fault : (state new.disk).faults ≡ (state old.disk).faults

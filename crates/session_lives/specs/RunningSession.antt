@@ -1,5 +1,5 @@
 -- A session as it runs: where it stands, what it keeps beside, and what holds of these.
-use Rattle.std.specs.Prelude.{◌≡◌, ◌⊎◌, ℕ, ◌+◌, ◌*◌, ◌<◌, ◌≤◌, Bool, true, false, List, length, map, Option, Some, None, Ok, Err, IsTrue, vec_len, vec_capacity}
+use Rattle.std.specs.Prelude.{◌≡◌, ◌⊎◌, ℕ, ◌+◌, ◌-◌, ◌*◌, ◌<◌, ◌≤◌, Bool, true, false, List, length, map, Option, Some, None, Ok, Err, IsTrue, vec_len, vec_capacity}
 use Rattle.std.specs.Option.{option_map, is_some}
 use Rattle.tm_disk.specs.Disk.{Image, DiskState, IsSameDisk, Only}
 use Rattle.model_system.specs.System.{System}
@@ -28,7 +28,7 @@ use Rattle.session_lives.specs.declared.place.Place.{Place}
 use Rattle.session_lives.specs.declared.place.Place.TheVariants.{Up, Down, Moved}
 use Rattle.session_lives.specs.declared.place.Kept.{Kept}
 use Rattle.session_lives.specs.declared.place.Session.{Session}
-use Rattle.session_lives.specs.ControlCounts.{CountsUp}
+use Rattle.session_lives.specs.ControlCounts.{CountsUp, force_raises}
 use Rattle.session_lives.specs.DiskEvents.{AreEvents}
 use Rattle.session_lives.specs.ToldNumbers.{numbers_so_far, told_numbers}
 
@@ -36,13 +36,13 @@ use Rattle.session_lives.specs.ToldNumbers.{numbers_so_far, told_numbers}
 
 -- a life as it is kept, and as the last one
 abbrev pub life_of : Life → LifeState
-life_of life = record { opening = life.opening; checkpoint = life.checkpoint; history = life.history; kept = life.kept }
+life_of life = record { opening = life.opening; checkpoint = life.checkpoint; history = life.history; forced = life.forced; kept = life.kept }
 
 abbrev pub last_life_of : Life → LastLife
-last_life_of life = record { opening = life.opening; checkpoint = life.checkpoint; history = life.history }
+last_life_of life = record { opening = life.opening; checkpoint = life.checkpoint; history = life.history; forced = life.forced }
 
 abbrev pub last_up : {D : Type 0} → ControlOnDisk D → LastLife
-last_up c = record { opening = c.control.opening; checkpoint = c.checkpoint; history = c.control.history }
+last_up c = record { opening = c.control.opening; checkpoint = c.checkpoint; history = c.control.history; forced = c.forced }
 
 abbrev pub outage_of : {D : Type 0} → Idle D → Outage
 outage_of idle = record { last = option_map last_life_of idle.last; emptied = idle.emptied; stopped = idle.stopped }
@@ -216,8 +216,8 @@ IsReadyAt state Moved kept = ⊥
 abbrev pub IsSessionReady : {D : Type 0} → (D → DiskState) → Session D → Type 0
 IsSessionReady state session = IsReadyAt state session.place session.kept
 
--- The system is up. The stops lie behind one another, and before its life, in which the disk hasn't failed. It counts no further than up to where the disk counts
--- that was handed in, and 4,096 more for each opening, entry and stop. Just these events happened at the disk since it was handed in, and
+-- The system is up. The stops lie behind one another, and before its life, in which the disk hasn't failed. No image counts further than up to where the disk counts
+-- that was handed in, and 4,096 more for each opening, entry and stop; and it itself stays below that by as much as a force may add. Just these events happened at the disk since it was handed in, and
 -- they tell of the checkpoints that the lives tell of.
 pub record IsUpSound {D : Type 0} (state : D → DiskState) (system : System) (source : List ℕ) (handed : D) (events : List DiskEvent) (control : ControlOnDisk D) (kept : Kept) : Type 0 where
   pub handed_alone : Only (state handed).shown (state handed)
@@ -229,7 +229,7 @@ pub record IsUpSound {D : Type 0} (state : D → DiskState) (system : System) (s
   pub began : control.began ≡ (state control.disk).faults
   pub legal : AreLegal system (map life_of kept.lives.items)
   pub valid : IsSystem system
-  pub counts : (high : ℕ) → CountsFirst system high (state handed) → CountsUp state (high + call_raises * measure (session_at events (Up control) kept)) control
+  pub counts : (high : ℕ) → CountsFirst system high (state handed) → CountsUp state (high + call_raises * measure (session_at events (Up control) kept) - force_raises) control
   pub happened : AreEvents state system events handed control.disk
   pub told : told_numbers events ≡ numbers_so_far (session_at events (Up control) kept)
 

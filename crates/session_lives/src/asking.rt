@@ -17,6 +17,7 @@ ghost use Rattle.session_lives.specs.ControlCounts.{KeepsPace};
 ghost use Rattle.session_lives.specs.AskedControl.{IsAsked, StaysBy, called_by, call_ended_by, pick_by};
 
 use crate::called::Called;
+use crate::forcing::{bind, is_done, is_removed, is_reply, is_taken};
 use crate::turns::answer_quiet;
 use mfs_edit::edit_out;
 use model_machine::{Answer, CheckpointRefused, Command, CommandRefused, ControlCall};
@@ -197,9 +198,10 @@ fn answer_input<D: Disk>(
         return Called::Memory;
     }
     word.push(shown_word(&segments));
+    let _ = control.is_up();
     let answer = control.input(terminal, number, segments);
     input_line(printed, terminal, number, word.as_slice(), &answer);
-    input_called(&answer)
+    bind(control, is_taken(&answer), input_called(&answer))
 }
 
 /// How a call went that met this fault.
@@ -249,8 +251,9 @@ fn answer_receive<D: Disk>(
     if print_showing(alloc, control, printed, terminal).is_err() {
         return Called::Memory;
     }
-    let _ = control.receive(terminal);
-    Called::Answered
+    let shown = control.receive(terminal);
+    let binding = is_reply(&shown);
+    bind(control, binding, Called::Answered)
 }
 
 /// Prints what the terminal is to be shown.
@@ -315,9 +318,10 @@ fn answer_acknowledge<D: Disk>(
     ensures pace { KeepsPace D.state control.old control.new }
     ensures stays { StaysSo D.state control.old control.new }
 {
+    let _ = control.is_up();
     let answer = control.acknowledge(terminal, number);
     ack_line(printed, terminal, number, &answer);
-    ack_called(&answer)
+    bind(control, is_removed(&answer), ack_called(&answer))
 }
 
 fn ack_called(answer: &Result<Acked, AckRefused>) -> Called
@@ -342,6 +346,7 @@ fn answer_turn<D: Disk>(control: &mut Control<D>, printed: &mut Printed, region:
     if printed.make_room(TURN_ROOM).is_err() {
         return Called::Memory;
     }
+    let _ = control.is_up();
     let answer = control.turn(region);
     match &answer {
         Ok(turned) => {
@@ -373,8 +378,9 @@ fn answer_command<D: Disk>(
         return Called::Memory;
     }
     printed.push(&text);
+    let _ = control.is_up();
     let answer = control.command(command);
-    command_called(&answer)
+    bind(control, is_done(command, &answer), command_called(&answer))
 }
 
 /// What will be printed for a command.
@@ -415,6 +421,7 @@ fn answer_checkpoint<D: Disk>(
     ensures pace { KeepsPace D.state control.old control.new }
     ensures stays { StaysSo D.state control.old control.new }
 {
+    let _ = control.is_up();
     let answer = control.checkpoint(freeze);
     checkpoint_line(printed, freeze, &answer);
     checkpoint_called(freeze, &answer)

@@ -55,3 +55,12 @@ pub enum Called {
     /// A counter is spent.
     Spent,
 }
+
+/// How the end of a source went.
+#[derive(Clone, Copy, Debug)]
+pub enum Ending {
+    /// All lasting steps are forced, or the system was down.
+    Forced,
+    /// The disk failed.
+    Broke,
+}

@@ -135,11 +135,12 @@ fn kept_by(cold: bool, life: Life, steps: u64) -> Life
         return life;
     }
     let found = steps.saturating_sub(life.opening.steps);
-    let kept = life.kept.max(found);
+    let kept = life.forced.max(found);
     Life {
         opening: life.opening,
         checkpoint: life.checkpoint,
         history: life.history,
+        forced: life.forced,
         kept,
     }
 }

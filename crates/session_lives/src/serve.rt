@@ -1,14 +1,17 @@
 //! One block of a session, served.
 ghost use Rattle.std.specs.Prelude.{◌≡◌, ◌≤◌, [], true, false, Some, None};
 ghost use Rattle.model_session.specs.Lines.{asked_of};
+ghost use Rattle.model_session.specs.Session.{IsSourceEnded};
 ghost use Rattle.session_lives.specs.declared.called.Called.TheVariants.{Frozen};
 ghost use Rattle.session_lives.specs.ControlCounts.{KeepsPace};
 ghost use Rattle.session_lives.specs.AskedControl.{IsAsked, StaysBy, pick_by};
 ghost use Rattle.session_lives.specs.RunningSession.{IsSessionReady, IsPlaceDown, IsDownReady, Leads, session_down};
+ghost use Rattle.session_lives.specs.SourceEnd.{EndsPlace, IsEndSettled, end_text, pick_ended};
 ghost use Rattle.session_lives.specs.Openings.{IsServedSo, IsCallSettled, IsAloneAt, MayEnd, EndsLife, CutsAt, CutsDown, PicksAt, IsRestartedSo, IsOpeningTold, IsRefusalTold, asked_restart, pick_down};
 
 use crate::asking::ask;
-use crate::called::{Called, Opening, Served, Undone};
+use crate::called::{Called, Ending, Opening, Served, Undone};
+use crate::forcing::force;
 use crate::opening::{go_down, lay_down, open};
 use crate::place::{Idle, Kept, Place, Session, put, take_down, take_up};
 use model_session::{Asked, ImageRefused};
@@ -40,10 +43,44 @@ pub fn serve_block<D: Disk>(
     match &mut session.place {
         Place::Up(control) => {
             let called = ask_block(alloc, control, &mut session.kept.pick, printed, block);
+            let _ = control.is_up();
             settle(session, called)
         }
         Place::Down(_) => serve_down(alloc, session, printed, block),
         Place::Moved => unreachable!(),
+    }
+}
+
+/// The source has ended: where the system is up, all lasting steps are forced. Where the disk fails in that, the life ends.
+pub fn end_source<D: Disk>(session: &mut Session<D>) -> Ending
+    requires ready { IsSessionReady D.state session.old }
+    ensures ended { Leads D.state (λ setting old new. IsSourceEnded setting.system old new (end_text result)) session.old session.new }
+    ensures ready { IsSessionReady D.state session.new }
+
+    // A stop cuts the disk with the pick of the last POWER IN, or with 0.
+    ensures place { EndsPlace D.state session.old.place session.old.kept.pick result session.new.place }
+    ensures pick { session.new.kept.pick ≡ pick_ended result session.old.kept.pick }
+{
+    match &mut session.place {
+        Place::Up(control) => {
+            let ending = force(control);
+            let _ = control.is_up();
+            end_forced(session, ending);
+            ending
+        }
+        Place::Down(_) => Ending::Forced,
+        Place::Moved => unreachable!(),
+    }
+}
+
+/// What follows from how all was forced: the life goes on, or it has ended.
+fn end_forced<D: Disk>(session: &mut Session<D>, ending: Ending)
+    requires { MayEnd session.old }
+    ensures { IsEndSettled D.state session.old ending session.new }
+{
+    match ending {
+        Ending::Forced => {}
+        Ending::Broke => stop(session),
     }
 }
 
@@ -85,13 +122,21 @@ fn settle<D: Disk>(session: &mut Session<D>, called: Called) -> Served
             Served::Printed
         }
         Called::Broke => {
-            let pick = session.kept.pick;
-            end(session, pick, true);
+            stop(session);
             Served::Broke
         }
         Called::Memory => Served::Undone(Undone::Memory),
         Called::Spent => Served::Undone(Undone::Spent),
     }
+}
+
+/// Ends the life, since the disk failed: it is cut with the pick that was kept for that.
+fn stop<D: Disk>(session: &mut Session<D>)
+    requires { MayEnd session.old }
+    ensures { EndsLife D.state (Some session.old.kept.pick) true session.old session.new }
+{
+    let pick = session.kept.pick;
+    end(session, pick, true);
 }
 
 #[inline(never)]

@@ -63,6 +63,7 @@ fn turn_while_left<D: Disk>(control: &mut Control<D>, most: u32) -> Turning
         }
         let regions = control.system().regions().len();
         let region = (turns as usize % regions) as u32 + 1;
+        let _ = control.is_up();
         match control.turn(region) {
             Ok(_) => {}
             Err(ControlFault::Disk) => return Turning::Broke,

@@ -1,4 +1,3 @@
 pub mod Unit
 pub use Rattle.log_records.specs.RecordSpelling
 pub use Rattle.log_writer.specs.ForcedLog
-pub use Rattle.tm_disk.specs.Disk

@@ -26,6 +26,7 @@ use Rattle.logged_machine.specs.LoggedState.{LoggedState}
 use Rattle.openings.specs.Faults.{fault_in}
 use Rattle.tm_control.specs.ControlOnDisk.{lasting_after_entries}
 use Rattle.tm_control.specs.ControlParts.{HoldsBy}
+use Rattle.tm_control.proofs.Along.{forced_within}
 use Rattle.tm_control.proofs.Rings.{no_ring}
 
 -- ---- an entry with a fault
@@ -84,25 +85,31 @@ pub record IsEnded (system : System) (opening : LastingState) (first : ℕ) (his
   pub numbers : AscendAbove first history
   pub rings : HasNoCycles (moment_after system (start_of system opening) legal.steps).enqueues
 
+-- so many lasting steps were done before at least
+pub least : {D : Type 0} (state : D → DiskState) (machine : LoggedState D) (opening : LastingState) (first : ℕ) (history : List Entry) (steps : ℕ) (b : Bool)
+    → HoldsBy b state machine opening first history steps → opening.steps ≤ steps
+least state machine opening first history steps true h = omega (arith, h.more, h.count, forced_within state machine opening first history steps h)
+least state machine opening first history steps false h = omega (arith, h.more, h.most)
+
+-- and so many were forced
+pub least_forced : {D : Type 0} (state : D → DiskState) (machine : LoggedState D) (opening : LastingState) (first : ℕ) (history : List Entry) (steps : ℕ) (b : Bool)
+    → HoldsBy b state machine opening first history steps → opening.steps ≤ machine.forced
+least_forced state machine opening first history steps true h = h.more
+least_forced state machine opening first history steps false h = h.more
+
 pub ended : {D : Type 0} (state : D → DiskState) (machine : LoggedState D) (opening : LastingState) (first : ℕ) (history : List Entry) (steps kept : ℕ) (b : Bool)
     → HoldsBy b state machine opening first history steps → kept ≡ steps - opening.steps → IsEnded machine.machine.system opening first history kept
 ended state machine opening first history steps kept true h is = record {
   legal = record { steps = history; last = None; all = refl; legal = h.legal; end = tt };
   count =
       let same : steps ≡ (lasting_after_entries machine.machine.system opening history).steps = h.count ∙ ap (λ (m : Moment). m.lasting.steps) (sym h.moment) in
-      omega (arith, is, h.more, same);
+      omega (arith, is, least state machine opening first history steps true h, same);
   numbers = h.ascend;
   rings = no_ring machine.machine.system opening history h.legal;
 }
 ended state machine opening first history steps kept false h is = record {
   legal = record { steps = h.before; last = Some h.entry; all = h.all; legal = h.legal; end = (faulted h.entry _ h.fault, h.call) };
-  count = omega (arith, is, h.more, h.count);
+  count = omega (arith, is, h.most, h.more, h.count);
   numbers = h.ascend;
   rings = no_ring machine.machine.system opening h.before h.legal;
 }
-
--- so many lasting steps were done before at least
-pub least : {D : Type 0} (state : D → DiskState) (machine : LoggedState D) (opening : LastingState) (first : ℕ) (history : List Entry) (steps : ℕ) (b : Bool)
-    → HoldsBy b state machine opening first history steps → opening.steps ≤ steps
-least state machine opening first history steps true h = h.more
-least state machine opening first history steps false h = h.more

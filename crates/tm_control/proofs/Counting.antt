@@ -1,9 +1,10 @@
 -- What a control region counts on as a life begins.
-use Rattle.std.proofs.Common.{◌≡◌, ◌⊎◌, ℕ, ◌+◌, ◌≤◌, List, refl, sym, ap, subst, arith, ⊎_elim, IsTrue}
+use Rattle.std.proofs.Common.{◌≡◌, ◌⊎◌, ℕ, ◌+◌, ◌≤◌, List, refl, sym, ap, subst, arith, ⊎_elim, IsTrue, length}
 use Rattle.tm_disk.specs.Disk.{DiskState}
 use Rattle.model_system.specs.System.{System}
 use Rattle.model_machine.specs.Machine.{LastingState}
 use Rattle.log_writer.specs.Writer.{Writer}
+use Rattle.log_writer.specs.ForcedLog.{log_sectors_of}
 use Rattle.restart_data.specs.declared.restart.RestartSector.{RestartSector}
 use Rattle.checkpointing.specs.Counts.{CountsUpTo}
 use Rattle.disk_law.specs.UnitCounts.{StandsUpTo}
@@ -17,7 +18,7 @@ module _ (how : How) (system : System) (text : List ℕ) (disk : DiskState) (ope
   begun : IsBegunCold system b.parts opening → StandsUpTo (high + 1) journal next
   begun is = record {
     epoch = omega (arith, ap (λ (r : RestartSector). r.epoch) b.restart_is, is.first.epoch);
-    sequence = omega (arith, ap (λ (w : Writer). w.sequence + w.place) b.log_is, is.first.sequence);
+    sequence = omega (arith, ap (λ (w : Writer). w.sequence + w.place + log_sectors_of (length w.appended)) b.log_is, is.first.sequence);
     checkpoint = omega (arith, ap (λ (r : RestartSector). r.checkpoint) b.restart_is, is.first.checkpoint);
     unit = omega (arith, b.unit_is, is.next_unit);
   }
@@ -28,7 +29,7 @@ module _ (how : How) (system : System) (text : List ℕ) (disk : DiskState) (ope
       let unit : b.parts.next_unit ≤ high = subst (λ (n : ℕ). n ≤ high) (sym is.found.next) (c.unit is.found.snapshot is.found.has_snapshot) in
       record {
         epoch = omega (arith, ap (λ (r : RestartSector). r.epoch) b.restart_is, is.next.epoch, c.epoch);
-        sequence = omega (arith, ap (λ (w : Writer). w.sequence + w.place) b.log_is, is.next.sequence, c.sequence);
+        sequence = omega (arith, ap (λ (w : Writer). w.sequence + w.place + log_sectors_of (length w.appended)) b.log_is, is.next.sequence, c.sequence);
         checkpoint = omega (arith, ap (λ (r : RestartSector). r.checkpoint) b.restart_is, is.next.checkpoint, c.checkpoint);
         unit = omega (arith, b.unit_is, unit);
       }

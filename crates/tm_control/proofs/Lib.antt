@@ -1,5 +1,6 @@
 pub mod Numbers
 pub mod Rings
+pub mod Along
 pub mod Going
 pub mod Counting
 pub mod Handing

@@ -21,6 +21,7 @@ pub record OpensControl {D : Type 0} (state : D → DiskState) (how : How) (syst
   pub unchanged : new.databases.changed ≡ map (λ dbd. []) system.databases
   pub units : new.units ≡ replicate (length system.regions) 0
   pub up : new.up ≡ true
+  pub forced : new.forced ≡ 0
   pub began : new.began ≡ (state disk).faults
   pub no_fault : (state new.disk).faults ≡ (state disk).faults
   pub stays : Stays (state disk) (state new.disk)
@@ -29,7 +30,7 @@ pub record OpensControl {D : Type 0} (state : D → DiskState) (how : How) (syst
   pub any_moment : Within (KeepsBy how system text) (state disk) (state new.disk)
 
 -- The life is the opening with the history, which is legal; the numbers of its checkpoints ascend from the one with which it opened. It
--- is kept with the lasting steps that were answered, and no ring
+-- is kept with the lasting steps that were answered, and with how many of them were forced, and no ring
 -- of regions that wait for one another stands behind these. The disk, the system and the text are handed back, with the
 -- disk's count of faults when the life began.
 pub record Closes {D : Type 0} (c : ControlOnDisk D) (disk : D) (life : Life) (system : System) (text : List ℕ) (faults : ℕ) : Type 0 where
@@ -40,6 +41,7 @@ pub record Closes {D : Type 0} (c : ControlOnDisk D) (disk : D) (life : Life) (s
   pub opening : life.opening ≡ c.control.opening
   pub checkpoint : life.checkpoint ≡ c.checkpoint
   pub history : life.history ≡ c.control.history
+  pub forced : life.forced ≡ c.forced
   pub legal : IsLegal c.control.system (start_of c.control.system c.control.opening) c.control.history
   pub numbers : AscendAbove c.checkpoint c.control.history
   pub kept : c.control.opening.steps + life.kept ≡ (lasting_after_entries c.control.system c.control.opening legal.steps).steps

@@ -1,5 +1,5 @@
 -- What a call of a control region does.
-use Rattle.std.specs.Prelude.{◌≡◌, ℕ, ◌+◌, ◌≤◌, ◌++◌, Bool, true, false, List, [], ◌∷◌, Option, Some, None, Ok, if◌then◌else◌}
+use Rattle.std.specs.Prelude.{◌≡◌, ℕ, ◌+◌, ◌≤◌, ◌++◌, Bool, true, false, List, [], ◌∷◌, Option, Some, None, if◌then◌else◌}
 use Rattle.tm_disk.specs.Disk.{Image, DiskState, IsSameDisk, IsToldToStop, Stays, FailedSince, armed}
 use Rattle.model_machine.specs.History.{AddsEntry, AddsNothing, IsCall, call_of, control_moment}
 use Rattle.model_machine.specs.declared.counts.Counter.{Counter}
@@ -8,14 +8,15 @@ use Rattle.model_machine.specs.declared.entry.CheckpointRefused.{CheckpointRefus
 use Rattle.model_machine.specs.declared.entry.CheckpointRefused.TheVariants.{BusyRegion, Fault}
 use Rattle.model_machine.specs.declared.entry.ControlFault.{ControlFault}
 use Rattle.model_machine.specs.declared.entry.ControlFault.TheVariants.{Memory, Disk, Spent}
-use Rattle.model_image.specs.RecoveredState.{Recovers}
+use Rattle.model_machine.specs.declared.entry.ControlCall.{ControlCall}
 use Rattle.checkpointing.specs.Counts.{CountsUpTo}
+use Rattle.checkpointing.specs.CheckpointParts.{forced_writer}
 use Rattle.disk_law.specs.UnitCounts.{StandsUpTo}
-use Rattle.disk_law.specs.KeptImages.{RecoversEither}
 use Rattle.tm_machine.specs.Parts.{PartsState}
 use Rattle.logged_machine.specs.CallOutcome.{ActsOn, NumbersBy}
-use Rattle.logged_machine.specs.CheckpointDue.{TakesCheckpointWhereDue, Raises}
-use Rattle.tm_control.specs.ControlOnDisk.{ControlOnDisk, lasting_after_entries}
+use Rattle.logged_machine.specs.ToldCalls.{own_bytes}
+use Rattle.logged_machine.specs.CheckpointDue.{TakesCheckpointWhereDue, NoCheckpointIsDue, Raises}
+use Rattle.tm_control.specs.ControlOnDisk.{ControlOnDisk, RecoversSince, front_of}
 
 -- What no call changes, `arm` among them. The disk's time never runs back, and none cuts it.
 pub record IsSameControl {D : Type 0} (state : D → DiskState) (old new : ControlOnDisk D) : Type 0 where
@@ -77,6 +78,7 @@ pub record AddedNothing {D : Type 0} (state : D → DiskState) (old new : Contro
 pub record KeepsLog {D : Type 0} (old new : ControlOnDisk D) : Type 0 where
   pub databases : new.databases ≡ old.databases
   pub journal : new.journal ≡ old.journal
+  pub forced : new.forced ≡ old.forced
   pub units : new.units ≡ old.units
   pub next_unit : new.next_unit ≡ old.next_unit
 
@@ -110,30 +112,42 @@ noted false entries entry = entries
 
 -- ---- crashes
 
--- Whatever a crash might have left since the call began recovers to what lasted before it.
-abbrev pub ControlCrashesAlone : {D : Type 0} → (D → DiskState) → ControlOnDisk D → ControlOnDisk D → Type 0
-ControlCrashesAlone state old new =
-    (image : Image) → (state new.disk).left_since (state old.disk).clock image → Recovers old.control.system image (Ok (control_moment old.control).lasting)
+-- Whatever a crash might have left since the call began recovers to what lasted before it, behind at least the lasting steps that were
+-- forced then: no step of the call itself is on the disk.
+abbrev pub ControlCrashes : {D : Type 0} → (D → DiskState) → ControlOnDisk D → ControlOnDisk D → Type 0
+ControlCrashes state old new =
+    (image : Image) → (state new.disk).left_since (state old.disk).clock image → RecoversSince old.control.system old.control.opening old.forced old.control.history image
 
--- So it does, or to that with the call's step.
-abbrev pub ControlCrashesEither : {D : Type 0} → (D → DiskState) → ControlOnDisk D → ControlOnDisk D → Entry → Type 0
-ControlCrashesEither state old new entry =
-    (image : Image) → (state new.disk).left_since (state old.disk).clock image
-    → RecoversEither old.control.system (control_moment old.control).lasting (lasting_after_entries old.control.system old.control.opening (old.control.history ++ entry ∷ [])) image
+-- ---- what is forced
 
--- Where the call could not be done, its step isn't there.
-abbrev pub CrashesSo : {D : Type 0} → (D → DiskState) → Option ControlFault → ControlOnDisk D → ControlOnDisk D → Entry → Type 0
-CrashesSo state None old new entry = ControlCrashesEither state old new entry
-CrashesSo state (Some Disk) old new entry = ControlCrashesEither state old new entry
-CrashesSo state (Some Memory) old new entry = ControlCrashesAlone state old new
-CrashesSo state (Some (Spent counter)) old new entry = ControlCrashesAlone state old new
+-- No fewer lasting steps are forced than before. A call that was answered forces none, unless a checkpoint is due before it: then all that
+-- were done before are.
+pub record ForcesWhereDue {D : Type 0} (call : ControlCall) (old new : ControlOnDisk D) : Type 0 where
+  pub spares : NoCheckpointIsDue old.journal.log (own_bytes (parts_now old) old.units call) → new.forced ≡ old.forced
+  pub due : (NoCheckpointIsDue old.journal.log (own_bytes (parts_now old) old.units call) → ⊥) → new.forced ≡ front_of old.control
+
+abbrev pub ForcesBy : {D : Type 0} → Option ControlFault → ControlCall → ControlOnDisk D → ControlOnDisk D → Type 0
+ForcesBy None call old new = ForcesWhereDue call old new
+ForcesBy (Some fault) call old new = new.forced ≡ old.forced
+
+-- All that was done is forced, and so each image recovers to what lasts. Nothing else has changed, and no entry was added.
+pub record ForcesLog {D : Type 0} (state : D → DiskState) (old new : ControlOnDisk D) : Type 0 where
+  pub adds : AddsNothing old.control new.control
+  pub room : new.control.room ≡ old.control.room
+  pub up : new.up ≡ true
+  pub all : new.forced ≡ front_of old.control
+  pub databases : new.databases ≡ old.databases
+  pub units : new.units ≡ old.units
+  pub next_unit : new.next_unit ≡ old.next_unit
+  pub log : new.journal.log ≡ forced_writer old.journal.log
+  pub restart : new.journal.restart ≡ old.journal.restart
+  pub no_fault : (state new.disk).faults ≡ (state old.disk).faults
 
 -- ---- writes
 
 -- A call that appends no bytes of its own, or leaves 32 sectors of the log's area free with them, takes no checkpoint, and writes
--- to the log alone: no more sectors than what was appended takes, and none where no step lasts of it. Before any other a
--- checkpoint is due. It takes one, in so many sectors at most, and from there does the same; or the disk fails in the checkpoint,
--- after so many sectors at most. For want of memory, or where a counter is spent, neither kind does anything.
+-- nothing. Before any other a checkpoint is due. It takes one, in so many sectors at most, and from there does the same; or the disk
+-- fails in the checkpoint, after so many sectors at most. For want of memory, or where a counter is spent, neither kind does anything.
 abbrev pub WritesFrugally : {D : Type 0} → (D → DiskState) → Option ControlFault → ControlOnDisk D → ControlOnDisk D → Entry → Type 0
 WritesFrugally state fault old new entry = TakesCheckpointWhereDue state fault (parts_now old) old.units (call_of entry) old.journal new.journal old.disk new.disk
 

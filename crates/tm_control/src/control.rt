@@ -1,5 +1,5 @@
 //! The calls of the control region.
-ghost use Rattle.std.specs.Prelude.{◌≡◌, ℕ, ◌+◌, ◌-◌, ◌*◌, ◌<◌, ◌≤◌, ◌↔◌, length, true, if◌then◌else◌, IfOk, IfErr, OnOk, OnErr, IsTrue};
+ghost use Rattle.std.specs.Prelude.{◌≡◌, Err, false, ℕ, ◌+◌, ◌-◌, ◌*◌, ◌<◌, ◌≤◌, ◌↔◌, length, true, if◌then◌else◌, IfOk, IfErr, OnOk, OnErr, IsTrue};
 ghost use Rattle.std.specs.Borrow.{sem};
 ghost use Rattle.std.specs.Io.BufRead.{Rests};
 ghost use Rattle.disk_law.specs.UnitCounts.{StandsUpTo};
@@ -7,30 +7,34 @@ ghost use Rattle.checkpointing.specs.Counts.{CountsUpTo, RaisesCounts};
 ghost use Rattle.openings.specs.declared.how.How.TheVariants.{Found};
 ghost use Rattle.tm_disk.specs.Disk.{Only, Within, armed};
 ghost use Rattle.model_machine.specs.declared.entry.Entry.TheVariants.{Accept, Show, Acked as AckedEntry, Turn as TurnEntry, Commanded, Checked, Quiet};
+ghost use Rattle.model_machine.specs.declared.entry.CheckpointRefused.TheVariants.{Fault as CheckpointFault};
+ghost use Rattle.model_machine.specs.declared.entry.ControlFault.TheVariants.{Disk as DiskFault};
 ghost use Rattle.model_machine.specs.CommandAnswers.{IsCommandServed, command_answer};
 ghost use Rattle.model_machine.specs.Machine.{output_at, terminal_at, IsRegion};
 ghost use Rattle.model_machine.specs.MachineCalls.{is_machine_quiet, show_answer};
-ghost use Rattle.model_machine.specs.History.{AddsNothing, control_moment};
+ghost use Rattle.model_machine.specs.History.{AddsNothing, call_of, control_moment};
 ghost use Rattle.lasting_state.specs.ShownTerminal.{IsShownTo};
 ghost use Rattle.openings.specs.Faults.{fault_in};
 ghost use Rattle.openings.specs.LifeBeginning.{HandsBack};
 ghost use Rattle.tm_machine.specs.SlotChanges.{HasSlots};
+ghost use Rattle.logged_machine.specs.CheckpointDue.{WritesLog};
 ghost use Rattle.logged_machine.specs.LoggedState.{LastsNow};
 ghost use Rattle.logged_machine.specs.TakenCheckpoint.{IsTaken, LeavesSettled, WritesCheckpoint};
-ghost use Rattle.tm_control.specs.ControlOnDisk.{Lasts, control_spent_now};
-ghost use Rattle.tm_control.specs.ControlCalls.{HasArmed, StaysSo, Shows, AddsBy, ControlCountsSince, CrashesSo, KeepsLog, RaisesBy, SavesRoom, TellsSpent, StaysSpent, StaysUndone, ControlStaysUntaken, WritesFrugally, parts_now};
+ghost use Rattle.tm_control.specs.ControlOnDisk.{Lasts, control_spent_now, front_of};
+ghost use Rattle.tm_control.specs.ControlCalls.{HasArmed, StaysSo, Shows, AddsBy, BrokeOff, ControlCountsSince, ControlCrashes, ForcesBy, ForcesLog, KeepsLog, RaisesBy, SavesRoom, TellsSpent, StaysSpent, StaysUndone, ControlStaysUntaken, WritesFrugally, parts_now};
 ghost use Rattle.tm_control.specs.ClosedControl.{OpensControl, Closes};
 ghost use Rattle.tm_control.specs.contracts.control.Control.{the_row};
 
 use crate::closed::Closed;
 use crate::noting::{acked_entry, checked_entry, command_entry, input_entry, note, turn_entry};
+use image_loading::sectors_needed;
 use lasting_state::Shown;
 use logged_machine::{Acknowledgement, Input, LoggedMachine, OpenRefused, Turn};
 use model_machine::{
     AckRefused, Acked, Answer, CheckpointRefused, Command, CommandRefused, ControlFault, Entry,
     InputRefused, Lasting, Taken, Turned,
 };
-use openings::{History, How, Life};
+use openings::{History, How, Life, OpenError};
 use std::alloc::Global;
 use std::marker::Model;
 use system_types::System;
@@ -39,7 +43,9 @@ use tm_types::{Bytes, Memory, Name, Segments};
 
 /// The control region on its disk. Contracts see its system, what it opened with, its history and the room for further
 /// entries; what its machine has come to follows from these. They see its disk too, whether it is up, its databases with what
-/// open units have changed, and what it keeps of its log.
+/// open units have changed, what it keeps of its log, and how many lasting steps of the life are forced.
+///
+/// While it is up there is room for one entry more than they see: that of a force in which the disk fails.
 #[derive(Drop)]
 pub struct Control<D: Disk> {
     alloc: Global,
@@ -61,13 +67,14 @@ impl<D: Disk> Model for Control<D> {
 
     ghost Value = { ControlOnDisk D };
 
-    ghost use Rattle.tm_control.specs.ControlParts.{HoldsControl};
+    ghost use Rattle.tm_control.specs.ControlParts.{IsControl};
 
     ghost view = { λ c. record {
-      control = record { system = c.machine.machine.system; opening = c.opening; history = c.history.items; room = vec_capacity c.history - vec_len c.history };
+      control = record { system = c.machine.machine.system; opening = c.opening; history = c.history.items; room = vec_capacity c.history - vec_len c.history - 1 };
       checkpoint = c.checkpoint;
       text = c.machine.text;
       up = c.machine.served;
+      forced = c.machine.forced - c.opening.steps;
       began = c.began;
       databases = c.machine.machine.databases;
       journal = c.machine.journal;
@@ -76,7 +83,7 @@ impl<D: Disk> Model for Control<D> {
       disk = c.machine.disk;
     } };
 
-    ghost invariant = { λ c. HoldsControl D.state c.machine c.opening c.checkpoint c.history.items c.steps };
+    ghost invariant = { λ c. IsControl D.state c.machine c.opening c.checkpoint c.history.items c.steps (vec_len c.history) (vec_capacity c.history) };
 }
 
 impl<D: Disk> Control<D> {
@@ -98,6 +105,9 @@ impl<D: Disk> Control<D> {
         ensures counts_back { IfErr result (λ refused. Within (RaisesCounts 1 system) (D.state disk) (D.state refused.disk)) }
         ensures refused { IfErr result (λ refused. HandsBack D.state how system text disk refused.error refused.disk refused.system refused.text) }
     {
+        let Ok(history) = Vec::with_capacity(alloc, 1) else {
+            return Err(without_memory(disk, system, text));
+        };
         let began = disk.faults();
         match LoggedMachine::open(alloc, disk, system, text, how) {
             Ok((machine, opening)) => {
@@ -108,7 +118,7 @@ impl<D: Disk> Control<D> {
                     machine,
                     opening,
                     checkpoint,
-                    history: Vec::new(alloc),
+                    history,
                     began,
                     steps,
                 })
@@ -164,6 +174,22 @@ impl<D: Disk> Control<D> {
         self.machine.steps()
     }
 
+    /// How many lasting steps the life has.
+    pub fn front(&self) -> u64
+        requires up { self.now.up ≡ true }
+        ensures { result ≡ front_of self.now.control }
+    {
+        steps_since(self.machine.steps(), &self.opening)
+    }
+
+    /// How many of these every image has that a crash may leave.
+    pub fn forced(&self) -> u64
+        requires up { self.now.up ≡ true }
+        ensures { result ≡ self.now.forced }
+    {
+        steps_since(self.machine.forced(), &self.opening)
+    }
+
     /// Makes the `n`-th write from now fail and the disk stop. It answers false where the disk can't be told so.
     pub fn arm(&mut self, n: u64) -> bool
         requires some { 0 < n }
@@ -194,7 +220,7 @@ impl<D: Disk> Control<D> {
         ensures lasts { Lasts D.state self.new }
     {
         let _ = self.machine.is_served();
-        self.history.reserve(n as usize)
+        self.history.reserve(n as usize + 1)
     }
 
     /// Takes an input of a terminal under a number. The refusals are looked at in the order in which they are defined; a `Fault`
@@ -208,7 +234,8 @@ impl<D: Disk> Control<D> {
         requires some { 0 < length segments }
         requires up { self.old.up ≡ true }
         ensures adds { AddsBy D.state (fault_in (Accept terminal.now number segments result)) self.old self.new (Accept terminal.now number segments result) }
-        ensures crash { CrashesSo D.state (fault_in (Accept terminal.now number segments result)) self.old self.new (Accept terminal.now number segments result) }
+        ensures crash { ControlCrashes D.state self.old self.new }
+        ensures forced { ForcesBy (fault_in (Accept terminal.now number segments result)) (call_of (Accept terminal.now number segments result)) self.old self.new }
         ensures lasts { Lasts D.state self.new }
         ensures spent { TellsSpent (control_spent_now self.old) (fault_in (Accept terminal.now number segments result)) }
         ensures nothing { StaysSpent (fault_in (Accept terminal.now number segments result)) self.old self.new }
@@ -222,7 +249,7 @@ impl<D: Disk> Control<D> {
         if let Some(counter) = self.machine.spent() {
             return Err(InputRefused::Fault(ControlFault::Spent(counter)));
         }
-        if self.history.reserve(1).is_err() {
+        if self.history.reserve(2).is_err() {
             return Err(InputRefused::Fault(ControlFault::Memory));
         }
         let input = Input {
@@ -257,6 +284,7 @@ impl<D: Disk> Control<D> {
 
     /// Shows a terminal its first reply, again and again under the reply's own number. It takes no memory; the room for its
     /// entry was made by `reserve`.
+    #[tactic(auto, using(crate::proofs::Room::one_less))]
     pub fn receive(&mut self, terminal: &Name) -> Shown<'_>
         requires up { self.old.up ≡ true }
         requires room { 0 < self.old.control.room }
@@ -286,7 +314,8 @@ impl<D: Disk> Control<D> {
     pub fn acknowledge(&mut self, terminal: &Name, number: u64) -> Result<Acked, AckRefused>
         requires up { self.old.up ≡ true }
         ensures adds { AddsBy D.state (fault_in (AckedEntry terminal.now number result)) self.old self.new (AckedEntry terminal.now number result) }
-        ensures crash { CrashesSo D.state (fault_in (AckedEntry terminal.now number result)) self.old self.new (AckedEntry terminal.now number result) }
+        ensures crash { ControlCrashes D.state self.old self.new }
+        ensures forced { ForcesBy (fault_in (AckedEntry terminal.now number result)) (call_of (AckedEntry terminal.now number result)) self.old self.new }
         ensures lasts { Lasts D.state self.new }
         ensures spent { TellsSpent (control_spent_now self.old) (fault_in (AckedEntry terminal.now number result)) }
         ensures nothing { StaysSpent (fault_in (AckedEntry terminal.now number result)) self.old self.new }
@@ -300,7 +329,7 @@ impl<D: Disk> Control<D> {
         if let Some(counter) = self.machine.spent() {
             return Err(AckRefused::Fault(ControlFault::Spent(counter)));
         }
-        if self.history.reserve(1).is_err() {
+        if self.history.reserve(2).is_err() {
             return Err(AckRefused::Fault(ControlFault::Memory));
         }
         let acknowledgement = Acknowledgement {
@@ -318,7 +347,8 @@ impl<D: Disk> Control<D> {
         requires up { self.old.up ≡ true }
         requires region { IsRegion self.old.control.system region }
         ensures adds { AddsBy D.state (fault_in (TurnEntry region result)) self.old self.new (TurnEntry region result) }
-        ensures crash { CrashesSo D.state (fault_in (TurnEntry region result)) self.old self.new (TurnEntry region result) }
+        ensures crash { ControlCrashes D.state self.old self.new }
+        ensures forced { ForcesBy (fault_in (TurnEntry region result)) (call_of (TurnEntry region result)) self.old self.new }
         ensures lasts { Lasts D.state self.new }
         ensures spent { TellsSpent (control_spent_now self.old) (fault_in (TurnEntry region result)) }
         ensures nothing { StaysSpent (fault_in (TurnEntry region result)) self.old self.new }
@@ -332,7 +362,7 @@ impl<D: Disk> Control<D> {
         if let Some(counter) = self.machine.spent() {
             return Err(ControlFault::Spent(counter));
         }
-        if self.history.reserve(1).is_err() {
+        if self.history.reserve(2).is_err() {
             return Err(ControlFault::Memory);
         }
         let turned = self.machine.serve(&Turn { region });
@@ -346,7 +376,8 @@ impl<D: Disk> Control<D> {
         requires up { self.old.up ≡ true }
         requires command { IsCommandServed command.now }
         ensures adds { AddsBy D.state (fault_in (Commanded command.now result)) self.old self.new (Commanded command.now result) }
-        ensures crash { CrashesSo D.state (fault_in (Commanded command.now result)) self.old self.new (Commanded command.now result) }
+        ensures crash { ControlCrashes D.state self.old self.new }
+        ensures forced { ForcesBy (fault_in (Commanded command.now result)) (call_of (Commanded command.now result)) self.old self.new }
         ensures lasts { Lasts D.state self.new }
         ensures spent { TellsSpent (control_spent_now self.old) (fault_in (Commanded command.now result)) }
         ensures nothing { StaysSpent (fault_in (Commanded command.now result)) self.old self.new }
@@ -363,7 +394,7 @@ impl<D: Disk> Control<D> {
         let Ok(kept) = self.machine.answer_to(command) else {
             return Err(CommandRefused::Fault(ControlFault::Memory));
         };
-        if self.history.reserve(1).is_err() {
+        if self.history.reserve(2).is_err() {
             return Err(CommandRefused::Fault(ControlFault::Memory));
         }
         let answer = self.machine.serve(command);
@@ -378,7 +409,9 @@ impl<D: Disk> Control<D> {
     pub fn checkpoint(&mut self, freeze: bool) -> Result<u64, CheckpointRefused>
         requires up { self.old.up ≡ true }
         ensures adds { AddsBy D.state (fault_in (Checked freeze result)) self.old self.new (Checked freeze result) }
-        ensures crash { CrashesSo D.state (fault_in (Checked freeze result)) self.old self.new (Checked freeze result) }
+        ensures crash { ControlCrashes D.state self.old self.new }
+        ensures forced { OnOk result (self.new.forced ≡ front_of self.old.control) }
+        ensures as_forced { OnErr result (self.new.forced ≡ self.old.forced) }
         ensures lasts { Lasts D.state self.new }
         ensures spent { TellsSpent (control_spent_now self.old) (fault_in (Checked freeze result)) }
         ensures nothing { StaysSpent (fault_in (Checked freeze result)) self.old self.new }
@@ -395,13 +428,63 @@ impl<D: Disk> Control<D> {
         if let Some(counter) = self.machine.spent() {
             return Err(CheckpointRefused::Fault(ControlFault::Spent(counter)));
         }
-        if self.history.reserve(1).is_err() {
+        if self.history.reserve(2).is_err() {
             return Err(CheckpointRefused::Fault(ControlFault::Memory));
         }
         let answer = self.machine.checkpoint(freeze);
         self.steps = steps_of(self.steps, &self.machine);
         note(&mut self.history, checked_entry(freeze, &answer));
         answer
+    }
+
+    /// Forces to the disk all that pends, and answers how many lasting steps of the life are forced: all. It adds no entry; but where
+    /// the disk fails, an entry tells of a checkpoint with that fault, and no call is served any more.
+    pub fn force_log(&mut self) -> Result<u64, ControlFault>
+        requires up { self.old.up ≡ true }
+        ensures ok { IfOk result (λ forced. forced ≡ self.new.forced) }
+        ensures forces { OnOk result (ForcesLog D.state self.old self.new) }
+        ensures err { IfErr result (λ fault. fault ≡ DiskFault) }
+        ensures broke { OnErr result (BrokeOff D.state self.old self.new (Checked false (Err (CheckpointFault DiskFault)))) }
+        ensures as_forced { OnErr result (self.new.forced ≡ self.old.forced) }
+        ensures crash { ControlCrashes D.state self.old self.new }
+        ensures lasts { Lasts D.state self.new }
+        ensures writes { WritesLog self.old.journal.log (D.state self.old.disk) (D.state self.new.disk) }
+        ensures counts { ControlCountsSince D.state self.old.control.system.logs self.old self.new }
+        ensures raises { self.new.up ≡ true → (high : ℕ) → StandsUpTo high self.old.journal self.old.next_unit → StandsUpTo high self.new.journal self.new.next_unit }
+        ensures stays { StaysSo D.state self.old self.new }
+    {
+        if self.machine.force_log().is_err() {
+            let refused = CheckpointRefused::Fault(ControlFault::Disk);
+            self.history
+                .push_reserved(Entry::Checked(false, Err(refused)));
+            return Err(ControlFault::Disk);
+        }
+        self.steps = steps_of(self.steps, &self.machine);
+        let all = self.machine.forced();
+        Ok(steps_since(all, &self.opening))
+    }
+}
+
+/// An opening for which there is no memory, before the disk was touched. Its size is looked at first.
+fn without_memory<D: Disk>(disk: D, system: System, text: Bytes) -> OpenRefused<D>
+    ensures refused { (how : How) → HandsBack D.state how system text disk result.error result.disk result.system result.text }
+    ensures disk { result.disk ≡ disk }
+{
+    let needed = sectors_needed(&system);
+    let has = disk.sectors();
+    if has < needed {
+        return OpenRefused {
+            error: OpenError::TooSmall(needed, has),
+            disk,
+            system,
+            text,
+        };
+    }
+    OpenRefused {
+        error: OpenError::Memory,
+        disk,
+        system,
+        text,
     }
 }
 
@@ -426,6 +509,7 @@ fn close<D: Disk>(
     steps: u64,
 ) -> Closed<D>
     requires more { opening.steps ≤ steps }
+    requires opened { opening.steps ≤ machine.forced }
     ensures disk { result.disk ≡ machine.disk }
     ensures system { result.system ≡ machine.machine.system }
     ensures text { result.text ≡ machine.text }
@@ -433,9 +517,11 @@ fn close<D: Disk>(
     ensures opening { result.life.opening ≡ opening }
     ensures checkpoint { result.life.checkpoint ≡ checkpoint }
     ensures history { result.life.history ≡ history.items }
+    ensures forced { result.life.forced ≡ machine.forced - opening.steps }
     ensures kept { result.life.kept ≡ steps - opening.steps }
     ensures lasts { LastsNow D.state machine }
 {
+    let forced = steps_since(machine.forced(), &opening);
     let kept = steps_since(steps, &opening);
     let (disk, system, text) = machine.into_parts();
     Closed {
@@ -444,6 +530,7 @@ fn close<D: Disk>(
             opening,
             checkpoint,
             history: History::from_vec(history),
+            forced,
             kept,
         },
         system,

@@ -60,10 +60,10 @@ pub const CALLS: &[(u16, &[u8])] = &[
         2,
         b"STOPPED\nDOWN\nDOWN\nDOWN\nDOWN\nDOWN\nRESTARTED\nUP\nACK T9 1\nQUIET 5\nOUT T9 1 OPENED 0001\nACKED T9 1\nCHECKPOINT 3\n",
     ),
-    // So is its completion.
+    // So is its completion before its reply is shown.
     (
         2,
-        b"ACK T9 1\nSTOPPED\nDOWN\nDOWN\nDOWN\nDOWN\nRESTARTED\nUP\nALREADY T9 1\nQUIET 5\nOUT T9 1 OPENED 0001\nACKED T9 1\nCHECKPOINT 3\n",
+        b"ACK T9 1\nQUIET 5\nSTOPPED\nDOWN\nDOWN\nDOWN\nRESTARTED\nUP\nALREADY T9 1\nQUIET 5\nOUT T9 1 OPENED 0001\nACKED T9 1\nCHECKPOINT 3\n",
     ),
     // So is the acknowledgement.
     (
@@ -97,7 +97,8 @@ pub const READS: &[(&[u8], u64, &[u8])] = &[
     (b"IN T9 1 OPEN 0001 1000\n+ B\n", 2, b"STATUS 4 READ\n"),
 ];
 
-/// Where an answer can't be written the program ends, and what it answered is there. Sent again, all of it stands once.
+/// Where an answer can't be written the program ends, and what it answered is there; of turns that no reply was shown of nothing need be.
+/// Sent again, all of it stands once.
 pub const ANSWERS: &[(&[u8], &[u8])] = &[
     (
         b"",
@@ -105,7 +106,7 @@ pub const ANSWERS: &[(&[u8], &[u8])] = &[
     ),
     (
         b"ACK T9 1\n",
-        b"ALREADY T9 1\nQUIET 0\nOUT T9 1 OPENED 0001\nACKED T9 1\nCHECKPOINT 3\n",
+        b"ALREADY T9 1\nQUIET 5\nOUT T9 1 OPENED 0001\nACKED T9 1\nCHECKPOINT 3\n",
     ),
     (
         b"ACK T9 1\nQUIET 5\n",

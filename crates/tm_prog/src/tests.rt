@@ -9,9 +9,10 @@ use crate::test_system::{
     BEHIND_QUEUES, DOUBLE_SYSTEM, FILLED_DOUBLE, FILLED_SYSTEM, SERIAL_SYSTEM, SYSTEM,
 };
 use crate::worked_rows::{
-    ACCOUNT_OPENED, ACCOUNT_ROWS, BROKEN_COLD, COLD_STARTS, FILLED, FILLED_DOUBLE_PRINTED,
-    FILLED_SINGLE_PRINTED, HALF, HALF_PRINTED, ONE_ECHO, OPENED, OPENED_PRINTED, ROWS, SERIAL,
-    SERIAL_PRINTED, TAKEN_BACK, TAKEN_BACK_PRINTED, WORDS,
+    ACCOUNT_OPENED, ACCOUNT_ROWS, BROKEN_COLD, COLD_STARTS, CUT_AT_THE_END, CUT_AT_THE_END_PRINTED,
+    FILLED, FILLED_DOUBLE_PRINTED, FILLED_SINGLE_PRINTED, HALF, HALF_PRINTED, ONE_ECHO, OPENED,
+    OPENED_PRINTED, ROWS, SERIAL, SERIAL_PRINTED, TAKEN_BACK, TAKEN_BACK_PRINTED, WORDS,
+    WORKED_OFF, WORKED_OFF_WRITES,
 };
 use std::alloc::{AllocError, Global};
 use std::test::Fail;
@@ -37,6 +38,38 @@ fn worked_rows(rt: HostRuntime) -> Result<(), Fail> {
         compare("words", &report, (1, printed))?;
     }
     Ok(())
+}
+
+/// Where each write of a session fails, and none behind them.
+#[test]
+fn forced_answers(rt: HostRuntime) -> Result<(), Fail> {
+    let alloc = rt.alloc();
+    for (power, status, printed) in WORKED_OFF_WRITES {
+        expect(
+            alloc,
+            "a write of an answer",
+            &[power, WORKED_OFF],
+            (*status, &[printed]),
+        )?;
+    }
+    Ok(())
+}
+
+/// The force at the end of a source fails, and where that can't be told the status is that of a sink.
+#[test]
+fn cut_ends(rt: HostRuntime) -> Result<(), Fail> {
+    let alloc = rt.alloc();
+    let told_all = joined(alloc, CUT_AT_THE_END_PRINTED)?;
+    let wanted: &[&[u8]] = &[&told_all, b"STATUS 3 DOWN\n"];
+    expect(alloc, "an end that is cut", &[CUT_AT_THE_END], (3, wanted))?;
+    let Some(before) = CUT_AT_THE_END_PRINTED.first() else {
+        return Err("nothing is printed".into());
+    };
+    let system = joined(alloc, SYSTEM)?;
+    let source = joined(alloc, &[&system, CUT_AT_THE_END])?;
+    let disk = disk_of(alloc, 1517, &[])?;
+    let report = told(alloc, DRILL, &source, (&[], &[4]), disk)?;
+    compare("an end that can't be told", &report, (5, before))
 }
 
 #[test]
@@ -212,7 +245,7 @@ fn workloads(rt: HostRuntime) -> Result<(), Fail> {
 }
 
 /// What is told of lives: none without a definition, one with an empty history without a line; and behind a cold start that broke off
-/// the three steps that were answered, whether the restart finds them or the empty machine.
+/// the three steps that were forced, whether the restart finds them or the empty machine.
 #[test]
 fn lives(rt: HostRuntime) -> Result<(), Fail> {
     let alloc = rt.alloc();

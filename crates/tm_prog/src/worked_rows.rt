@@ -85,6 +85,40 @@ pub const ROWS: &[(&str, &[u8], &[u8])] = &[
     ),
 ];
 
+/// Two inputs, worked off side by side, and their replies.
+pub const WORKED_OFF: &[u8] = b"IN T1 1 ECHO A\nIN T2 1 ECHO B\nQUIET 100\nRECV T1\nRECV T2\n";
+
+/// The write that fails, the status, and what is printed. Each input makes one before its answer, the turns make none, and the reply that is
+/// shown first makes one for both completions. A fourth isn't made.
+pub const WORKED_OFF_WRITES: &[(&[u8], u8, &[u8])] = &[
+    (
+        b"POWER IN 1 0\n",
+        3,
+        b"ARMED 1\nSTOPPED\nDOWN\nDOWN\nDOWN\nDOWN\nSTATUS 3 DOWN\n",
+    ),
+    (
+        b"POWER IN 2 0\n",
+        3,
+        b"ARMED 2\nACK T1 1\nSTOPPED\nDOWN\nDOWN\nDOWN\nSTATUS 3 DOWN\n",
+    ),
+    (
+        b"POWER IN 3 0\n",
+        3,
+        b"ARMED 3\nACK T1 1\nACK T2 1\nQUIET 8\nSTOPPED\nDOWN\nSTATUS 3 DOWN\n",
+    ),
+    (
+        b"POWER IN 4 0\n",
+        0,
+        b"ARMED 4\nACK T1 1\nACK T2 1\nQUIET 8\nOUT T1 1 ECHO A\nOUT T2 1 ECHO B\n",
+    ),
+];
+
+/// An input that is worked off, and no line behind it: the end of the source makes the second write.
+pub const CUT_AT_THE_END: &[u8] = b"POWER IN 2 0\nIN T1 1 ECHO A\nQUIET 100\n";
+
+/// What is printed for it, before the line of its status.
+pub const CUT_AT_THE_END_PRINTED: &[&[u8]] = &[b"ARMED 2\nACK T1 1\nQUIET 7\n", b"STOPPED\n"];
+
 /// Two messages of a serial code: a region takes the second one once the first is done.
 pub const SERIAL: &[u8] =
     b"IN T1 1 ECHO A\nIN T2 1 ECHO B\nTURN 1\nTURN 2\nTURN 1\nTURN 1\nTURN 1\nTURN 2\n";

@@ -1,5 +1,5 @@
 -- A session without a stop is not down by one, and its disk was opened.
-use Rattle.std.proofs.Common.{◌≡◌, ◌⊎◌, ℕ, ◌+◌, ◌≤◌, Bool, true, false, List, [], ◌∷◌, map, sym, ◌∙◌, subst, refl, arith, inl, inr, ⊎_elim}
+use Rattle.std.proofs.Common.{◌≡◌, ◌⊎◌, ℕ, ◌+◌, ◌≤◌, true, List, [], ◌∷◌, map, sym, ◌∙◌, subst, refl, arith, inl, inr, ⊎_elim}
 use Rattle.std.specs.Prelude.{Option, Some, None}
 use Rattle.std.specs.Option.{is_some}
 use Rattle.tm_disk.specs.Disk.{DiskState, IsDisk, Rose}
@@ -7,11 +7,11 @@ use Rattle.model_system.specs.System.{System}
 use Rattle.model_session.specs.declared.asked.ImageRefused.{ImageRefused}
 use Rattle.model_session.specs.Blocks.{Block}
 use Rattle.model_session.specs.Lives.{LifeState}
-use Rattle.model_session.specs.SessionState.{Setting, SessionState, Standing, Stop, AreStops, is_session_stopped, last_life}
+use Rattle.model_session.specs.SessionState.{Setting, SessionState, Standing, Stop, AreStops, last_life}
 use Rattle.model_session.specs.SessionState.Standing.{Up, Down}
 use Rattle.model_session.specs.Session.{BeginsSession}
 use Rattle.model_session.proofs.Growing.{HasStop, stop_stays, failed_told}
-use Rattle.model_session.proofs.Stopping.{HasStops, stops_told, stops_begun}
+use Rattle.model_session.proofs.Stopping.{HasStops, stops_told}
 use Rattle.openings.specs.declared.how.How.TheVariants.{Found}
 use Rattle.openings.specs.LifeBeginning.{Refuses}
 use Rattle.openings.specs.declared.life.Life.{Life}
@@ -23,9 +23,10 @@ use Rattle.session_lives.proofs.Valid.{valid_opens}
 use Rattle.tm_session.specs.declared.outcome.Ended.{Ended}
 use Rattle.tm_session.specs.declared.outcome.Ended.TheVariants.{Done, Down as DownAtEnd, Image}
 use Rattle.tm_session.specs.DefinedSystem.{text_of_definition}
-use Rattle.tm_session.specs.Outcome.{left_if, is_undone, UndoneAs}
+use Rattle.tm_session.specs.Outcome.{UndoneAs}
 use Rattle.tm_session.specs.Headline.{HasLived, HasSession, IsNeverOpened, IsOpenedBy, IsDiskOpened, IsFoundDisk, AskNoColdStart, IsDiskValid}
 use Rattle.tm_session.proofs.First.{life_begun}
+use Rattle.tm_session.proofs.SourceEnd.{ended_stop, left_over, left_stops}
 
 -- ---- counts
 
@@ -49,10 +50,6 @@ abbrev IsUpAtFirst : Standing → Type 0
 IsUpAtFirst (Up life) = Unit {0}
 IsUpAtFirst (Down outage) = ⊥
 
-left_stops : (undone : Bool) (system : System) (others : List Block) (mid last : SessionState) → left_if undone system others mid last → HasStops mid → HasStops last
-left_stops true system others mid last left h = stops_begun system others mid last left h
-left_stops false system others mid last left h = subst HasStops (sym left) h
-
 no_life_at : (setting : Setting) (standing : Standing) (refusal : ImageRefused) → MayRefuseAt setting standing refusal → last_life standing ≡ None
 no_life_at setting (Up life) refusal may = absurd may
 no_life_at setting (Down outage) refusal may = may.0
@@ -64,7 +61,7 @@ no_life_as (block ∷ others) setting last refusal (may, looked) = no_life_at se
 module _ {D : Type 0} (state : D → DiskState) (system : System) (source : List ℕ) (handed disk : D) (told left old new : Option (List ℕ)) (lives : List LifeState) (stops : List Stop) where
   lived_stops : (ended : Ended) (h : HasLived state system source told left old new handed disk ended lives stops) → HasStops h.last
   lived_stops ended h =
-      left_stops (is_undone ended) system h.others h.mid h.last h.unprinted (stops_told (session_setting state system source handed) h.blocks h.first h.mid h.text h.begins h.session)
+      left_stops system h.others h.mid h.last (left_over ended system h.others h.mid h.last h.end_text h.behind) (stops_told (session_setting state system source handed) h.blocks h.first h.mid h.text h.begins h.session)
 
   never_down : HasLived state system source told left old new handed disk DownAtEnd lives stops → stops ≡ [] → ⊥
   never_down h none = (lived_stops DownAtEnd h).stopped h.by (sym h.stops_are ∙ none)
@@ -85,7 +82,7 @@ module _ {D : Type 0} (state : D → DiskState) (system : System) (source : List
   lived_opened : HasLived state system source told left old new handed disk Done lives stops → stops ≡ [] → IsDiskOpened system source (state handed)
   lived_opened h none =
       ⊎_elim
-      (λ stop. absurd (subst HasStop (sym h.unprinted)
+      (λ stop. absurd (ended_stop system h.mid h.last h.end_text h.behind
       (stop_stays (session_setting state system source handed) h.blocks h.first h.mid h.text h.session stop) (sym h.stops_are ∙ none)))
       (λ up. opened_up h.first.standing up h.opened)
       (begun_or h.first h.begins)
@@ -93,8 +90,7 @@ module _ {D : Type 0} (state : D → DiskState) (system : System) (source : List
   -- with a status of 0 a life has begun
   lived_life : (h : HasLived state system source told left old new handed disk Done lives stops) → is_some (last_life h.last.standing) ≡ true
   lived_life h =
-      subst (λ (s : SessionState). is_some (last_life s.standing) ≡ true) (sym h.unprinted)
-      (life_begun (session_setting state system source handed) h.blocks h.first h.mid h.text h.begins h.session (subst (λ (s : SessionState). is_session_stopped s.standing ≡ false) h.unprinted h.by))
+      life_begun (session_setting state system source handed) h.blocks h.first h.mid h.last h.text h.end_text h.begins h.session h.behind h.by
 
 module _ {D : Type 0} (state : D → DiskState) (handed disk : D) (told left old new : Option (List ℕ)) (lives : List Life) (stops : List Stop) where
   pub not_down : HasSession state told left old new handed disk DownAtEnd lives stops → stops ≡ [] → ⊥

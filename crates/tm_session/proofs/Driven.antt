@@ -1,5 +1,5 @@
 -- Blocks that were served, one after another.
-use Rattle.std.proofs.Common.{◌≡◌, ℕ, ◌+◌, Bool, true, false, List, [], ◌∷◌, ◌++◌, length, take, sym, ◌∙◌, ap, subst, refl, arith, append_assoc, length-append, inl, inr}
+use Rattle.std.proofs.Common.{◌≡◌, ℕ, ◌+◌, true, List, [], ◌∷◌, ◌++◌, length, take, sym, ◌∙◌, ap, subst, refl, arith, append_assoc, length-append, inl, inr}
 use Rattle.std.proofs.lemmas.List.{append-nil}
 use Rattle.std.proofs.Math.Seq.{take-append-add}
 use Rattle.std.specs.Prelude.{Option, Some, None, MatchOption}
@@ -22,7 +22,7 @@ use Rattle.session_lives.specs.declared.called.Served.TheVariants.{Printed, Brok
 use Rattle.session_lives.specs.declared.called.Undone.{Undone}
 use Rattle.session_lives.specs.declared.called.Undone.TheVariants.{Memory as NoMemory, Spent as SpentCounter, Image as BadImage}
 use Rattle.session_lives.specs.Openings.{UndoneBy, IsServedSo}
-use Rattle.tm_session.specs.Outcome.{HasWrittenText, is_undone, left_if, UndoneAs}
+use Rattle.tm_session.specs.Outcome.{HasWrittenText, is_undone, IsLeftBehind, UndoneAs}
 use Rattle.tm_session.specs.DrivenSession.{session_ended_by, IsTextWritten, IsBlockFinished, IsSessionBroken, ServesBlocks, Stops, FailsAt}
 
 -- ---- what was written
@@ -82,6 +82,11 @@ undone_ended NoMemory = refl
 undone_ended SpentCounter = refl
 undone_ended (BadImage refusal) = refl
 
+undone_behind : (undone : Undone) (system : System) (others : List Block) (old new : SessionState) → IsSessionBegun system others old new → IsLeftBehind (session_ended_by undone) system others old new []
+undone_behind NoMemory system others old new begun = (begun, refl)
+undone_behind SpentCounter system others old new begun = (begun, refl)
+undone_behind (BadImage refusal) system others old new begun = (begun, refl)
+
 undone_as : (undone : Undone) (block : Block) (others : List Block) (setting : Setting) (last : SessionState) → UndoneBy undone (asked_of setting.system block) setting last
     → UndoneAs (session_ended_by undone) (block ∷ others) setting last
 undone_as NoMemory block others setting last cause = tt
@@ -98,7 +103,15 @@ module _ (setting : Setting) (block : Block) (w w' : Option (List ℕ)) (a b : S
   wrote text None here printed = record { text = text; served = served_one setting block a b text here; printed = printed }
   wrote text (Some ended) here (writing, front) = inl (record {
     writing = writing;
-    stops = λ others. record { mid = b; text = text; served = served_one setting block a b text here; unprinted = refl; undone = tt; printed = front };
+    stops = λ others. record {
+      mid = b;
+      text = text;
+      served = served_one setting block a b text here;
+      end_text = [];
+      behind = inl (refl, refl);
+      undone = tt;
+      printed = subst (AppendsFront w w') (sym (append-nil text)) front;
+    };
   })
 
   undone : (why : Undone) (ended : Option Ended) → IsBegunBy (asked_of setting.system block) setting.system a a.standing b → UndoneBy why (asked_of setting.system block) setting b → w' ≡ w → ended ≡ Some (session_ended_by why)
@@ -111,7 +124,8 @@ module _ (setting : Setting) (block : Block) (w w' : Option (List ℕ)) (a b : S
           mid = a;
           text = [];
           served = (refl, refl);
-          unprinted = subst (λ u. left_if u setting.system (block ∷ others) a b) (sym (undone_ended why)) begun;
+          end_text = [];
+          behind = undone_behind why setting.system (block ∷ others) a b begun;
           undone = undone_as why block others setting b cause;
           printed = all_written (session_ended_by why) w w' same;
         };
@@ -142,9 +156,11 @@ serves_stops setting ended xs ys others w w1 w2 a b c first second = record {
   mid = second.mid;
   text = first.text ++ second.text;
   served = served_on setting xs ys a b second.mid first.text second.text first.served second.served;
-  unprinted = second.unprinted;
+  end_text = second.end_text;
+  behind = second.behind;
   undone = second.undone;
-  printed = written_behind ended w w1 w2 first.text second.text first.printed second.printed;
+  printed = subst (λ t. HasWrittenText w w2 t ended) (sym (append_assoc first.text second.text second.end_text))
+      (written_behind ended w w1 w2 first.text (second.text ++ second.end_text) first.printed second.printed);
 }
 
 -- a session that ends without a further block
@@ -160,25 +176,18 @@ nothing_up (PowerIn writes pick) system a standing = refl
 nothing_up Restart system a standing = refl
 nothing_up ColdStart system a standing = refl
 
-none_begun : (system : System) (others : List Block) (a : SessionState) → IsSessionBegun system others a a
+pub none_begun : (system : System) (others : List Block) (a : SessionState) → IsSessionBegun system others a a
 none_begun system [] a = refl
 none_begun system (block ∷ others) a = nothing_up (asked_of system block) system a a.standing
 
-none_if : (undone : Bool) (system : System) (others : List Block) (a : SessionState) → left_if undone system others a a
-none_if true system others a = none_begun system others a
-none_if false system others a = refl
-
-pub stops_none : (setting : Setting) (ended : Ended) (others : List Block) (written : Option (List ℕ)) (a : SessionState) → UndoneAs ended others setting a → Stops setting ended [] others written written a a
-stops_none setting ended others written a cause = record {
+pub stops_none : (setting : Setting) (ended : Ended) (others : List Block) (written : Option (List ℕ)) (a : SessionState) → UndoneAs ended others setting a → IsLeftBehind ended setting.system others a a []
+    → Stops setting ended [] others written written a a
+stops_none setting ended others written a cause behind = record {
   mid = a;
   text = [];
   served = (refl, refl);
-  unprinted = none_if (is_undone ended) setting.system others a;
+  end_text = [];
+  behind = behind;
   undone = cause;
   printed = all_written ended written written refl;
 }
-
--- blocks that were served last of all
-pub stops_served : (setting : Setting) (blocks : List Block) (w w' : Option (List ℕ)) (a b : SessionState) → ServesBlocks setting blocks w w' a b → Stops setting Done blocks [] w w' a b
-stops_served setting blocks w w' a b one =
-    subst (λ bs. Stops setting Done bs [] w w' a b) (append-nil blocks) (serves_stops setting Done blocks [] [] w w' w' a b b one (stops_none setting Done [] w' b tt))

@@ -13,7 +13,8 @@ use Rattle.model_machine.specs.declared.entry.Entry.{Entry}
 use Rattle.model_session.specs.Lives.{LastLife}
 use Rattle.model_session.specs.SessionState.{Setting, SessionState, Outage, Standing, IsStateEmptied, MayBeFound, no_life, unbegun, called_on, is_session_stopped, last_life}
 use Rattle.model_session.specs.SessionState.Standing.{Up, Down}
-use Rattle.model_session.specs.Session.{OpensSession, ServedBy, IsServedUp, IsServedDown, IsRestarted, AreServed, BeginsSession, IsSessionBegun, IsBegunBy}
+use Rattle.model_session.specs.Session.{OpensSession, ServedBy, IsServedUp, IsServedDown, IsRestarted, AreServed, BeginsSession, IsSessionBegun, IsBegunBy, EndsAt, IsSourceEnded}
+use Rattle.session_law.specs.LeftOver.{IsLeftOver}
 
 -- ---- what was handed in
 
@@ -109,10 +110,20 @@ module _ (setting : Setting) (tells : setting.tells ≡ true) where
   begun_stands Restart system old (Down outage) new at same stands = same_stands new old (Down outage) same at stands
   begun_stands ColdStart system old (Down outage) new at same stands = same_stands new old (Down outage) same at stands
 
-  left_stands : (system : System) (others : List Block) (mid last : SessionState) → (last ≡ mid) ⊎ IsSessionBegun system others mid last → Stands mid.standing → Stands last.standing
+  turns_stand : (system : System) (others : List Block) (mid last : SessionState) → IsSessionBegun system others mid last → Stands mid.standing → Stands last.standing
+  turns_stand system [] mid last same stands = same_stands last mid mid.standing same refl stands
+  turns_stand system (block ∷ others) mid last one stands = begun_stands (asked_of system block) system mid mid.standing last refl one stands
+
+  -- ---- the end of the source
+
+  end_stands : (system : System) (old : SessionState) (standing : Standing) (new : SessionState) (text : List ℕ) → old.standing ≡ standing → EndsAt standing system old new text → Stands standing → Stands new.standing
+  end_stands system old (Up life) new text at one found = found_stands new.standing found
+  end_stands system old (Down outage) new text at (same, none) stands = same_stands new old (Down outage) same at stands
+
+  left_stands : (system : System) (others : List Block) (mid last : SessionState) → IsLeftOver system others mid last → Stands mid.standing → Stands last.standing
   left_stands system others mid last (inl same) stands = same_stands last mid mid.standing same refl stands
-  left_stands system [] mid last (inr same) stands = same_stands last mid mid.standing same refl stands
-  left_stands system (block ∷ others) mid last (inr one) stands = begun_stands (asked_of system block) system mid mid.standing last refl one stands
+  left_stands system others mid last (inr (inl turns)) stands = turns_stand system others mid last turns stands
+  left_stands system others mid last (inr (inr (text, one))) stands = end_stands system mid mid.standing last text refl one stands
 
   some_none : (last : Option LastLife) → is_some last ≡ true → last ≡ None → ⊥
   some_none None some none = cc
@@ -124,7 +135,7 @@ module _ (setting : Setting) (tells : setting.tells ≡ true) where
   life_found (Down outage) some (inr found) = found
 
   -- A life has begun, and no block asked for a cold start: what was handed in was opened.
-  pub opened_found : (blocks others : List Block) (first mid last : SessionState) (text : List ℕ) → BeginsSession setting first → AreServed setting blocks first mid text → (last ≡ mid) ⊎ IsSessionBegun setting.system others mid last
+  pub opened_found : (blocks others : List Block) (first mid last : SessionState) (text : List ℕ) → BeginsSession setting first → AreServed setting blocks first mid text → IsLeftOver setting.system others mid last
       → AllByRecursion (λ (block : Block). asked_of setting.system block ≢ ColdStart) blocks → is_some (last_life last.standing) ≡ true → IsFound setting
   opened_found blocks others first mid last text begins served left warm some =
       life_found last.standing some (left_stands setting.system others mid last left (blocks_stand blocks first mid text warm served (first_stands first begins)))
@@ -138,17 +149,18 @@ IsTold state = last_life state.standing ≡ None → is_session_stopped state.st
 told_same : (new old : SessionState) → new ≡ old → IsTold old → IsTold new
 told_same new old same told = subst IsTold (sym same) told
 
-told_called : (ends : Bool) (state : SessionState) (life : LastLife) (entries : List Entry) → IsTold (called_on ends state life entries)
-told_called true state life entries = λ none. cc
-told_called false state life entries = λ none. cc
+told_called : (ends : Bool) (state : SessionState) (life : LastLife) (entries : List Entry) (forced : ℕ) → IsTold (called_on ends state life entries forced)
+told_called true state life entries forced = λ none. cc
+told_called false state life entries forced = λ none. cc
 
 module _ (setting : Setting) where
   told_up : (asked : Asked) (old : SessionState) (life : LastLife) (new : SessionState) (text : List ℕ) → IsServedUp asked setting old life new text → IsTold old → IsTold new
   told_up (Bad rule) old life new text (same, printed) told = told_same new old same told
   told_up (BadCommand rule) old life new text (same, printed) told = told_same new old same told
   told_up (Stopped terminal number reason) old life new text (same, printed) told = told_same new old same told
-  told_up (Call call) old life new text (inl one) told = told_same new _ one.goes (told_called _ old life _)
-  told_up (Call call) old life new text (inr one) told = told_same new _ one.ends (λ none. cc)
+  told_up (Call call) old life new text (inl one) told = told_same new _ one.goes (told_called _ old life _ _)
+  told_up (Call call) old life new text (inr (inl one)) told = told_same new _ one.ends (λ none. cc)
+  told_up (Call call) old life new text (inr (inr one)) told = told_same new _ one.ends (λ none. cc)
   told_up (Quiet most) old life new text (inl one) told = told_same new _ one.goes (λ none. cc)
   told_up (Quiet most) old life new text (inr one) told = told_same new _ one.ends (λ none. cc)
   told_up (Power pick) old life new text (same, printed) told = told_same new _ same (λ none. cc)
@@ -185,10 +197,18 @@ module _ (setting : Setting) where
   told_first first (inl opens) = told_same first _ opens.goes (λ none. cc)
   told_first first (inr fails) = told_same first _ fails.ends (λ none. refl)
 
-  -- A session that isn't down by a stop has begun a life.
+  told_end : (system : System) (old : SessionState) (standing : Standing) (new : SessionState) (text : List ℕ) → EndsAt standing system old new text → IsTold old → IsTold new
+  told_end system old (Up life) new text (inl one) told = told_same new _ one.goes (λ none. cc)
+  told_end system old (Up life) new text (inr one) told = told_same new _ one.ends (λ none. cc)
+  told_end system old (Down outage) new text (same, none) told = told_same new old same told
+
+  -- A session that isn't down by a stop behind the end of its source has begun a life.
   life_by : (last : Option LastLife) (stopped : Bool) → (last ≡ None → stopped ≡ true) → stopped ≡ false → is_some last ≡ true
   life_by None stopped told not = let never : true ≡ false = sym (told refl) ∙ not in cc
   life_by (Some life) stopped told not = refl
 
-  pub life_begun : (blocks : List Block) (first mid : SessionState) (text : List ℕ) → BeginsSession setting first → AreServed setting blocks first mid text → is_session_stopped mid.standing ≡ false → is_some (last_life mid.standing) ≡ true
-  life_begun blocks first mid text begins served not = life_by (last_life mid.standing) (is_session_stopped mid.standing) (told_blocks blocks first mid text served (told_first first begins)) not
+  pub life_begun : (blocks : List Block) (first mid last : SessionState) (text end_text : List ℕ) → BeginsSession setting first → AreServed setting blocks first mid text → IsSourceEnded setting.system mid last end_text
+      → is_session_stopped last.standing ≡ false → is_some (last_life last.standing) ≡ true
+  life_begun blocks first mid last text end_text begins served ends not =
+      life_by (last_life last.standing) (is_session_stopped last.standing)
+      (told_end setting.system mid mid.standing last end_text ends (told_blocks blocks first mid text served (told_first first begins))) not

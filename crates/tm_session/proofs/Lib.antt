@@ -7,6 +7,7 @@ pub mod Endings
 pub mod Judging
 pub mod Opened
 pub mod First
+pub mod SourceEnd
 pub mod Whole
 pub mod Complete
 pub mod Near

@@ -1,5 +1,5 @@
 -- A session ends with a spent counter only where the disk handed in was near that.
-use Rattle.std.proofs.Common.{ℕ, zero, suc, ◌≤◌, List, [], ◌∷◌, map, sym, subst, refl, arith, inr}
+use Rattle.std.proofs.Common.{ℕ, zero, suc, ◌≤◌, List, [], ◌∷◌, map, sym, subst, refl, arith, inl, inr}
 use Rattle.std.specs.Prelude.{Option}
 use Rattle.tm_disk.specs.Disk.{DiskState, IsDisk}
 use Rattle.model_system.specs.System.{System}
@@ -36,7 +36,7 @@ module _ {D : Type 0} (state : D → DiskState) (is_disk : (disk : D) → IsDisk
     near_some high some counts =
         near_at_end (session_setting state system source handed) h.valid counts.own.tells (session_setting state system source handed).counts high some counts.own
         (λ opening begins. counts.states opening (begins (state handed).shown ((is_disk handed).shown_left counts.own.tells)))
-        h.blocks h.others h.first h.mid h.last h.text h.few h.begins h.session (inr h.unprinted) (spent_as h.others (session_setting state system source handed) h.last h.undone)
+        h.blocks h.others h.first h.mid h.last h.text h.few h.begins h.session (inr (inl h.behind.0)) (spent_as h.others (session_setting state system source handed) h.last h.undone)
 
     near_lived : (high : ℕ) → CountsDisk system high (state handed) → near_limit ≤ high
     near_lived zero counts = omega (arith, near_some 1 (omega arith) (disk_higher system 0 1 (state handed) (omega arith) counts))

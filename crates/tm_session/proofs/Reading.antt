@@ -2,6 +2,7 @@
 use Rattle.std.proofs.Common.{◌≡◌, ◌≢◌, ◌⊎◌, ℕ, ◌+◌, ◌≤◌, ◌<◌, Bool, true, false, List, [], ◌∷◌, ◌++◌, length, sym, ◌∙◌, ap, subst, refl, arith, append_assoc, length-append, inl, inr}
 use Rattle.std.proofs.lemmas.List.{append-nil}
 use Rattle.std.specs.Prelude.{Option, Some, None, IfSome, MatchOption}
+use Rattle.model_system.specs.System.{System}
 use Rattle.model_session.specs.SessionState.{Setting, SessionState}
 use Rattle.model_session.specs.declared.asked.ImageRefused.{ImageRefused}
 use Rattle.model_session.specs.Blocks.{Block, blocks_of, blocks_behind, closed_blocks}
@@ -10,7 +11,7 @@ use Rattle.tm_edge.specs.Lines.{CutLine, IsLineTooLong, ServesTold, line_size}
 use Rattle.tm_edge.proofs.ServedSoFar.{none_served, one_served}
 use Rattle.tm_session.specs.declared.outcome.Ended.{Ended}
 use Rattle.tm_session.specs.declared.outcome.Ended.TheVariants.{Done, Words, BadLine, BadCross, Down, Read, Write, Image, Memory, Limit, Spent}
-use Rattle.tm_session.specs.Outcome.{ending_of, texts_of_lines, is_undone, UndoneAs, AreSettled, IsLimit, IsAtLimit, IsTextBack, IsReadToEnd, HasCause}
+use Rattle.tm_session.specs.Outcome.{ending_of, texts_of_lines, is_undone, IsLeftBehind, UndoneAs, AreSettled, IsLimit, IsAtLimit, IsTextBack, IsReadToEnd, HasCause}
 use Rattle.tm_session.specs.Outcome.Ending.{Whole, Stopped, NotBegun}
 use Rattle.tm_session.specs.UnreadLine.{IsUnread}
 use Rattle.tm_session.specs.DrivenSession.{Stops, SessionGoes, SessionEnds, EndsWhole, IsSessionBroken, AreClosed, ahead_with, kept_blocks, may_pass, IsTextBehind, behind_last, StopsBetween, StopsAt, StopsWhole, StopsLast, StopsHere, SessionSteps, ReadSoFar, SoFar, ReadsTold, HasDriven}
@@ -279,6 +280,22 @@ stopped_cause Spent setting last (inr memory) = cc
 stopped_cause (Image refusal) setting last (inl stopped) = cc
 stopped_cause (Image refusal) setting last (inr memory) = cc
 
+-- and nothing comes behind what was served
+stopped_behind : (ended : Ended) (system : System) (a : SessionState) → (ending_of ended ≡ Stopped) ⊎ (ended ≡ Memory) → IsLeftBehind ended system [] a a []
+stopped_behind Read system a why = (refl, refl)
+stopped_behind Write system a why = inl (refl, refl)
+stopped_behind Memory system a why = (refl, refl)
+stopped_behind (Limit n) system a why = (refl, refl)
+stopped_behind (Words word rule) system a why = (refl, refl)
+stopped_behind (BadLine line rule) system a why = (refl, refl)
+stopped_behind (BadCross line rule) system a why = (refl, refl)
+stopped_behind Spent system a why = (refl, refl)
+stopped_behind (Image refusal) system a why = (refl, refl)
+stopped_behind Done system a (inl stopped) = cc
+stopped_behind Done system a (inr memory) = cc
+stopped_behind Down system a (inl stopped) = cc
+stopped_behind Down system a (inr memory) = cc
+
 broken_begun : (ended : Ended) → IsSessionBroken ended → ending_of ended ≢ NotBegun
 broken_begun ended broken = broken_cases (λ s. ending_of s ≢ NotBegun) ended broken (λ e. cc) (λ e. cc) (λ e. cc) (λ refusal e. cc)
 
@@ -392,7 +409,7 @@ module _ (setting : Setting) (before count : ℕ) (told now told' : Option (List
     not_down = stopped_up ended stops.stopped;
     few = omega (arith, few, far.few, length-append far.blocks []);
     stops = serves_stops setting ended far.blocks [] [] w w1 w2 a b c far.serves
-        (subst (λ v. Stops setting ended [] [] w1 v b c) (sym stops.printed) (subst (λ d. Stops setting ended [] [] w1 w1 b d) (sym stops.same) (stops_none setting ended [] w1 b (stopped_cause ended setting b stops.stopped))));
+        (subst (λ v. Stops setting ended [] [] w1 v b c) (sym stops.printed) (subst (λ d. Stops setting ended [] [] w1 w1 b d) (sym stops.same) (stops_none setting ended [] w1 b (stopped_cause ended setting b stops.stopped) (stopped_behind ended setting.system b stops.stopped))));
     read = subst (λ bs. ReadsTold before told told' bs [] ended) (sym (append-nil far.blocks))
         (between_read before count told now told' pending w1 w2 b c far.blocks ended far.read far.shut few stops);
   }

@@ -1,5 +1,5 @@
 -- What one line does to the blocks ahead.
-use Rattle.std.proofs.Common.{◌≡◌, ℕ, ◌+◌, ◌≤◌, Bool, true, false, List, [], ◌∷◌, ◌++◌, length, codes, sym, ◌∙◌, ap, subst, refl, arith, append_assoc, inl, inr, ⊎_elim}
+use Rattle.std.proofs.Common.{◌≡◌, ◌⊎◌, ℕ, ◌+◌, ◌≤◌, Bool, true, false, List, [], ◌∷◌, ◌++◌, length, codes, sym, ◌∙◌, ap, subst, refl, arith, append_assoc, inl, inr, ⊎_elim}
 use Rattle.std.proofs.lemmas.List.{append-nil}
 use Rattle.std.proofs.lemmas.Bool.{cases_Bool}
 use Rattle.std.specs.Prelude.{◌||◌, Option, Some, None, MatchOption, if◌then◌else◌}
@@ -8,11 +8,13 @@ use Rattle.std.proofs.lemmas.Slice.Eq.{bytes_eq-Decides}
 use Rattle.text_rows.specs.Lines.{is_passed_over}
 use Rattle.tm_types.specs.Words.{first_word}
 use Rattle.model_session.specs.SessionState.{Setting, SessionState}
+use Rattle.model_session.specs.Session.{IsSourceEnded}
+use Rattle.model_session.specs.Text.{broken_text}
 use Rattle.model_session.specs.Blocks.{Block, block_alone, and_line, is_further, takes_further, open_before, line_before, blocks_behind, closed_blocks}
 use Rattle.tm_session.specs.declared.outcome.Ended.{Ended}
 use Rattle.tm_session.specs.declared.outcome.Ended.TheVariants.{Done, Memory}
-use Rattle.tm_session.specs.DrivenSession.{ServesBlocks, FailsAt, SessionGoes, SessionEnds, EndsWhole, AreClosed, IsBlockOpen, line_blocks, ahead_with, kept_blocks}
-use Rattle.tm_session.proofs.Driven.{serves_none, serves_twice, serves_stops, stops_none, stops_served}
+use Rattle.tm_session.specs.DrivenSession.{IsTextWritten, ServesBlocks, FailsAt, SessionGoes, SessionEnds, EndsWhole, AreClosed, IsBlockOpen, IsSessionBroken, end_by, line_blocks, ahead_with, kept_blocks}
+use Rattle.tm_session.proofs.Driven.{nothing_written, serves_none, serves_twice, serves_stops, stops_none}
 use Rattle.session_lines.proofs.Enough.{line_stays}
 
 pub choose : {A : Type 0} (b : Bool) (x y : A) → b ≡ true → (if b then x else y) ≡ x
@@ -122,7 +124,7 @@ ends_longer setting block line w a seen plus takes = record {
   blocks = [];
   others = [];
   front = λ served. ap (λ bs. closed_blocks (served ++ bs)) (longer block line [] seen plus) ∙ open_last served (and_line block line) (stays_open block line takes) ∙ sym (append-nil served);
-  stops = stops_none setting Memory [] w a tt;
+  stops = stops_none setting Memory [] w a tt (refl, refl);
 }
 
 -- another line closes it
@@ -254,11 +256,45 @@ few_closed (block ∷ next ∷ blocks) = omega (arith, few_closed (next ∷ bloc
 
 -- ---- the end of the source
 
-pub whole_none : (setting : Setting) (w : Option (List ℕ)) (a : SessionState) → EndsWhole setting Done None w w a a
-whole_none setting w a = record { blocks = []; others = []; settled = inl (refl, refl, refl); stops = stops_none setting Done [] w a tt }
+-- it was forced, or the disk failed in that, and of that was told
+module _ (setting : Setting) (w w' : Option (List ℕ)) (a b : SessionState) where
+  pub whole_forced : IsSourceEnded setting.system a b [] → w' ≡ w → EndsWhole setting Done None w w' a b
+  whole_forced ends same = record {
+    blocks = [];
+    others = [];
+    settled = inl (refl, refl, refl);
+    stops = record { mid = a; text = []; served = (refl, refl); end_text = []; behind = ends; undone = tt; printed = same ∙ nothing_written w };
+  }
 
-pub whole_served : (setting : Setting) (block : Block) (w w' : Option (List ℕ)) (a b : SessionState) → ServesBlocks setting (block ∷ []) w w' a b → EndsWhole setting Done (Some block) w w' a b
-whole_served setting block w w' a b serves = record { blocks = block ∷ []; others = []; settled = inl (refl, refl, refl); stops = stops_served setting (block ∷ []) w w' a b serves }
+  pub whole_broke : (result : Option Ended) → IsSourceEnded setting.system a b broken_text → IsTextWritten w w' broken_text result → EndsWhole setting (end_by result) None w w' a b
+  whole_broke None ends written = record {
+    blocks = [];
+    others = [];
+    settled = inl (refl, refl, refl);
+    stops = record { mid = a; text = []; served = (refl, refl); end_text = broken_text; behind = ends; undone = tt; printed = written };
+  }
+  whole_broke (Some ended) ends (writing, front) = subst (λ s. EndsWhole setting s None w w' a b) (sym writing) (record {
+    blocks = [];
+    others = [];
+    settled = inr (inl refl, refl);
+    stops = record { mid = a; text = []; served = (refl, refl); end_text = broken_text; behind = inr (refl, refl, ends); undone = tt; printed = front };
+  })
+
+-- the line that was kept was served before
+settled_behind : (ended : Ended) (block : Block) (blocks others : List Block)
+    → ((ended ≡ Done) × (kept_blocks None ≡ blocks) × (others ≡ [])) ⊎ (IsSessionBroken ended × (kept_blocks None ≡ blocks ++ others))
+    → ((ended ≡ Done) × (kept_blocks (Some block) ≡ block ∷ blocks) × (others ≡ [])) ⊎ (IsSessionBroken ended × (kept_blocks (Some block) ≡ (block ∷ blocks) ++ others))
+settled_behind ended block blocks others (inl (done, kept, none)) = inl (done, ap (λ bs. block ∷ bs) kept, none)
+settled_behind ended block blocks others (inr (broken, kept)) = inr (broken, ap (λ bs. block ∷ bs) kept)
+
+pub whole_behind : (setting : Setting) (ended : Ended) (block : Block) (w w1 w2 : Option (List ℕ)) (a b c : SessionState) → ServesBlocks setting (block ∷ []) w w1 a b → EndsWhole setting ended None w1 w2 b c
+    → EndsWhole setting ended (Some block) w w2 a c
+whole_behind setting ended block w w1 w2 a b c serves ends = record {
+  blocks = block ∷ ends.blocks;
+  others = ends.others;
+  settled = settled_behind ended block ends.blocks ends.others ends.settled;
+  stops = serves_stops setting ended (block ∷ []) ends.blocks ends.others w w1 w2 a b c serves ends.stops;
+}
 
 pub whole_failed : (setting : Setting) (ended : Ended) (block : Block) (w w' : Option (List ℕ)) (a b : SessionState) → FailsAt setting ended block w w' a b → EndsWhole setting ended (Some block) w w' a b
 whole_failed setting ended block w w' a b (inl f) =

@@ -1,5 +1,5 @@
 -- A whole session, from its definition to its end.
-use Rattle.std.proofs.Common.{◌≡◌, ◌≢◌, ◌⊎◌, ℕ, ◌+◌, ◌*◌, Bool, true, false, List, [], ◌∷◌, ◌++◌, length, map, sym, ◌∙◌, ap, subst, refl, arith, inl, inr}
+use Rattle.std.proofs.Common.{◌≡◌, ◌≢◌, ℕ, ◌+◌, ◌*◌, Bool, true, false, List, [], ◌∷◌, ◌++◌, length, map, sym, ◌∙◌, ap, subst, refl, arith, inl, inr}
 use Rattle.std.proofs.lemmas.List.{append-nil}
 use Rattle.std.specs.Prelude.{Option, Some, None, IfSome}
 use Rattle.std.specs.Option.{option_map, is_some}
@@ -8,13 +8,15 @@ use Rattle.tm_disk.proofs.Words.{same_itself}
 use Rattle.model_system.specs.System.{System}
 use Rattle.system_types.specs.ValidSystem.{IsSystem}
 use Rattle.checkpointing.proofs.Counted.{up_to_more}
+use Rattle.session_law.specs.LeftOver.{IsLeftOver}
 use Rattle.session_law.specs.Measures.{call_raises, measure}
+use Rattle.session_law.proofs.Bound.{lives_bound}
 use Rattle.model_session.specs.Blocks.{Block}
 use Rattle.model_session.specs.Lives.{AreLegal}
 use Rattle.model_session.specs.SessionState.{DiskEvent, SessionState, Standing, Stop, AreStops, LastAnswered, IsKnown, no_life, unbegun, is_session_stopped, last_life}
 use Rattle.model_session.specs.SessionState.DiskEvent.{CutWith}
 use Rattle.model_session.specs.SessionState.Standing.{Down as StandsDown}
-use Rattle.model_session.specs.Session.{BeginsSession, AreServed, IsSessionBegun, OpensSession as OpensLife, FailsToOpen}
+use Rattle.model_session.specs.Session.{BeginsSession, AreServed, OpensSession as OpensLife, FailsToOpen}
 use Rattle.openings.specs.OpenedImage.{WroteNothing}
 use Rattle.openings.specs.declared.how.How.TheVariants.{Found}
 use Rattle.openings.specs.LifeBeginning.{Refuses}
@@ -41,15 +43,16 @@ use Rattle.session_lives.proofs.Restarted.{events_opening, opens_gone, fails_gon
 use Rattle.tm_session.specs.declared.outcome.Ended.{Ended}
 use Rattle.tm_session.specs.declared.outcome.Ended.TheVariants.{Done, Words, BadLine, BadCross, Down as DownAtEnd, Read, Write, Image as BadImage, Memory, Limit, Spent}
 use Rattle.tm_session.specs.DefinedSystem.{text_of_definition}
-use Rattle.tm_session.specs.Outcome.{ending_of, HasWrittenText, is_undone, left_if, left_by_session, UndoneAs, IsBy}
+use Rattle.tm_session.specs.Outcome.{ending_of, HasWrittenText, IsLeftBehind, UndoneAs, IsBy}
 use Rattle.tm_session.specs.ReadSources.{HasReadTold}
 use Rattle.tm_session.specs.Outcome.Ending.{NotBegun}
 use Rattle.tm_session.specs.DrivenSession.{HasDriven}
 use Rattle.tm_session.specs.ReadDefinition.{ReadsDefinition}
 use Rattle.tm_session.specs.BegunSession.{IsDefinitionRead, HasBegun, IsNothing, refusal, down_at_end, by_standing}
-use Rattle.tm_session.specs.Headline.{HasLived, IsOpenedBy, IsDiskOpened, IsFoundDisk, AskNoColdStart, IsSession, Defines, IsUnbegun, IsDiskRefusal}
+use Rattle.tm_session.specs.Headline.{HasLived, IsWhole, IsOpenedBy, IsDiskOpened, IsFoundDisk, AskNoColdStart, IsSession, Defines, IsUnbegun, IsDiskRefusal}
 use Rattle.tm_session.proofs.First.{IsFound, opened_found}
 use Rattle.tm_session.proofs.Opened.{whole_session}
+use Rattle.tm_session.proofs.SourceEnd.{left_over, whole_image}
 
 -- ---- how a session begins
 
@@ -253,13 +256,9 @@ module _ {D : Type 0} (state : D → DiskState) (system : System) (source : List
   valid_at events (Down idle) kept sound = sound.valid
   valid_at events Moved kept sound = absurd sound
 
-  left_either : (undone : Bool) (others : List Block) (mid last : SessionState) → left_if undone system others mid last → (last ≡ mid) ⊎ IsSessionBegun system others mid last
-  left_either true others mid last left = inr left
-  left_either false others mid last left = inl left
-
   -- the disk that the first life began with
   found_disk : (blocks others : List Block) (first mid last : SessionState) (text : List ℕ) → BeginsSession (session_setting state system source handed) first
-      → AreServed (session_setting state system source handed) blocks first mid text → (last ≡ mid) ⊎ IsSessionBegun system others mid last → AskNoColdStart system blocks → is_some (last_life last.standing) ≡ true
+      → AreServed (session_setting state system source handed) blocks first mid text → IsLeftOver system others mid last → AskNoColdStart system blocks → is_some (last_life last.standing) ≡ true
       → HasSectors system (state handed) → IsFoundDisk system source (state handed)
   found_disk blocks others first mid last text begins served left warm some enough = record {
     size = enough;
@@ -288,21 +287,27 @@ module _ {D : Type 0} (state : D → DiskState) (system : System) (source : List
     enough = rest.enough;
     found = λ some warm.
         found_disk driven.blocks driven.others first driven.stops.mid last driven.stops.text begins driven.stops.served
-        (left_either (is_undone ended) driven.others driven.stops.mid last driven.stops.unprinted) warm some (rest.enough some);
+        (left_over ended system driven.others driven.stops.mid last driven.stops.end_text driven.stops.behind) warm some (rest.enough some);
     session = driven.stops.served;
-    unprinted = by_stopped (λ s. left_by_session s system driven.others driven.stops.mid last) stopped ended driven.stops.unprinted (λ one. one);
+    end_text = driven.stops.end_text;
+    behind = by_stopped (λ s. IsLeftBehind s system driven.others driven.stops.mid last driven.stops.end_text) stopped ended driven.stops.behind (λ one. one);
     undone = by_stopped (λ s. UndoneAs s driven.others (session_setting state system source handed) last) stopped ended driven.stops.undone (λ one. tt);
     read = by_stopped (λ s. HasReadTold told left driven.blocks driven.others s) stopped ended (whole_session ended told mid held left texts driven.blocks driven.others definition driven.read)
         (read_down told left driven.blocks driven.others);
-    written = by_stopped (λ s. HasWrittenText w w' driven.stops.text s) stopped ended driven.stops.printed (λ one. one);
+    written = by_stopped (λ s. HasWrittenText w w' (driven.stops.text ++ driven.stops.end_text) s) stopped ended driven.stops.printed (λ one. one);
     lives_are = rest.lives_are;
     legal = rest.legal;
+    bound = lives_bound (session_setting state system source handed) driven.blocks driven.others first driven.stops.mid last driven.stops.text (map life_of lives) begins driven.stops.served
+        (left_over ended system driven.others driven.stops.mid last driven.stops.end_text driven.stops.behind) rest.lives_are;
     stops_are = rest.stops_are;
     same = rest.same;
     happened = rest.happened;
     told_as = rest.told;
     counted = rest.counted;
     images = rest.images;
+    whole = λ image left.
+        by_stopped (λ s. IsWhole s system last.standing image) stopped ended
+        (whole_image state system source handed ended driven.others driven.stops.mid last driven.stops.end_text image driven.stops.behind (rest.images image left)) (λ one. tt);
     numbered = rest.numbered;
     by = by_is stopped ended last.standing driven.not_down is;
   }

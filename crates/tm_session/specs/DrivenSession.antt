@@ -14,7 +14,7 @@ use Rattle.session_lives.specs.declared.called.Served.{Served}
 use Rattle.session_lives.specs.declared.called.Served.TheVariants.{Printed, Broke, Undone as NotServed}
 use Rattle.session_lives.specs.declared.called.Undone.{Undone}
 use Rattle.session_lives.specs.declared.called.Undone.TheVariants.{Memory as NoMemory, Spent as SpentCounter, Image as BadImage}
-use Rattle.tm_session.specs.Outcome.{ending_of, texts_of_lines, HasWrittenText, left_by_session, is_undone, UndoneAs, AreSettled, IsAtLimit, IsTextBack}
+use Rattle.tm_session.specs.Outcome.{ending_of, texts_of_lines, HasWrittenText, IsLeftBehind, is_undone, UndoneAs, AreSettled, IsAtLimit, IsTextBack}
 use Rattle.tm_session.specs.Outcome.Ending.{Stopped, NotBegun}
 
 -- ---- blocks that were served
@@ -25,14 +25,15 @@ pub record ServesBlocks (setting : Setting) (blocks : List Block) (written writt
   pub served : AreServed setting blocks old new text
   pub printed : written' ≡ append_known written text
 
--- These blocks were served, and the others were not; the session ended there.
+-- These blocks were served, and the others were not; the session ended there, with what comes behind the blocks.
 pub record Stops (setting : Setting) (ended : Ended) (blocks others : List Block) (written written' : Option (List ℕ)) (old new : SessionState) : Type 0 where
   pub mid : SessionState
   pub text : List ℕ
   pub served : AreServed setting blocks old mid text
-  pub unprinted : left_by_session ended setting.system others mid new
+  pub end_text : List ℕ
+  pub behind : IsLeftBehind ended setting.system others mid new end_text
   pub undone : UndoneAs ended others setting new
-  pub printed : HasWrittenText written written' text ended
+  pub printed : HasWrittenText written written' (text ++ end_text) ended
 
 -- serving this block failed: its text was not written whole, or it could not be served
 pub record FailsWriting (setting : Setting) (ended : Ended) (block : Block) (written written' : Option (List ℕ)) (old new : SessionState) : Type 0 where
@@ -57,6 +58,11 @@ session_ended_by (BadImage refusal) = Image refusal
 abbrev pub IsTextWritten : Option (List ℕ) → Option (List ℕ) → List ℕ → Option Ended → Type 0
 IsTextWritten written written' text None = written' ≡ append_known written text
 IsTextWritten written written' text (Some ended) = (ended ≡ Write) × AppendsFront written written' text
+
+-- how a session ends whose source was read to its end and whose last text could be written so
+abbrev pub end_by : Option Ended → Ended
+end_by None = Done
+end_by (Some ended) = ended
 
 -- so it was for a block that was served so
 abbrev pub IsBlockFinished : List ℕ → Served → Option (List ℕ) → Option (List ℕ) → Option Ended → Type 0
@@ -108,7 +114,7 @@ pub record SessionEnds (setting : Setting) (ended : Ended) (pending : Option Blo
 abbrev pub kept_blocks : Option Block → List Block
 kept_blocks pending = blocks_behind pending []
 
--- The session ended with the source: what was kept was served; or that broke off.
+-- The session ended with the source: what was kept was served, and what lasts was forced; or that broke off.
 pub record EndsWhole (setting : Setting) (ended : Ended) (pending : Option Block) (written written' : Option (List ℕ)) (old new : SessionState) : Type 0 where
   pub blocks : List Block
   pub others : List Block

@@ -1,18 +1,20 @@
 -- What a whole session comes to.
-use Rattle.std.specs.Prelude.{◌≡◌, ◌≢◌, ◌⊎◌, ℕ, ◌≤◌, true, Option, IfSome, Ok, Err, List, [], length, map, IsTrue}
+use Rattle.std.specs.Prelude.{◌≡◌, ◌≢◌, ◌⊎◌, ℕ, ◌≤◌, true, Option, IfSome, Ok, Err, List, [], ◌++◌, length, map, IsTrue}
 use Rattle.std.specs.Option.{is_some}
 use Rattle.std.specs.List.{AllByRecursion}
 use Rattle.tm_disk.specs.Disk.{Image, DiskState, IsSameDisk}
 use Rattle.model_system.specs.System.{System}
 use Rattle.system_types.specs.ValidSystem.{IsSystem}
 use Rattle.model_machine.specs.Machine.{LastingState}
+use Rattle.model_image.specs.RecoveredState.{Recovers}
 use Rattle.model_session.specs.declared.asked.Asked.TheVariants.{ColdStart}
 use Rattle.model_session.specs.Blocks.{Block}
 use Rattle.model_session.specs.Lines.{asked_of}
-use Rattle.model_session.specs.Lives.{LifeState, AreLegal}
+use Rattle.model_session.specs.Lives.{LifeState, AreLegal, now_in}
 use Rattle.model_session.specs.SessionState.{SessionState, Standing, Stop, AreAllLives, AreStops, last_life}
 use Rattle.model_session.specs.SessionState.Standing.{Up, Down}
 use Rattle.model_session.specs.Session.{BeginsSession, AreServed}
+use Rattle.session_law.specs.SentAgain.{AreBound}
 use Rattle.tm_edge.specs.Lines.{lines_of}
 use Rattle.openings.specs.declared.how.How.TheVariants.{Found}
 use Rattle.model_machine.specs.declared.counts.Counter.{Counter}
@@ -21,11 +23,11 @@ use Rattle.openings.specs.OpenedImage.{WroteNothing}
 use Rattle.openings.specs.LifeBeginning.{Refuses}
 use Rattle.openings.specs.declared.life.Life.{Life}
 use Rattle.tm_session.specs.declared.outcome.Ended.{Ended}
-use Rattle.tm_session.specs.declared.outcome.Ended.TheVariants.{BadLine, BadCross, Read, Memory, Limit, Image as BadImage, Spent}
+use Rattle.tm_session.specs.declared.outcome.Ended.TheVariants.{Done, BadLine, BadCross, Read, Memory, Limit, Image as BadImage, Spent}
 use Rattle.sysdef_text.specs.DefinitionEnd.{definition_lines}
 use Rattle.tm_session.specs.DefinedSystem.{judged_definition, text_of_definition}
 use Rattle.tm_session.specs.ReadDefinition.{IsCutShort}
-use Rattle.tm_session.specs.Outcome.{ending_of, HasWrittenText, left_by_session, UndoneAs, IsBy}
+use Rattle.tm_session.specs.Outcome.{ending_of, HasWrittenText, IsLeftBehind, UndoneAs, IsBy}
 use Rattle.tm_session.specs.ReadSources.{HasReadTold}
 use Rattle.tm_session.specs.Outcome.Ending.{NotBegun}
 use Rattle.session_lives.specs.RunningSession.{life_of, session_setting, HoldsSession, IsNumberedAt, error_of, IsFoundAs, IsOfDefinition, IsValidDisk as IsValid, IsOpenedDisk as IsOpened}
@@ -59,6 +61,11 @@ pub record IsFoundDisk (system : System) (text : List ℕ) (disk : DiskState) : 
 abbrev pub AskNoColdStart : System → List Block → Type 0
 AskNoColdStart system blocks = AllByRecursion (λ (block : Block). asked_of system block ≢ ColdStart) blocks
 
+-- While the system is up behind the source's end, the image recovers to all that the last life has come to.
+abbrev pub IsWhole : Ended → System → Standing → Image → Type 0
+IsWhole Done system (Up life) image = Recovers system image (Ok (now_in system life).lasting)
+IsWhole ended system standing image = Unit {0}
+
 -- A session of the system over the disk that was handed in. It begins with an opening of the disk, which could be opened where
 -- a life began so. Once a life has begun the disk has sectors enough, and where no cold start was asked for, the first life began with
 -- what the disk held, whatever openings had failed before. The disk that is handed back is the one that was handed in: its size, whether
@@ -66,11 +73,13 @@ AskNoColdStart system blocks = AllByRecursion (λ (block : Block). asked_of syst
 -- in its order: to stop at a write to come, or to be cut with a pick; and between, a stop to come got nearer by just the writes that were
 -- made. In the same order stands each checkpoint that is told: where the disk tells its contents, it showed its number before the next
 -- stop was asked for and before the next cut. These numbers are those that the lives tell of. Blocks of lines were
--- served, each the source's next one, and what is printed for them, and nothing else, was written. They led through the lives
--- and the stops that are told, and each image that a crash of the disk may leave as it is handed back recovers to what the
--- session's standing allows: the state after a front of the last life's lasting steps that has all that were answered, and
--- while the system is up after all of them. Its checkpoint has the last number that is known, or a higher one. Where a block could not be served since a counter is spent, or since the disk can't be
--- opened, that has its cause. No more than a million blocks were served.
+-- served, each the source's next one. What is printed for them was written, and where the source was read to its end what is printed for
+-- that: all that lasts is forced then, or the disk fails. Nothing else was written. They led through the lives and the stops that are
+-- told. In each life all lasting steps up to an entry whose text binds were forced; but where the disk failed in the force behind it,
+-- which ended the life. Each image that a crash of the disk may leave as it is handed back recovers to what the session's standing
+-- allows: the state after a front of the last life's lasting steps that has all that were forced; and behind the source's end, while the
+-- system is up, after all of them. Its checkpoint has the last number that is known, or a higher one. Where a block could not be served
+-- since a counter is spent, or since the disk can't be opened, that has its cause. No more than a million blocks were served.
 pub record HasLived {D : Type 0} (state : D → DiskState) (system : System) (source : List ℕ) (told told' old new : Option (List ℕ)) (handed disk : D) (ended : Ended) (lives : List LifeState) (stops : List Stop) : Type 0 where
   pub blocks : List Block
   pub others : List Block
@@ -80,24 +89,27 @@ pub record HasLived {D : Type 0} (state : D → DiskState) (system : System) (so
   pub mid : SessionState
   pub last : SessionState
   pub text : List ℕ
+  pub end_text : List ℕ
   pub begun : ending_of ended ≢ NotBegun
   pub begins : BeginsSession (session_setting state system source handed) first
   pub opened : IsOpenedBy first.standing system source (state handed)
   pub enough : is_some (last_life last.standing) ≡ true → HasSectors system (state handed)
   pub found : is_some (last_life last.standing) ≡ true → AskNoColdStart system blocks → IsFoundDisk system source (state handed)
   pub session : AreServed (session_setting state system source handed) blocks first mid text
-  pub unprinted : left_by_session ended system others mid last
+  pub behind : IsLeftBehind ended system others mid last end_text
   pub undone : UndoneAs ended others (session_setting state system source handed) last
   pub read : HasReadTold told told' blocks others ended
-  pub written : HasWrittenText old new text ended
+  pub written : HasWrittenText old new (text ++ end_text) ended
   pub lives_are : AreAllLives system last lives
   pub legal : AreLegal system lives
+  pub bound : AreBound system lives
   pub stops_are : stops ≡ last.stops
   pub same : IsSameDisk (state handed) (state disk)
   pub happened : AreEvents state system last.disk.events handed disk
   pub told_as : told_numbers last.disk.events ≡ numbers_told lives
   pub counted : AreStops (state handed).faults stops (state disk).faults
   pub images : (image : Image) → (state disk).may_leave image → HoldsSession state system source handed last.standing image
+  pub whole : (image : Image) → (state disk).may_leave image → IsWhole ended system last.standing image
   pub numbered : (image : Image) → (state disk).may_leave image → IsNumberedAt (session_setting state system source handed) last.standing image
   pub by : IsBy ended last.standing
 

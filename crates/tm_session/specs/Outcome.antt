@@ -5,7 +5,8 @@ use Rattle.model_system.specs.System.{System}
 use Rattle.model_session.specs.Blocks.{Block, blocks_of, closed_blocks}
 use Rattle.model_session.specs.Lines.{asked_of}
 use Rattle.model_session.specs.SessionState.{Setting, SessionState, Standing, is_session_stopped}
-use Rattle.model_session.specs.Session.{IsSessionBegun}
+use Rattle.model_session.specs.Text.{broken_text}
+use Rattle.model_session.specs.Session.{IsSessionBegun, IsSourceEnded}
 use Rattle.session_lives.specs.declared.called.Undone.TheVariants.{Spent as SpentCounter, Image as BadImage}
 use Rattle.session_lives.specs.Openings.{UndoneBy}
 use Rattle.tm_edge.specs.Fault.{HasRisen, AppendsFront}
@@ -90,14 +91,28 @@ is_undone Spent = true
 is_undone (Image refusal) = true
 is_undone _ = false
 
--- Entries without a printed line: none; but where a block could not be served, the turns of a QUIET that broke
--- off, which is the first block that was not served.
-abbrev pub left_if : Bool → System → List Block → SessionState → SessionState → Type 0
-left_if true system others old new = IsSessionBegun system others old new
-left_if false system others old new = new ≡ old
+-- nothing comes behind the blocks that were served
+abbrev pub IsNothingBehind : SessionState → SessionState → List ℕ → Type 0
+IsNothingBehind old new text = (new ≡ old) × (text ≡ [])
 
-abbrev pub left_by_session : Ended → System → List Block → SessionState → SessionState → Type 0
-left_by_session ended system others old new = left_if (is_undone ended) system others old new
+-- where a block could not be served, the turns of a QUIET that broke off, which is the first block that was not served
+abbrev pub IsBegunBehind : System → List Block → SessionState → SessionState → List ℕ → Type 0
+IsBegunBehind system others old new text = IsSessionBegun system others old new × (text ≡ [])
+
+-- the source was read to its end, and the disk failed in the force behind that, of which the text could not be written whole
+abbrev pub IsEndBehind : System → List Block → SessionState → SessionState → List ℕ → Type 0
+IsEndBehind system others old new text = (others ≡ []) × (text ≡ broken_text) × IsSourceEnded system old new text
+
+-- What comes behind the blocks that were served, with its text. With the source's end all that lasts is forced, or the disk fails in that.
+-- Where the session broke off or stopped before, nothing does but the turns of a QUIET.
+abbrev pub IsLeftBehind : Ended → System → List Block → SessionState → SessionState → List ℕ → Type 0
+IsLeftBehind Done system others old new text = IsSourceEnded system old new text
+IsLeftBehind Down system others old new text = IsSourceEnded system old new text
+IsLeftBehind Write system others old new text = IsNothingBehind old new text ⊎ IsEndBehind system others old new text
+IsLeftBehind Memory system others old new text = IsBegunBehind system others old new text
+IsLeftBehind Spent system others old new text = IsBegunBehind system others old new text
+IsLeftBehind (Image refusal) system others old new text = IsBegunBehind system others old new text
+IsLeftBehind _ system others old new text = IsNothingBehind old new text
 
 -- Why the first of these blocks could not be served: a counter is spent, or no life has begun and the disk can't be opened.
 abbrev pub UndoneAs : Ended → List Block → Setting → SessionState → Type 0

@@ -17,7 +17,7 @@ use Rattle.tm_session.specs.Headline.{HasSession, AskNoColdStart}
 
 -- Each life opened with what the one before it left, of which so many lasting steps are kept, and with a checkpoint of a higher number.
 -- So an input under a number is answered as accepted before exactly where its step was kept, and is taken as new exactly where it was
--- not; and a reply is shown again until it is acknowledged or dequeued, and never behind an acknowledgement whose step was kept. The
+-- not; and a reply that was shown is shown again until it is acknowledged or dequeued, and never behind an acknowledgement whose step was kept. The
 -- messages of a serial code are completed or abended in the ascending order of their ids.
 pub record IsAnsweredAsKept (system : System) (lives : List LifeState) : Type 0 where
   pub linked : AreLinked system lives

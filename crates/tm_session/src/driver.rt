@@ -6,12 +6,12 @@ ghost use Rattle.model_session.specs.Blocks as spec;
 ghost use Rattle.session_lives.specs.RunningSession.{IsSessionReady, Leads};
 ghost use Rattle.tm_session.specs.DrivenSession.{ServesBlocks, FailsAt, SessionGoes, SessionEnds, EndsWhole, SessionSteps, StopsHere, StopsLast, HasDriven, IsBlockOpen, IsSessionBroken, behind_last};
 ghost use Rattle.tm_session.specs.Outcome.{HasCause, IsTextBack, IsReadToEnd};
-ghost use Rattle.tm_session.specs.DrivenSession.{session_ended_by, IsTextWritten, IsBlockFinished};
+ghost use Rattle.tm_session.specs.DrivenSession.{session_ended_by, end_by, IsTextWritten, IsBlockFinished};
 
 use crate::outcome::Ended;
 use crate::reader::read_line;
 use session_lines::{Block, is_further, takes_further};
-use session_lives::{Served, Session, Undone, serve_block};
+use session_lives::{Ending, Served, Session, Undone, end_source, serve_block};
 use session_text::Printed;
 use std::alloc::Global;
 use text_rows::is_passed_over;
@@ -190,7 +190,7 @@ fn serve_read<K: Sink, D: Disk>(
     serve_both(alloc, session, printed, sink, pending, block, line)
 }
 
-/// Serves the last block of a source.
+/// Serves the last block of a source, and forces all that lasts.
 fn serve_last<K: Sink, D: Disk>(
     alloc: Global,
     session: &mut Session<D>,
@@ -205,12 +205,38 @@ fn serve_last<K: Sink, D: Disk>(
 {
     let failed = serve_whole(alloc, session, printed, sink, block);
     match failed {
+        None => force_end(session, sink),
+        Some(ended) => ended,
+    }
+}
+
+/// Forces all that lasts, at the end of the source. Where the disk fails in that, so it is told as of any stop.
+fn force_end<K: Sink, D: Disk>(session: &mut Session<D>, sink: &mut K) -> Ended
+    requires ready { IsSessionReady D.state session.old }
+    ensures step { Leads D.state (λ setting a b. EndsWhole setting result None (K.written sink.old) (K.written sink.new) a b) session.old session.new }
+    ensures ready { IsSessionReady D.state session.new }
+    ensures cause { HasCause result 0 0 (K.faults sink.old) (K.faults sink.new) }
+{
+    match end_source(session) {
+        Ending::Forced => Ended::Done,
+        Ending::Broke => {
+            let failed = write(sink, b"STOPPED\n");
+            end_by(failed)
+        }
+    }
+}
+
+/// How a session ends whose source was read to its end and whose last text could be written so.
+fn end_by(failed: Option<Ended>) -> Ended
+    ensures { result ≡ end_by failed }
+{
+    match failed {
         None => Ended::Done,
         Some(ended) => ended,
     }
 }
 
-/// Serves the line that was kept, at the end of the source.
+/// Serves the line that was kept, at the end of the source, and forces all that lasts.
 fn serve_end<K: Sink, D: Disk>(
     alloc: Global,
     session: &mut Session<D>,
@@ -225,7 +251,7 @@ fn serve_end<K: Sink, D: Disk>(
     ensures cause { HasCause result 0 0 (K.faults sink.old) (K.faults sink.new) }
 {
     match pending.take() {
-        None => Ended::Done,
+        None => force_end(session, sink),
         Some(block) => serve_last(alloc, session, printed, sink, &block),
     }
 }

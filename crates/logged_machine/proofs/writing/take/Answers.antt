@@ -19,8 +19,8 @@ checkpoint-requires g c = record {
 }
 
 pub returns-clause-logged : goal.returns-clause-logged
-returns-clause-logged g c = λ text units next h counted s.
-    goes_on c.args.parts.now units next c.args.journal.now text (g.D.Disk.state c.args.disk.now) h c.stores.ensures.has counted c.args.bytes.now s c.system.result.now c.system.ensures c.stores.result.now c.stores.ensures.value
+returns-clause-logged g c = λ text units next states h counted s.
+    goes_on c.args.parts.now units next c.args.journal.now text states (g.D.Disk.state c.args.disk.now) h c.stores.ensures.has counted c.args.bytes.now s c.system.result.now c.system.ensures c.stores.result.now c.stores.ensures.value
     c.settle.new.self c.settle.ensures c.checkpoint.new.self c.in_ok-checkpoint.ensures.log c.in_ok-checkpoint.ensures.restart (g.D.Disk.state c.checkpoint.new.disk) c.in_ok-checkpoint.ensures.kept
     c.in_ok-checkpoint.ensures.ready c.in_ok-checkpoint.ensures.stays.size c.in_ok-checkpoint.ensures.done
 

@@ -12,7 +12,8 @@ pub returns-clause-asked : goal.returns-clause-asked
 returns-clause-asked g c =
     let printed : c.checkpoint_line.new.out.text ≡ checkpoint_text c.args.freeze c.checkpoint-answer.result = search rules in
     asked_checkpoint g.D.Disk.state c.args.freeze c.checkpoint-answer.result c.args.control.now c.checkpoint-answer.new.self c.checkpoint_line.new.out.text c.checkpoint_called.result
-    c.checkpoint_called.ensures c.checkpoint-answer.ensures.spent c.checkpoint-answer.ensures.nothing c.checkpoint-answer.ensures.adds c.checkpoint-answer.ensures.taken (λ number taken. taken.synced)
+    c.checkpoint_called.ensures c.requires.up c.is_up.ensures.lasts c.checkpoint-answer.ensures.spent c.checkpoint-answer.ensures.nothing c.checkpoint-answer.ensures.adds
+    c.checkpoint-answer.ensures.forced c.checkpoint-answer.ensures.as_forced c.checkpoint-answer.ensures.taken (λ number taken. taken.synced)
     (λ number taken tells.
     let shown = taken.images (g.D.Disk.state c.checkpoint-answer.new.self.disk).shown ((g.met.D.Disk.is_disk c.checkpoint-answer.new.self.disk).shown_left tells) in
     record { restart = shown.restart; found = shown.found; number_is = shown.checkpoint }) printed

@@ -3,7 +3,9 @@ use Rattle.std.proofs.Common.{◌≡◌, [], ◌++◌, ◌∙◌, ap, refl, ◌*
 use Rattle.std.specs.Prelude.{Ok, Err}
 use Rattle.model_machine.specs.declared.entry.Entry.TheVariants.{Turn}
 use Rattle.model_session.specs.Text.{turned_text}
+use Rattle.model_machine.specs.declared.entry.ControlCall.TheVariants.{Turn as TurnCall}
 use Rattle.session_lives.proofs.Asked.{asked_fault}
+use Rattle.session_lives.proofs.Bound.{bound_least, least_by, most_up}
 use Rattle.model_machine.specs.declared.entry.Entry.{Entry}
 use Rattle.openings.specs.Faults.{fault_in}
 use Rattle.session_lives.proofs.Counting.{pace_call}
@@ -19,14 +21,16 @@ returns-in-Ok-clause-asked g c =
       asked = refl;
       answered = rw c.in-Ok.is at c.turn-answer.ensures.adds;
       goes_on = refl;
+      forced = bound_least c.args.control.now c.turn-answer.new.self
+          (least_by (fault_in (Turn c.args.region c.turn-answer.result)) (TurnCall c.args.region) c.args.control.now c.turn-answer.new.self (most_up g.D.Disk.state c.args.control.now c.requires.up c.is_up.ensures.lasts) c.turn-answer.ensures.forced);
       printed = c.turned_line.ensures ∙ ap (λ t. t ++ turned_text c.databases.result.now c.args.region c.in-Ok.turned) empty ∙ ap (λ d. turned_text d c.args.region c.in-Ok.turned) databases;
       told = tt;
     }
 
 pub returns-in-Err-clause-asked : goal.returns-in-Err-clause-asked
 returns-in-Err-clause-asked g c =
-    asked_fault g.D.Disk.state c.in-Err.fault (Turn c.args.region (Err c.in-Err.fault)) c.args.control.now c.turn-answer.new.self c.make_room.new.self.text c.called.result refl refl c.called.ensures
-    (rw c.in-Err.is at c.turn-answer.ensures.spent) (rw c.in-Err.is at c.turn-answer.ensures.nothing) (rw c.in-Err.is at c.turn-answer.ensures.adds)
+    asked_fault g.D.Disk.state c.in-Err.fault (Turn c.args.region (Err c.in-Err.fault)) c.args.control.now c.turn-answer.new.self c.make_room.new.self.text c.called.result refl c.called.ensures
+    (rw c.in-Err.is at c.turn-answer.ensures.spent) (rw c.in-Err.is at c.turn-answer.ensures.nothing) (rw c.in-Err.is at c.turn-answer.ensures.adds) (rw c.in-Err.is at c.turn-answer.ensures.forced)
 
 pub returns-in-Ok-clause-pace : goal.returns-in-Ok-clause-pace
 returns-in-Ok-clause-pace g c =

@@ -10,7 +10,7 @@ pub returns-in-Up-clause-served : goal.returns-in-Up-clause-served
 returns-in-Up-clause-served g c =
     served_at g.D.Disk.state c.args.block.now c.ask_block-called.new.printed.text c.in-Up.control c.ask_block-called.new.control c.args.session.now
     (record { lives = c.args.session.now.kept.lives; stops = c.args.session.now.kept.stops; pick = c.ask_block-called.new.picked }) c.settle.new.session c.ask_block-called.result c.settle.result
-    c.in-Up.is c.ask_block-called.ensures.stays refl refl c.ask_block-called.ensures.picks c.ask_block-called.ensures.pace c.ask_block-called.ensures.asked c.settle.ensures
+    c.in-Up.is c.ask_block-called.ensures.stays refl refl c.ask_block-called.ensures.picks c.ask_block-called.ensures.pace c.is_up.ensures.lasts c.ask_block-called.ensures.asked c.settle.ensures
 
 pub returns-in-Up-clause-ready : goal.returns-in-Up-clause-ready
 returns-in-Up-clause-ready g c =

@@ -1,14 +1,15 @@
 -- a checkpoint that was taken, or not
-use Rattle.std.proofs.Common.{ℕ, Err, Result, IfErr, IfOk, OnOk, sym, subst}
+use Rattle.std.proofs.Common.{ℕ, false, Err, Result, IfErr, IfOk, OnOk, sym, subst}
 use Rattle.model_machine.specs.declared.entry.CheckpointRefused.{CheckpointRefused}
 use Rattle.model_machine.specs.declared.entry.CheckpointRefused.TheVariants.{Fault}
 use Rattle.model_machine.specs.declared.entry.Entry.TheVariants.{Checked}
 use Rattle.logged_machine.specs.Attempts.{Did}
+use Rattle.logged_machine.specs.CallOutcome.{PendsAnew}
 use Rattle.openings.specs.Faults.{fault_in}
 use Rattle.logged_machine.specs.TakenCheckpoint.{IsTaken, LeavesSettled, StaysUntaken}
 use Rattle.logged_machine.proofs.Checked.{is_taken, leaves_settled, stays_untaken, taken_did, untaken_most}
 use Rattle.logged_machine.proofs.Checkpointed.{unrefreshed}
-use Rattle.logged_machine.proofs.Frugality.{checked_counts, checked_raises, unchecked_counts, unchecked_raises}
+use Rattle.logged_machine.proofs.Frugality.{checked_counts, checked_pends, checked_raises, unchecked_counts, unchecked_raises}
 use Rattle.logged_machine.proofs.logged.LoggedMachine.checkpoint_free.Goals as goal
 
 pub number_taken-requires-clause-served : goal.number_taken-requires-clause-served
@@ -21,6 +22,10 @@ pub returns-in-Ok-clause-did : goal.returns-in-Ok-clause-did
 returns-in-Ok-clause-did g c =
     subst (λ (r : Result ℕ CheckpointRefused). Did g.D.Disk.state (fault_in (Checked c.args.freeze r)) c.args.self.now c.refresh.new.self (Checked c.args.freeze r)) (sym c.number_taken.ensures.value)
     (taken_did g.D.Disk.state c.args.self.now c.refresh.new.self c.args.freeze c.refresh.new.self.journal.restart.checkpoint c.requires.stays c.requires.free c.in-Ok.ensures.done)
+
+pub returns-in-Ok-clause-forced : goal.returns-in-Ok-clause-forced
+returns-in-Ok-clause-forced g c =
+    subst (λ (r : Result ℕ CheckpointRefused). OnOk r (PendsAnew g.D.Disk.state false c.args.self.now c.refresh.new.self)) (sym c.number_taken.ensures.value) (checked_pends g.D.Disk.state c.args.self.now c.refresh.new.self c.in-Ok.ensures.done)
 
 pub returns-in-Ok-clause-taken : goal.returns-in-Ok-clause-taken
 returns-in-Ok-clause-taken g c =

@@ -9,12 +9,9 @@ use Rattle.logged_machine.specs.ToldCalls.{own_bytes}
 use Rattle.logged_machine.specs.RecordsBehindLog.{IsAllBut, StayFree}
 use Rattle.logged_machine.specs.Attempts.{DoneFrugally}
 use Rattle.logged_machine.specs.LoggedState.{LoggedState}
-use Rattle.logged_machine.proofs.Checkpointed.{counted_more, counted_same, served_same}
+use Rattle.logged_machine.proofs.Checkpointed.{counted_same, served_same}
 use Rattle.logged_machine.proofs.Frugality.{done_due, done_nothing, done_once, longer}
 use Rattle.logged_machine.proofs.logged.LoggedMachine.serve_any.Goals as goal
-
-pub serve_once-requires-clause-counted : goal.serve_once-requires-clause-counted
-serve_once-requires-clause-counted g c = counted_more c.args.self.now.machine.moment.lasting c.args.self.now.next_unit c.args.self.now.journal c.requires.counted
 
 pub serve_behind-requires-clause-call : goal.serve_behind-requires-clause-call
 serve_behind-requires-clause-call g c = subst (λ (l : LoggedState _). IsCall l.machine.system (g.C.Call.call c.args.call.now)) (sym c.in-Err-Full.ensures.same) c.requires.call
@@ -28,7 +25,7 @@ serve_behind-requires-clause-counted g c = counted_same 0 c.args.self.now c.serv
 pub returns-in-Ok : goal.returns-in-Ok
 returns-in-Ok g c = record {
   did =
-      done_once g.D.Disk.state (fault_in (g.C.Call.entry c.args.call.now c.in-Ok.answer)) c.args.self.now c.serve_once.new.self (g.C.Call.entry c.args.call.now c.in-Ok.answer) c.room_left-room.result
+      done_once g.D.Disk.state c.args.self.now c.serve_once.new.self (g.C.Call.entry c.args.call.now c.in-Ok.answer) c.room_left-room.result
       (subst (λ (v : LoggedState _). StayFree c.room_left-room.result v.journal.log) c.self.view_is c.room_left-room.ensures.kept)
       (subst (λ (call : ControlCall). length (own_bytes c.args.self.now.machine c.args.self.now.units call) ≤ c.room_left-room.result) (sym (g.met.C.Call.of_call c.args.call.now c.in-Ok.answer)) c.in-Ok.ensures.fits) c.in-Ok.ensures.did;
 }

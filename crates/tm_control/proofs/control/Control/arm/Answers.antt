@@ -1,7 +1,9 @@
 -- nothing but the disk is told
-use Rattle.std.proofs.Common.{◌≡◌, ap, sym, refl, true, false, Bool, ℕ}
+use Rattle.std.proofs.Common.{◌≡◌, ◌-◌, ◌∙◌, ap, sym, refl, true, false, Bool, ℕ}
 use Rattle.std.specs.Prelude.{◌↔◌, IsFalse, IsTrue, Option, if◌then◌else◌}
 use Rattle.tm_machine.specs.Parts.{PartsState}
+use Rattle.tm_control.specs.ControlOnDisk.{ControlOnDisk}
+use Rattle.tm_control.proofs.Going.{lasts_now, served_holds}
 use Rattle.tm_control.proofs.control.Control.arm.Goals as goal
 
 -- the writes left, whether the disk can be told or not
@@ -18,7 +20,7 @@ left_by false false before after armed both done not_done = not_done refl
 
 pub returns-clause-log : goal.returns-clause-log
 returns-clause-log g c = rw (sym c.self.view_is)
-    (record { databases = ap (λ (p : PartsState). p.databases) c.arm.ensures.machine; journal = c.arm.ensures.journal; units = c.arm.ensures.units; next_unit = c.arm.ensures.next_unit })
+    (record { databases = ap (λ (p : PartsState). p.databases) c.arm.ensures.machine; journal = c.arm.ensures.journal; forced = ap (λ n. n - c.self.inside.opening.steps) c.arm.ensures.forced; units = c.arm.ensures.units; next_unit = c.arm.ensures.next_unit })
 
 pub returns-clause-arms : goal.returns-clause-arms
 returns-clause-arms g c = rw (sym c.self.view_is)
@@ -36,3 +38,20 @@ returns-clause-arms g c = rw (sym c.self.view_is)
       told = c.arm.ensures.told;
       until_stop = left_by c.arm.result _ _ _ _ c.arm.ensures.can c.arm.ensures.armed c.arm.ensures.nothing;
     })
+
+pub invariant_of-self : goal.invariant_of-self
+invariant_of-self g c = record {
+  holds =
+      served_holds g.D.Disk.state c.self.inside.machine c.arm.new.self c.self.inside.opening c.self.inside.checkpoint c.self.inside.history.items c.self.inside.steps
+      (ap (λ (v : ControlOnDisk _). v.up) c.self.view_is ∙ c.requires.up) (c.arm.ensures.served ∙ ap (λ (v : ControlOnDisk _). v.up) c.self.view_is ∙ c.requires.up)
+      c.arm.ensures.machine c.arm.ensures.journal c.arm.ensures.pends c.self.invariant.holds;
+  room = λ served. c.self.invariant.room (ap (λ (v : ControlOnDisk _). v.up) c.self.view_is ∙ c.requires.up);
+}
+
+pub returns-clause-lasts : goal.returns-clause-lasts
+returns-clause-lasts g c =
+    lasts_now g.D.Disk.state c.arm.new.self c.self.inside.opening c.self.inside.checkpoint c.self.inside.history.items _ c.self.inside.began c.self.inside.steps
+    (served_holds g.D.Disk.state c.self.inside.machine c.arm.new.self c.self.inside.opening c.self.inside.checkpoint c.self.inside.history.items c.self.inside.steps
+    (ap (λ (v : ControlOnDisk _). v.up) c.self.view_is ∙ c.requires.up) (c.arm.ensures.served ∙ ap (λ (v : ControlOnDisk _). v.up) c.self.view_is ∙ c.requires.up)
+    c.arm.ensures.machine c.arm.ensures.journal c.arm.ensures.pends c.self.invariant.holds)
+    c.arm.ensures.lasts

@@ -1,58 +1,128 @@
 -- the control region goes on as its machine does
-use Rattle.std.proofs.Common.{◌≡◌, ◌-◌, ◌∙◌, refl, sym, ap, subst, List, arith}
+use Rattle.std.proofs.Common.{◌≡◌, ◌≤◌, ◌+◌, ◌-◌, ◌∙◌, refl, sym, ap, subst, List, arith}
 use Rattle.model_machine.specs.declared.entry.Entry.{Entry}
 use Rattle.model_machine.specs.declared.entry.Entry.TheVariants.{Checked}
 use Rattle.openings.specs.Faults.{fault_in}
 use Rattle.tm_control.specs.ControlCalls.{is_noted, noted}
 use Rattle.tm_control.specs.ControlOnDisk.{ControlOnDisk}
-use Rattle.tm_control.proofs.Going.{called, is_served, seen, still_counts, untaken}
-use Rattle.tm_control.proofs.Room.{room_saved}
+use Rattle.tm_control.proofs.Going.{all_forced, called, forced_checked, is_served, lasts_now, pends_checked, seen, stays_still, still, still_counts, untaken}
+use Rattle.tm_control.specs.ControlParts.{HoldsControl}
+use Rattle.tm_disk.proofs.States.{at_ok}
+use Rattle.tm_control.proofs.Room.{room_kept, room_saved}
 use Rattle.tm_control.proofs.Numbers.{taken_numbers}
 use Rattle.tm_control.proofs.control.Control.checkpoint.Goals as goal
 
 pub invariant_of-self-2 : goal.invariant_of-self-2
-invariant_of-self-2 g c =
-    (called g.D.Disk.state c.self.inside.machine c.checkpoint-answer.new.self c.self.inside.opening c.self.inside.checkpoint c.self.inside.history.items c.note.new.history.items (Checked c.args.freeze c.checkpoint-answer.result) 0 0 c.self.inside.began c.self.inside.steps c.steps_of-self-inside.result
-    (record {
-      served = ap (λ (v : ControlOnDisk _). v.up) c.self.view_is ∙ c.requires.up;
-      holds = is_served g.D.Disk.state c.self.inside.machine c.self.inside.opening c.self.inside.checkpoint c.self.inside.history.items c.self.inside.steps (ap (λ (v : ControlOnDisk _). v.up) c.self.view_is ∙ c.requires.up) c.self.invariant;
-      call = tt;
-      keeps = c.checkpoint-answer.ensures.keeps;
-      lasts = c.checkpoint-answer.ensures.lasts;
-      disk = g.met.D.Disk.is_disk c.checkpoint-answer.new.self.disk;
-      numbers = λ served. taken_numbers c.args.freeze c.checkpoint-answer.result _ c.self.inside.machine.journal c.checkpoint-answer.new.self.journal _ c.checkpoint-answer.ensures.taken;
-    })
-    c.steps_of-self-inside.ensures c.checkpoint-answer.ensures.goes c.checkpoint-answer.ensures.crash
-    (subst (λ (e : Entry). c.note.new.history.items ≡ noted (is_noted (fault_in e)) c.self.inside.history.items e) c.checked_entry.ensures
-    (c.note.ensures.items ∙ ap (λ (es : List Entry). noted (is_noted (fault_in c.checked_entry.result)) es c.checked_entry.result) c.reserve.ensures.items))).1
+invariant_of-self-2 g c = record {
+  holds =
+      (called g.D.Disk.state c.self.inside.machine c.checkpoint-answer.new.self c.self.inside.opening c.self.inside.checkpoint c.self.inside.history.items c.note.new.history.items (Checked c.args.freeze c.checkpoint-answer.result) 0 0 c.self.inside.began c.self.inside.steps c.steps_of-self-inside.result
+      (record {
+        served = ap (λ (v : ControlOnDisk _). v.up) c.self.view_is ∙ c.requires.up;
+        holds = is_served g.D.Disk.state c.self.inside.machine c.self.inside.opening c.self.inside.checkpoint c.self.inside.history.items c.self.inside.steps (ap (λ (v : ControlOnDisk _). v.up) c.self.view_is ∙ c.requires.up) c.self.invariant.holds;
+        call = tt;
+        keeps = c.checkpoint-answer.ensures.keeps;
+        lasts = c.checkpoint-answer.ensures.lasts;
+        disk = g.met.D.Disk.is_disk c.checkpoint-answer.new.self.disk;
+        numbers = λ served. taken_numbers c.args.freeze c.checkpoint-answer.result _ c.self.inside.machine.journal c.checkpoint-answer.new.self.journal _ c.checkpoint-answer.ensures.taken;
+        pends = λ none answered. pends_checked g.D.Disk.state c.self.inside.machine c.checkpoint-answer.new.self c.self.inside.opening c.self.inside.checkpoint c.self.inside.history.items c.self.inside.steps
+            (is_served g.D.Disk.state c.self.inside.machine c.self.inside.opening c.self.inside.checkpoint c.self.inside.history.items c.self.inside.steps (ap (λ (v : ControlOnDisk _). v.up) c.self.view_is ∙ c.requires.up) c.self.invariant.holds)
+            c.args.freeze c.checkpoint-answer.result c.checkpoint-answer.ensures.forced c.checkpoint-answer.ensures.refused none answered;
+      })
+      c.steps_of-self-inside.ensures c.checkpoint-answer.ensures.goes c.checkpoint-answer.ensures.crash
+      (subst (λ (e : Entry). c.note.new.history.items ≡ noted (is_noted (fault_in e)) c.self.inside.history.items e) c.checked_entry.ensures
+      (c.note.ensures.items ∙ ap (λ (es : List Entry). noted (is_noted (fault_in c.checked_entry.result)) es c.checked_entry.result) c.reserve.ensures.items))).1;
+  room = λ served.
+      room_kept (seen c.self.inside.machine c.self.inside.opening c.self.inside.checkpoint c.self.inside.history.items (c.self.inside.history.cap - c.self.inside.history.len - 1) c.self.inside.began)
+      (seen c.checkpoint-answer.new.self c.self.inside.opening c.self.inside.checkpoint c.note.new.history.items (c.note.new.history.cap - c.note.new.history.len - 1) c.self.inside.began)
+      c.self.inside.history.items c.note.new.history.items c.self.inside.history.len c.note.new.history.len c.self.inside.history.cap c.note.new.history.cap
+      refl refl c.self.inside.history.ok.0 c.note.new.history.ok.0 (omega (arith, c.reserve.ensures.capacity, c.note.ensures.capacity))
+      (fault_in (Checked c.args.freeze c.checkpoint-answer.result)) (Checked c.args.freeze c.checkpoint-answer.result)
+      (subst (λ (e : Entry). c.note.new.history.items ≡ noted (is_noted (fault_in e)) c.self.inside.history.items e) c.checked_entry.ensures
+      (c.note.ensures.items ∙ ap (λ (es : List Entry). noted (is_noted (fault_in c.checked_entry.result)) es c.checked_entry.result) c.reserve.ensures.items))
+      (omega (arith, at_ok c.reserve.result (c.reserve.new.self.len + 2 ≤ c.reserve.new.self.cap) (sym c.if-is_err.ensures.value) c.reserve.ensures.ok, c.reserve.ensures.len, c.note.ensures.capacity));
+}
 
 pub returns-clause-crash : goal.returns-clause-crash
 returns-clause-crash g c = rw (sym c.self.view_is)
-    (called g.D.Disk.state c.self.inside.machine c.checkpoint-answer.new.self c.self.inside.opening c.self.inside.checkpoint c.self.inside.history.items c.note.new.history.items (Checked c.args.freeze c.checkpoint-answer.result) _ _ c.self.inside.began c.self.inside.steps c.steps_of-self-inside.result
+    (called g.D.Disk.state c.self.inside.machine c.checkpoint-answer.new.self c.self.inside.opening c.self.inside.checkpoint c.self.inside.history.items c.note.new.history.items (Checked c.args.freeze c.checkpoint-answer.result) (c.self.inside.history.cap - c.self.inside.history.len - 1) (c.note.new.history.cap - c.note.new.history.len - 1) c.self.inside.began c.self.inside.steps c.steps_of-self-inside.result
     (record {
       served = ap (λ (v : ControlOnDisk _). v.up) c.self.view_is ∙ c.requires.up;
-      holds = is_served g.D.Disk.state c.self.inside.machine c.self.inside.opening c.self.inside.checkpoint c.self.inside.history.items c.self.inside.steps (ap (λ (v : ControlOnDisk _). v.up) c.self.view_is ∙ c.requires.up) c.self.invariant;
+      holds = is_served g.D.Disk.state c.self.inside.machine c.self.inside.opening c.self.inside.checkpoint c.self.inside.history.items c.self.inside.steps (ap (λ (v : ControlOnDisk _). v.up) c.self.view_is ∙ c.requires.up) c.self.invariant.holds;
       call = tt;
       keeps = c.checkpoint-answer.ensures.keeps;
       lasts = c.checkpoint-answer.ensures.lasts;
       disk = g.met.D.Disk.is_disk c.checkpoint-answer.new.self.disk;
       numbers = λ served. taken_numbers c.args.freeze c.checkpoint-answer.result _ c.self.inside.machine.journal c.checkpoint-answer.new.self.journal _ c.checkpoint-answer.ensures.taken;
+      pends = λ none answered. pends_checked g.D.Disk.state c.self.inside.machine c.checkpoint-answer.new.self c.self.inside.opening c.self.inside.checkpoint c.self.inside.history.items c.self.inside.steps
+          (is_served g.D.Disk.state c.self.inside.machine c.self.inside.opening c.self.inside.checkpoint c.self.inside.history.items c.self.inside.steps (ap (λ (v : ControlOnDisk _). v.up) c.self.view_is ∙ c.requires.up) c.self.invariant.holds)
+          c.args.freeze c.checkpoint-answer.result c.checkpoint-answer.ensures.forced c.checkpoint-answer.ensures.refused none answered;
     })
     c.steps_of-self-inside.ensures c.checkpoint-answer.ensures.goes c.checkpoint-answer.ensures.crash
     (subst (λ (e : Entry). c.note.new.history.items ≡ noted (is_noted (fault_in e)) c.self.inside.history.items e) c.checked_entry.ensures
     (c.note.ensures.items ∙ ap (λ (es : List Entry). noted (is_noted (fault_in c.checked_entry.result)) es c.checked_entry.result) c.reserve.ensures.items))).0.crash
+
+pub returns-clause-adds : goal.returns-clause-adds
+returns-clause-adds g c = rw (sym c.self.view_is)
+    (called g.D.Disk.state c.self.inside.machine c.checkpoint-answer.new.self c.self.inside.opening c.self.inside.checkpoint c.self.inside.history.items c.note.new.history.items (Checked c.args.freeze c.checkpoint-answer.result) (c.self.inside.history.cap - c.self.inside.history.len - 1) (c.note.new.history.cap - c.note.new.history.len - 1) c.self.inside.began c.self.inside.steps c.steps_of-self-inside.result
+    (record {
+      served = ap (λ (v : ControlOnDisk _). v.up) c.self.view_is ∙ c.requires.up;
+      holds = is_served g.D.Disk.state c.self.inside.machine c.self.inside.opening c.self.inside.checkpoint c.self.inside.history.items c.self.inside.steps (ap (λ (v : ControlOnDisk _). v.up) c.self.view_is ∙ c.requires.up) c.self.invariant.holds;
+      call = tt;
+      keeps = c.checkpoint-answer.ensures.keeps;
+      lasts = c.checkpoint-answer.ensures.lasts;
+      disk = g.met.D.Disk.is_disk c.checkpoint-answer.new.self.disk;
+      numbers = λ served. taken_numbers c.args.freeze c.checkpoint-answer.result _ c.self.inside.machine.journal c.checkpoint-answer.new.self.journal _ c.checkpoint-answer.ensures.taken;
+      pends = λ none answered. pends_checked g.D.Disk.state c.self.inside.machine c.checkpoint-answer.new.self c.self.inside.opening c.self.inside.checkpoint c.self.inside.history.items c.self.inside.steps
+          (is_served g.D.Disk.state c.self.inside.machine c.self.inside.opening c.self.inside.checkpoint c.self.inside.history.items c.self.inside.steps (ap (λ (v : ControlOnDisk _). v.up) c.self.view_is ∙ c.requires.up) c.self.invariant.holds)
+          c.args.freeze c.checkpoint-answer.result c.checkpoint-answer.ensures.forced c.checkpoint-answer.ensures.refused none answered;
+    })
+    c.steps_of-self-inside.ensures c.checkpoint-answer.ensures.goes c.checkpoint-answer.ensures.crash
+    (subst (λ (e : Entry). c.note.new.history.items ≡ noted (is_noted (fault_in e)) c.self.inside.history.items e) c.checked_entry.ensures
+    (c.note.ensures.items ∙ ap (λ (es : List Entry). noted (is_noted (fault_in c.checked_entry.result)) es c.checked_entry.result) c.reserve.ensures.items))).0.adds
+
+pub returns-clause-nothing : goal.returns-clause-nothing
+returns-clause-nothing g c = rw (sym c.self.view_is)
+    (called g.D.Disk.state c.self.inside.machine c.checkpoint-answer.new.self c.self.inside.opening c.self.inside.checkpoint c.self.inside.history.items c.note.new.history.items (Checked c.args.freeze c.checkpoint-answer.result) (c.self.inside.history.cap - c.self.inside.history.len - 1) (c.note.new.history.cap - c.note.new.history.len - 1) c.self.inside.began c.self.inside.steps c.steps_of-self-inside.result
+    (record {
+      served = ap (λ (v : ControlOnDisk _). v.up) c.self.view_is ∙ c.requires.up;
+      holds = is_served g.D.Disk.state c.self.inside.machine c.self.inside.opening c.self.inside.checkpoint c.self.inside.history.items c.self.inside.steps (ap (λ (v : ControlOnDisk _). v.up) c.self.view_is ∙ c.requires.up) c.self.invariant.holds;
+      call = tt;
+      keeps = c.checkpoint-answer.ensures.keeps;
+      lasts = c.checkpoint-answer.ensures.lasts;
+      disk = g.met.D.Disk.is_disk c.checkpoint-answer.new.self.disk;
+      numbers = λ served. taken_numbers c.args.freeze c.checkpoint-answer.result _ c.self.inside.machine.journal c.checkpoint-answer.new.self.journal _ c.checkpoint-answer.ensures.taken;
+      pends = λ none answered. pends_checked g.D.Disk.state c.self.inside.machine c.checkpoint-answer.new.self c.self.inside.opening c.self.inside.checkpoint c.self.inside.history.items c.self.inside.steps
+          (is_served g.D.Disk.state c.self.inside.machine c.self.inside.opening c.self.inside.checkpoint c.self.inside.history.items c.self.inside.steps (ap (λ (v : ControlOnDisk _). v.up) c.self.view_is ∙ c.requires.up) c.self.invariant.holds)
+          c.args.freeze c.checkpoint-answer.result c.checkpoint-answer.ensures.forced c.checkpoint-answer.ensures.refused none answered;
+    })
+    c.steps_of-self-inside.ensures c.checkpoint-answer.ensures.goes c.checkpoint-answer.ensures.crash
+    (subst (λ (e : Entry). c.note.new.history.items ≡ noted (is_noted (fault_in e)) c.self.inside.history.items e) c.checked_entry.ensures
+    (c.note.ensures.items ∙ ap (λ (es : List Entry). noted (is_noted (fault_in c.checked_entry.result)) es c.checked_entry.result) c.reserve.ensures.items))).0.nothing
+
+pub returns-clause-forced : goal.returns-clause-forced
+returns-clause-forced g c = rw (sym c.self.view_is)
+    (all_forced g.D.Disk.state c.self.inside.machine c.checkpoint-answer.new.self c.self.inside.opening c.self.inside.checkpoint c.self.inside.history.items 0 c.self.inside.began c.self.inside.steps
+    (is_served g.D.Disk.state c.self.inside.machine c.self.inside.opening c.self.inside.checkpoint c.self.inside.history.items c.self.inside.steps (ap (λ (v : ControlOnDisk _). v.up) c.self.view_is ∙ c.requires.up) c.self.invariant.holds)
+    c.checkpoint-answer.result c.checkpoint-answer.ensures.forced)
+
+pub returns-clause-as_forced : goal.returns-clause-as_forced
+returns-clause-as_forced g c = rw (sym c.self.view_is)
+    (forced_checked g.D.Disk.state c.self.inside.machine c.checkpoint-answer.new.self c.self.inside.opening c.args.freeze c.checkpoint-answer.result c.checkpoint-answer.ensures.goes c.checkpoint-answer.ensures.refused)
 
 pub returns-clause-undone : goal.returns-clause-undone
 returns-clause-undone g c = rw (sym c.self.view_is)
     (called g.D.Disk.state c.self.inside.machine c.checkpoint-answer.new.self c.self.inside.opening c.self.inside.checkpoint c.self.inside.history.items c.note.new.history.items (Checked c.args.freeze c.checkpoint-answer.result) _ _ c.self.inside.began c.self.inside.steps c.steps_of-self-inside.result
     (record {
       served = ap (λ (v : ControlOnDisk _). v.up) c.self.view_is ∙ c.requires.up;
-      holds = is_served g.D.Disk.state c.self.inside.machine c.self.inside.opening c.self.inside.checkpoint c.self.inside.history.items c.self.inside.steps (ap (λ (v : ControlOnDisk _). v.up) c.self.view_is ∙ c.requires.up) c.self.invariant;
+      holds = is_served g.D.Disk.state c.self.inside.machine c.self.inside.opening c.self.inside.checkpoint c.self.inside.history.items c.self.inside.steps (ap (λ (v : ControlOnDisk _). v.up) c.self.view_is ∙ c.requires.up) c.self.invariant.holds;
       call = tt;
       keeps = c.checkpoint-answer.ensures.keeps;
       lasts = c.checkpoint-answer.ensures.lasts;
       disk = g.met.D.Disk.is_disk c.checkpoint-answer.new.self.disk;
       numbers = λ served. taken_numbers c.args.freeze c.checkpoint-answer.result _ c.self.inside.machine.journal c.checkpoint-answer.new.self.journal _ c.checkpoint-answer.ensures.taken;
+      pends = λ none answered. pends_checked g.D.Disk.state c.self.inside.machine c.checkpoint-answer.new.self c.self.inside.opening c.self.inside.checkpoint c.self.inside.history.items c.self.inside.steps
+          (is_served g.D.Disk.state c.self.inside.machine c.self.inside.opening c.self.inside.checkpoint c.self.inside.history.items c.self.inside.steps (ap (λ (v : ControlOnDisk _). v.up) c.self.view_is ∙ c.requires.up) c.self.invariant.holds)
+          c.args.freeze c.checkpoint-answer.result c.checkpoint-answer.ensures.forced c.checkpoint-answer.ensures.refused none answered;
     })
     c.steps_of-self-inside.ensures c.checkpoint-answer.ensures.goes c.checkpoint-answer.ensures.crash
     (subst (λ (e : Entry). c.note.new.history.items ≡ noted (is_noted (fault_in e)) c.self.inside.history.items e) c.checked_entry.ensures
@@ -66,12 +136,15 @@ returns-clause-refused g c = rw (sym c.self.view_is)
     (called g.D.Disk.state c.self.inside.machine c.checkpoint-answer.new.self c.self.inside.opening c.self.inside.checkpoint c.self.inside.history.items c.note.new.history.items (Checked c.args.freeze c.checkpoint-answer.result) _ _ c.self.inside.began c.self.inside.steps c.steps_of-self-inside.result
     (record {
       served = ap (λ (v : ControlOnDisk _). v.up) c.self.view_is ∙ c.requires.up;
-      holds = is_served g.D.Disk.state c.self.inside.machine c.self.inside.opening c.self.inside.checkpoint c.self.inside.history.items c.self.inside.steps (ap (λ (v : ControlOnDisk _). v.up) c.self.view_is ∙ c.requires.up) c.self.invariant;
+      holds = is_served g.D.Disk.state c.self.inside.machine c.self.inside.opening c.self.inside.checkpoint c.self.inside.history.items c.self.inside.steps (ap (λ (v : ControlOnDisk _). v.up) c.self.view_is ∙ c.requires.up) c.self.invariant.holds;
       call = tt;
       keeps = c.checkpoint-answer.ensures.keeps;
       lasts = c.checkpoint-answer.ensures.lasts;
       disk = g.met.D.Disk.is_disk c.checkpoint-answer.new.self.disk;
       numbers = λ served. taken_numbers c.args.freeze c.checkpoint-answer.result _ c.self.inside.machine.journal c.checkpoint-answer.new.self.journal _ c.checkpoint-answer.ensures.taken;
+      pends = λ none answered. pends_checked g.D.Disk.state c.self.inside.machine c.checkpoint-answer.new.self c.self.inside.opening c.self.inside.checkpoint c.self.inside.history.items c.self.inside.steps
+          (is_served g.D.Disk.state c.self.inside.machine c.self.inside.opening c.self.inside.checkpoint c.self.inside.history.items c.self.inside.steps (ap (λ (v : ControlOnDisk _). v.up) c.self.view_is ∙ c.requires.up) c.self.invariant.holds)
+          c.args.freeze c.checkpoint-answer.result c.checkpoint-answer.ensures.forced c.checkpoint-answer.ensures.refused none answered;
     })
     c.steps_of-self-inside.ensures c.checkpoint-answer.ensures.goes c.checkpoint-answer.ensures.crash
     (subst (λ (e : Entry). c.note.new.history.items ≡ noted (is_noted (fault_in e)) c.self.inside.history.items e) c.checked_entry.ensures
@@ -79,8 +152,8 @@ returns-clause-refused g c = rw (sym c.self.view_is)
 
 pub returns-clause-room : goal.returns-clause-room
 returns-clause-room g c = rw (sym c.self.view_is)
-    (room_saved (seen c.self.inside.machine c.self.inside.opening c.self.inside.checkpoint c.self.inside.history.items (c.self.inside.history.cap - c.self.inside.history.len) c.self.inside.began)
-    (seen c.checkpoint-answer.new.self c.self.inside.opening c.self.inside.checkpoint c.note.new.history.items (c.note.new.history.cap - c.note.new.history.len) c.self.inside.began)
+    (room_saved (seen c.self.inside.machine c.self.inside.opening c.self.inside.checkpoint c.self.inside.history.items (c.self.inside.history.cap - c.self.inside.history.len - 1) c.self.inside.began)
+    (seen c.checkpoint-answer.new.self c.self.inside.opening c.self.inside.checkpoint c.note.new.history.items (c.note.new.history.cap - c.note.new.history.len - 1) c.self.inside.began)
     c.self.inside.history.items c.note.new.history.items c.self.inside.history.len c.note.new.history.len c.self.inside.history.cap c.note.new.history.cap
     refl refl c.self.inside.history.ok.0 c.note.new.history.ok.0 (omega (arith, c.reserve.ensures.capacity, c.note.ensures.capacity))
     (fault_in (Checked c.args.freeze c.checkpoint-answer.result)) (Checked c.args.freeze c.checkpoint-answer.result)
@@ -92,12 +165,15 @@ returns-clause-lasts g c =
     (called g.D.Disk.state c.self.inside.machine c.checkpoint-answer.new.self c.self.inside.opening c.self.inside.checkpoint c.self.inside.history.items c.note.new.history.items (Checked c.args.freeze c.checkpoint-answer.result) 0 _ c.self.inside.began c.self.inside.steps c.steps_of-self-inside.result
     (record {
       served = ap (λ (v : ControlOnDisk _). v.up) c.self.view_is ∙ c.requires.up;
-      holds = is_served g.D.Disk.state c.self.inside.machine c.self.inside.opening c.self.inside.checkpoint c.self.inside.history.items c.self.inside.steps (ap (λ (v : ControlOnDisk _). v.up) c.self.view_is ∙ c.requires.up) c.self.invariant;
+      holds = is_served g.D.Disk.state c.self.inside.machine c.self.inside.opening c.self.inside.checkpoint c.self.inside.history.items c.self.inside.steps (ap (λ (v : ControlOnDisk _). v.up) c.self.view_is ∙ c.requires.up) c.self.invariant.holds;
       call = tt;
       keeps = c.checkpoint-answer.ensures.keeps;
       lasts = c.checkpoint-answer.ensures.lasts;
       disk = g.met.D.Disk.is_disk c.checkpoint-answer.new.self.disk;
       numbers = λ served. taken_numbers c.args.freeze c.checkpoint-answer.result _ c.self.inside.machine.journal c.checkpoint-answer.new.self.journal _ c.checkpoint-answer.ensures.taken;
+      pends = λ none answered. pends_checked g.D.Disk.state c.self.inside.machine c.checkpoint-answer.new.self c.self.inside.opening c.self.inside.checkpoint c.self.inside.history.items c.self.inside.steps
+          (is_served g.D.Disk.state c.self.inside.machine c.self.inside.opening c.self.inside.checkpoint c.self.inside.history.items c.self.inside.steps (ap (λ (v : ControlOnDisk _). v.up) c.self.view_is ∙ c.requires.up) c.self.invariant.holds)
+          c.args.freeze c.checkpoint-answer.result c.checkpoint-answer.ensures.forced c.checkpoint-answer.ensures.refused none answered;
     })
     c.steps_of-self-inside.ensures c.checkpoint-answer.ensures.goes c.checkpoint-answer.ensures.crash
     (subst (λ (e : Entry). c.note.new.history.items ≡ noted (is_noted (fault_in e)) c.self.inside.history.items e) c.checked_entry.ensures
@@ -122,3 +198,23 @@ returns-clause-settled g c = rw (sym c.self.view_is) c.checkpoint-answer.ensures
 
 pub returns-clause-writes : goal.returns-clause-writes
 returns-clause-writes g c = rw (sym c.self.view_is) c.checkpoint-answer.ensures.writes
+
+pub returns-in-Some-clause-crash : goal.returns-in-Some-clause-crash
+returns-in-Some-clause-crash g c = rw (sym c.self.view_is)
+    (still g.D.Disk.state c.self.inside.machine c.self.inside.opening c.self.inside.checkpoint c.self.inside.history.items 0 0 c.self.inside.began c.self.inside.steps (ap (λ (v : ControlOnDisk _). v.up) c.self.view_is ∙ c.requires.up) c.self.invariant.holds c.spent.ensures.lasts (g.met.D.Disk.is_disk c.self.inside.machine.disk))
+
+pub returns-in-Some-clause-lasts : goal.returns-in-Some-clause-lasts
+returns-in-Some-clause-lasts g c = rw (sym c.self.view_is)
+    (lasts_now g.D.Disk.state c.self.inside.machine c.self.inside.opening c.self.inside.checkpoint c.self.inside.history.items _ c.self.inside.began c.self.inside.steps c.self.invariant.holds c.spent.ensures.lasts)
+
+pub returns-then-is_err-clause-crash : goal.returns-then-is_err-clause-crash
+returns-then-is_err-clause-crash g c = rw (sym c.self.view_is)
+    (still g.D.Disk.state c.self.inside.machine c.self.inside.opening c.self.inside.checkpoint c.self.inside.history.items 0 0 c.self.inside.began c.self.inside.steps (ap (λ (v : ControlOnDisk _). v.up) c.self.view_is ∙ c.requires.up) c.self.invariant.holds c.spent.ensures.lasts (g.met.D.Disk.is_disk c.self.inside.machine.disk))
+
+pub returns-then-is_err-clause-lasts : goal.returns-then-is_err-clause-lasts
+returns-then-is_err-clause-lasts g c =
+    lasts_now g.D.Disk.state c.self.inside.machine c.self.inside.opening c.self.inside.checkpoint c.reserve.new.self.items _ c.self.inside.began c.self.inside.steps
+    (subst (λ (es : List Entry). HoldsControl g.D.Disk.state c.self.inside.machine c.self.inside.opening c.self.inside.checkpoint es c.self.inside.steps) (sym c.reserve.ensures.items) c.self.invariant.holds) c.spent.ensures.lasts
+
+pub returns-then-is_err-clause-stays : goal.returns-then-is_err-clause-stays
+returns-then-is_err-clause-stays g c = rw (sym c.self.view_is) (stays_still g.D.Disk.state c.self.inside.machine c.self.inside.opening c.self.inside.checkpoint c.self.inside.history.items c.reserve.new.self.items (c.self.inside.history.cap - c.self.inside.history.len - 1) (c.reserve.new.self.cap - c.reserve.new.self.len - 1) c.self.inside.began)
