@@ -16,7 +16,7 @@ use Rattle.model_session.specs.Lines.{asked_of}
 use Rattle.model_session.specs.Text.{entry_text, bad_line_text, bad_command_text, stopped_text, broken_text, power_text, armed_text, up_text, down_text, opened_text, image_text}
 use Rattle.model_session.specs.QuietTurns.{IsQuieted, IsBrokenOff, quieted_text, region_behind_turns}
 use Rattle.model_session.specs.Lives.{LastLife, now_in, longer, ends_life, is_disk_fault, binds, IsForcedTo, IsAllForced, failed_force}
-use Rattle.model_session.specs.SessionState.{Setting, SessionState, Outage, Standing, Stop, no_life, unbegun, life_gone_on, called_on, powered_off, armed_with, broken, life_opened, failed, IsStateEmptied, IsKnown, MayBeFound, LastAnswered}
+use Rattle.model_session.specs.SessionState.{Setting, SessionState, DiskPast, told_one, Outage, Standing, Stop, no_life, unbegun, life_gone_on, called_on, powered_off, armed_with, broken, life_opened, failed, IsStateEmptied, IsKnown, MayBeFound, LastAnswered}
 use Rattle.model_session.specs.SessionState.Standing.{Up, Down}
 
 -- ---- while the system is up
@@ -48,7 +48,7 @@ pub record IsCallCutOff (system : System) (call : ControlCall) (old : SessionSta
   pub ends : new ≡ broken old life (entry ∷ []) forced stop
   pub printed : text ≡ broken_text
 
--- The call was answered by an entry whose text binds, and the disk failed in the force before that was printed.
+-- The call, other than a checkpoint, was answered by an entry whose text binds, and the disk failed in the force before that was printed.
 pub record IsForceCutOff (system : System) (call : ControlCall) (old : SessionState) (life : LastLife) (new : SessionState) (text : List ℕ) : Type 0 where
   pub entry : Entry
   pub forced : ℕ
@@ -56,7 +56,7 @@ pub record IsForceCutOff (system : System) (call : ControlCall) (old : SessionSt
   pub asked : call_of entry ≡ call
   pub may : May system (now_in system life) entry
   pub bound : binds entry ≡ true
-  pub goes_on : ends_life entry ≡ false
+  pub silent : (past : DiskPast) → told_one entry past ≡ past
   pub is_forced : IsForcedTo system (longer life (entry ∷ [])) false forced
   pub ends : new ≡ broken old life (entry ∷ failed_force ∷ []) forced stop
   pub printed : text ≡ broken_text

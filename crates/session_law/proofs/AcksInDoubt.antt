@@ -179,14 +179,12 @@ module _ (system : System) (terminal : List ℕ) (number : ℕ) (life next : Lif
 
 pub replies_shown : (system : System) (lives : List LifeState) → OpenedWith IsNumbered lives → AreLeft system lives → AreLegal system lives → AreBound system lives → ShowsReplies system lives
 replies_shown system lives begins linked legal bound = record {
-  again = λ before later life front rest terminal number reply split all goes_on has.
-      shown_on terminal reply system life later front rest number (linked_behind system before (life ∷ later) (subst (AreLeft system) split linked))
-      (bound_behind system before (life ∷ later) (subst (AreBound system) split bound)).0 all goes_on has;
-  never = λ before later life front rest terminal number split all goes_on.
+  again = λ before later life front rest terminal number reply split all few has.
+      shown_on terminal reply system life later front rest number (linked_behind system before (life ∷ later) (subst (AreLeft system) split linked)) all few has;
+  never = λ before later life front rest terminal number split all few.
       gone_for_good terminal system number life later front rest
       (linked_behind system before (life ∷ later) (subst (AreLeft system) split linked)) (legal_behind system before (life ∷ later) (subst (AreLegal system) split legal))
-      (bound_behind system before (life ∷ later) (subst (AreBound system) split bound)).0
-      (numbered_behind terminal system before (life ∷ later) (subst (OpenedWith (AreFrom terminal 0)) split (begins_from terminal lives begins)) (subst (AreLeft system) split linked)) all goes_on;
+      (numbered_behind terminal system before (life ∷ later) (subst (OpenedWith (AreFrom terminal 0)) split (begins_from terminal lives begins)) (subst (AreLeft system) split linked)) all few;
   in_doubt = λ before later life next terminal number split doubt.
       ack_settled system terminal number life next later
       (linked_behind system before (life ∷ next ∷ later) (subst (AreLeft system) split linked)) (legal_behind system before (life ∷ next ∷ later) (subst (AreLegal system) split legal))

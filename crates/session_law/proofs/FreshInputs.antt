@@ -352,10 +352,9 @@ module _ (system : System) (terminal : List ℕ) (number : ℕ) (life next : Lif
 
 pub inputs_known : (system : System) (lives : List LifeState) → AreLeft system lives → AreLegal system lives → AreBound system lives → KnowsInputs system lives
 inputs_known system lives linked legal bound = record {
-  answered = λ before later life front rest terminal number id segments split all goes_on.
+  answered = λ before later life front rest terminal number id segments split all few.
       answered_known system terminal number id segments life later front rest
-      (linked_behind system before (life ∷ later) (subst (AreLeft system) split linked)) (legal_behind system before (life ∷ later) (subst (AreLegal system) split legal))
-      (bound_behind system before (life ∷ later) (subst (AreBound system) split bound)) all goes_on;
+      (linked_behind system before (life ∷ later) (subst (AreLeft system) split linked)) (legal_behind system before (life ∷ later) (subst (AreLegal system) split legal)) all few;
   in_doubt = λ before later life next terminal number split doubt.
       doubt_settled system terminal number life next later
       (linked_behind system before (life ∷ next ∷ later) (subst (AreLeft system) split linked)) (legal_behind system before (life ∷ next ∷ later) (subst (AreLegal system) split legal))

@@ -113,11 +113,12 @@ bound_to system life front rest entry bound split binding goes_on = by (bound fr
   by (inl same) = absurd (goes_on same)
   by (inr few) = few_steps (life_moment system (alone life) (front ++ entry ∷ [])).lasting.steps life.opening.steps life.forced few
 
--- So what holds behind such an entry, and what those behind it keep, whatever the life leaves has.
-pub bound_leaves : (P : LastingState → Type 0) (system : System) (life : LifeState) (front rest : List Entry) (entry : Entry) → IsLifeBound system life → life.history ≡ front ++ entry ∷ rest → binds entry ≡ true → rest ≢ failed_force ∷ []
-    → AllKeep P system rest → P (after_entry system (life_moment system (alone life) front) entry).lasting → Leaving P system (alone life)
-bound_leaves P system life front rest entry bound split binding goes_on keep has =
-    leaves_behind P system (alone life) (front ++ entry ∷ []) rest (split ∙ sym (append_assoc front (entry ∷ []) rest)) (bound_to system life front rest entry bound split binding goes_on) keep
+-- What holds behind an entry up to which all steps are forced, and what those behind it keep, whatever the life leaves has.
+pub forced_leaves : (P : LastingState → Type 0) (system : System) (life : LifeState) (front rest : List Entry) (entry : Entry) → life.history ≡ front ++ entry ∷ rest
+    → steps_of system life (front ++ entry ∷ []) ≤ life.forced → AllKeep P system rest → P (after_entry system (life_moment system (alone life) front) entry).lasting → Leaving P system (alone life)
+forced_leaves P system life front rest entry split few keep has =
+    leaves_behind P system (alone life) (front ++ entry ∷ []) rest (split ∙ sym (append_assoc front (entry ∷ []) rest))
+    (few_steps (life_moment system (alone life) (front ++ entry ∷ [])).lasting.steps life.opening.steps life.forced few) keep
     (subst (λ (m : Moment). P m.lasting) (sym (moment_after-append system (start_of system life.opening) front entry)) has)
 
 -- ---- a life that ended in doubt

@@ -1,5 +1,5 @@
 -- The numbers of the replies that a terminal is shown never fall.
-use Rattle.std.proofs.Common.{◌≡◌, ◌≢◌, ℕ, ◌+◌, ◌<◌, ◌≤◌, Bool, true, false, List, [], ◌∷◌, ◌++◌, Option, Some, None, refl, sym, ap, ◌∙◌, subst, cond, arith}
+use Rattle.std.proofs.Common.{◌≡◌, ℕ, ◌+◌, ◌<◌, ◌≤◌, Bool, true, false, List, [], ◌∷◌, ◌++◌, Option, Some, None, refl, sym, ap, ◌∙◌, subst, cond, arith}
 use Rattle.std.specs.Prelude.{Result, Ok, Err, ◌==◌, ◌&&◌, if◌then◌else◌, slice_get, nat_lt, drop}
 use Rattle.std.specs.Option.{is_some, option_map_or}
 use Rattle.std.specs.Str.{bytes_eq}
@@ -30,13 +30,13 @@ use Rattle.model_machine.specs.LastingSteps.LastingStep.{Accepts, Acknowledges, 
 use Rattle.model_machine.specs.MachineCalls.{acknowledged_step, ack_by, ack_answer, show_to, show_by, show_answer, lasting_step}
 use Rattle.model_machine.specs.History.{May, AreSteps, IsEnd, call_of, after_entry, history_ended_by, is_fault, moment_after}
 use Rattle.model_machine.proofs.Histories.{moment_after-append}
-use Rattle.model_session.specs.Lives.{LifeState, AreLegal, life_moment, failed_force}
+use Rattle.model_session.specs.Lives.{LifeState, AreLegal, life_moment}
 use Rattle.session_law.specs.ResentInputs.{IsKeptBy, any_call}
-use Rattle.session_law.specs.SentAgain.{alone, AreLeft, IsLifeBound}
+use Rattle.session_law.specs.SentAgain.{alone, steps_of, AreLeft}
 use Rattle.session_law.specs.ShownAgain.{ShowsHigher, AllShowHigher, LivesShowHigher}
 use Rattle.session_law.proofs.Steps.{FineBy, applied_by}
 use Rattle.session_law.proofs.Sessions.{AllKeep, Leaving, of_kind, opened_leaves}
-use Rattle.session_law.proofs.LifeEnds.{head_is, tail_is, none_there, ended_more, all_any, bound_leaves, OpenedWith, opened_behind}
+use Rattle.session_law.proofs.LifeEnds.{head_is, tail_is, none_there, ended_more, all_any, forced_leaves, OpenedWith, opened_behind}
 
 apart : true ≡ false → ⊥
 apart e = cc
@@ -362,13 +362,13 @@ module _ (terminal : List ℕ) where
           higher = there.higher;
         }
 
-    pub gone_for_good : (life : LifeState) (later : List LifeState) (front rest : List Entry) → AreLeft system (life ∷ later) → AreLegal system (life ∷ later) → IsLifeBound system life → AreFrom 0 life.opening
-        → life.history ≡ front ++ removal ∷ rest → rest ≢ failed_force ∷ [] → AllShowHigher terminal number rest × LivesShowHigher terminal number later
-    gone_for_good life later front rest linked legal bound h split goes_on =
+    pub gone_for_good : (life : LifeState) (later : List LifeState) (front rest : List Entry) → AreLeft system (life ∷ later) → AreLegal system (life ∷ later) → AreFrom 0 life.opening
+        → life.history ≡ front ++ removal ∷ rest → steps_of system life (front ++ removal ∷ []) ≤ life.forced → AllShowHigher terminal number rest × LivesShowHigher terminal number later
+    gone_for_good life later front rest linked legal h split few =
         let is = legal.0.legal in
         let there : IsGone (start_of system life.opening) front rest = gone is.steps is.last (start_of system life.opening) front rest is.legal is.end h (sym is.all ∙ split) in
         let from : AreFrom (number + 1) (after_entry system (life_moment system (alone life) front) removal).lasting =
         subst (λ (m : Moment). AreFrom (number + 1) m.lasting) (moment_after-append system (start_of system life.opening) front removal) there.from in
         let left : Leaving (AreFrom (number + 1)) system (alone life) =
-        bound_leaves (AreFrom (number + 1)) system life front rest removal bound split refl goes_on (all_from system (number + 1) rest) from in
+        forced_leaves (AreFrom (number + 1)) system life front rest removal split few (all_from system (number + 1) rest) from in
         (there.higher, lives_higher system number later (opened_behind system (AreFrom (number + 1)) life later left linked.0) linked.1 legal.1)

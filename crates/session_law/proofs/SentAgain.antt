@@ -1,5 +1,5 @@
 -- An input that is sent again is answered by what was kept.
-use Rattle.std.proofs.Common.{◌≡◌, ◌≢◌, ℕ, ◌+◌, ◌<◌, ◌≤◌, Bool, true, false, List, [], ◌∷◌, ◌++◌, refl, sym, ap, ◌∙◌, subst, arith, nat_lt}
+use Rattle.std.proofs.Common.{◌≡◌, ℕ, ◌+◌, ◌<◌, ◌≤◌, Bool, true, false, List, [], ◌∷◌, ◌++◌, refl, sym, ap, ◌∙◌, subst, arith, nat_lt}
 use Rattle.std.specs.Prelude.{Option, Some, None, Result, Ok, Err, nat_le, if◌then◌else◌}
 use Rattle.std.specs.Option.{option_map_or, option_or, unwrap_or}
 use Rattle.std.specs.Str.{bytes_eq}
@@ -17,11 +17,11 @@ use Rattle.model_machine.specs.Machine.{Moment, start_of, terminal_at}
 use Rattle.model_machine.specs.MachineCalls.{Refusal, by_number, input_answer}
 use Rattle.model_machine.specs.History.{May, AreSteps, IsEnd, after_entry, history_ended_by, is_fault, moment_after}
 use Rattle.model_machine.proofs.Histories.{moment_after-append}
-use Rattle.model_session.specs.Lives.{LifeState, AreLegal, life_moment, failed_force}
+use Rattle.model_session.specs.Lives.{LifeState, AreLegal, life_moment}
 use Rattle.session_law.specs.ResentInputs.{last_number_of, any_call}
-use Rattle.session_law.specs.SentAgain.{alone, AreLeft, AreBound, IsInputKnown, KnowsInput, AllKnow, LivesKnow}
+use Rattle.session_law.specs.SentAgain.{alone, steps_of, AreLeft, IsInputKnown, KnowsInput, AllKnow, LivesKnow}
 use Rattle.session_law.proofs.Sessions.{Leaving, of_kind, opened_leaves}
-use Rattle.session_law.proofs.LifeEnds.{head_is, tail_is, none_there, apart, ended_more, all_any, bound_leaves, OpenedWith, opened_behind}
+use Rattle.session_law.proofs.LifeEnds.{head_is, tail_is, none_there, apart, ended_more, all_any, forced_leaves, OpenedWith, opened_behind}
 use Rattle.session_law.proofs.Inputs.{Reached, answer_by, later_refusals, next_by, there_by, numbers_kept, taken}
 
 -- ---- answers to inputs
@@ -167,14 +167,14 @@ module _ (system : System) (terminal : List ℕ) (number : ℕ) where
           know = there.know;
         }
 
-    pub answered_known : (life : LifeState) (later : List LifeState) (front rest : List Entry) → AreLeft system (life ∷ later) → AreLegal system (life ∷ later) → AreBound system (life ∷ later)
-        → life.history ≡ front ++ taken_entry ∷ rest → rest ≢ failed_force ∷ [] → AllKnow terminal number rest × LivesKnow terminal number later
-    answered_known life later front rest linked legal bound split goes_on =
+    pub answered_known : (life : LifeState) (later : List LifeState) (front rest : List Entry) → AreLeft system (life ∷ later) → AreLegal system (life ∷ later)
+        → life.history ≡ front ++ taken_entry ∷ rest → steps_of system life (front ++ taken_entry ∷ []) ≤ life.forced → AllKnow terminal number rest × LivesKnow terminal number later
+    answered_known life later front rest linked legal split few =
         let is = legal.0.legal in
         let there : IsPlaced (start_of system life.opening) front rest = placed is.steps is.last (start_of system life.opening) front rest is.legal is.end (sym is.all ∙ split) in
         let low : Reached terminal number (after_entry system (life_moment system (alone life) front) taken_entry).lasting =
         subst (λ (m : Moment). Reached terminal number m.lasting) (moment_after-append system (start_of system life.opening) front taken_entry) there.reached in
         let left : Leaving (Reached terminal number) system (alone life) =
-        bound_leaves (Reached terminal number) system life front rest taken_entry bound.0 split refl goes_on
+        forced_leaves (Reached terminal number) system life front rest taken_entry split few
         (of_kind (Reached terminal number) system any_call (numbers_kept terminal number system) rest (all_any rest)) low in
         (there.know, lives_know later there.some (opened_behind system (Reached terminal number) life later left linked.0) linked.1 legal.1)

@@ -1,5 +1,5 @@
 -- A reply is shown again until it is taken away, whatever stops and restarts lie between.
-use Rattle.std.proofs.Common.{◌≡◌, ◌≢◌, ℕ, Bool, true, false, not, ◌&&◌, List, [], ◌∷◌, ◌++◌, Option, Some, None, refl, sym, ap, ◌∙◌, subst}
+use Rattle.std.proofs.Common.{◌≡◌, ◌≤◌, ℕ, Bool, true, false, not, ◌&&◌, List, [], ◌∷◌, ◌++◌, Option, Some, None, refl, sym, ap, ◌∙◌, subst}
 use Rattle.std.specs.Prelude.{Result, Ok, Err, ◌==◌, if◌then◌else◌, slice_get, nat_lt}
 use Rattle.std.specs.Option.{is_some, option_and_then, option_map_or}
 use Rattle.std.specs.Str.{bytes_eq}
@@ -23,13 +23,13 @@ use Rattle.model_machine.specs.Machine.{LastingState, Moment, start_of, output_a
 use Rattle.model_machine.specs.LastingSteps.{applied}
 use Rattle.model_machine.specs.MachineCalls.{acknowledged_step, ack_by, ack_answer}
 use Rattle.model_machine.specs.History.{call_of, after_entry}
-use Rattle.model_session.specs.Lives.{LifeState, life_moment, failed_force}
+use Rattle.model_session.specs.Lives.{LifeState, life_moment}
 use Rattle.session_law.specs.ResentInputs.{spares, IsKeptBy}
-use Rattle.session_law.specs.SentAgain.{alone, AreLeft, IsLifeBound}
+use Rattle.session_law.specs.SentAgain.{alone, steps_of, AreLeft}
 use Rattle.session_law.specs.ShownAgain.{takes_reply, takes_none, WaitsOn, LivesWaitOn}
 use Rattle.session_law.proofs.Sessions.{AllKeep, of_kind, opened_leaves}
 use Rattle.session_law.proofs.Replies.{Waits, replies_kept}
-use Rattle.session_law.proofs.LifeEnds.{bound_leaves, OpenedWith, opened_behind}
+use Rattle.session_law.proofs.LifeEnds.{forced_leaves, OpenedWith, opened_behind}
 
 apart : true ≡ false → ⊥
 apart e = cc
@@ -123,16 +123,16 @@ module _ (terminal : List ℕ) (reply : Reply) where
         linked.1,
   )
 
-  pub shown_on : (system : System) (life : LifeState) (later : List LifeState) (front rest : List Entry) (number : ℕ) → AreLeft system (life ∷ later) → IsLifeBound system life
-      → life.history ≡ front ++ Show terminal (ShowReply number) ∷ rest → rest ≢ failed_force ∷ [] → Waits terminal reply (life_moment system (alone life) front).lasting
+  pub shown_on : (system : System) (life : LifeState) (later : List LifeState) (front rest : List Entry) (number : ℕ) → AreLeft system (life ∷ later)
+      → life.history ≡ front ++ Show terminal (ShowReply number) ∷ rest → steps_of system life (front ++ Show terminal (ShowReply number) ∷ []) ≤ life.forced → Waits terminal reply (life_moment system (alone life) front).lasting
       → WaitsOn system terminal reply (life_moment system (alone life) front) (Show terminal (ShowReply number) ∷ rest)
       × (takes_none terminal reply.number rest ≡ true → LivesWaitOn system terminal reply later)
-  shown_on system life later front rest number linked bound split goes_on has =
+  shown_on system life later front rest number linked split few has =
       let entry : Entry = Show terminal (ShowReply number) in
       let behind : Waits terminal reply (after_entry system (life_moment system (alone life) front) entry).lasting = kept_until system (life_moment system (alone life) front) entry refl has in (
         waits_on system (life_moment system (alone life) front) (entry ∷ rest) has,
         λ none. lives_wait system later
             (opened_behind system (Waits terminal reply) life later
-            (bound_leaves (Waits terminal reply) system life front rest entry bound split refl goes_on (keep_all system rest none) behind) linked.0)
+            (forced_leaves (Waits terminal reply) system life front rest entry split few (keep_all system rest none) behind) linked.0)
             linked.1,
       )

@@ -1,5 +1,5 @@
 -- What is sent again, over the lives of a session: inputs.
-use Rattle.std.specs.Prelude.{◌≡◌, ◌⊎◌, ℕ, ◌-◌, ◌<◌, ◌≤◌, ◌==◌, ◌≢◌, Bool, true, false, ◌&&◌, List, [], ◌∷◌, ◌++◌, Result, Ok, Err}
+use Rattle.std.specs.Prelude.{◌≡◌, ◌⊎◌, ℕ, ◌-◌, ◌<◌, ◌≤◌, ◌==◌, Bool, true, false, ◌&&◌, List, [], ◌∷◌, ◌++◌, Result, Ok, Err}
 use Rattle.std.specs.List.{AllByRecursion}
 use Rattle.std.specs.Str.{bytes_eq}
 use Rattle.model_system.specs.System.{System}
@@ -56,7 +56,8 @@ IsLifeBound system life =
 abbrev pub AreBound : System → List LifeState → Type 0
 AreBound system lives = AllByRecursion (IsLifeBound system) lives
 
--- The disk failed in the call of this entry, or in the force behind it, which ended the life.
+-- The disk failed in the call of this entry, or in the force behind it, which ended the life. A checkpoint that fails behind an entry
+-- leaves the same.
 abbrev pub IsDoubted : Entry → List Entry → Type 0
 IsDoubted entry after = ((is_fault entry ≡ true) × (after ≡ [])) ⊎ (after ≡ failed_force ∷ [])
 
@@ -131,13 +132,14 @@ SettlesDoubt system life later terminal number before =
     ⊎ ((life.kept ≤ steps_of system life before) × FreshUntilTaken terminal number (entries_of_lives later))
 
 -- Behind any stops and restarts an input under a number is answered as accepted before exactly where its step was kept, and is
--- taken as new exactly where it was not: one that was printed as new is known from then on, in its life and in all behind it;
--- and one in whose call, or in the force behind it, the disk failed is known then where its step counts as kept, and else fresh until it
--- is taken.
+-- taken as new exactly where it was not: one whose step was forced, as it is of each that was printed as new, is known from then on, in
+-- its life and in all behind it; and one in whose call, or in the force behind it, the disk failed is known then where its step counts as
+-- kept, and else fresh until it is taken.
 pub record KnowsInputs (system : System) (lives : List LifeState) : Type 0 where
   pub answered :
       (before later : List LifeState) (life : LifeState) (front rest : List Entry) (terminal : List ℕ) (number id : ℕ) (segments : List (List ℕ))
-      → lives ≡ before ++ life ∷ later → life.history ≡ front ++ Accept terminal number segments (Ok (New id)) ∷ rest → rest ≢ failed_force ∷ []
+      → lives ≡ before ++ life ∷ later → life.history ≡ front ++ Accept terminal number segments (Ok (New id)) ∷ rest
+      → steps_of system life (front ++ Accept terminal number segments (Ok (New id)) ∷ []) ≤ life.forced
       → AllKnow terminal number rest × LivesKnow terminal number later
   pub in_doubt :
       (before later : List LifeState) (life next : LifeState) (terminal : List ℕ) (number : ℕ)

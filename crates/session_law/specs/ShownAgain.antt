@@ -1,5 +1,5 @@
 -- What is sent again, over the lives of a session: replies.
-use Rattle.std.specs.Prelude.{◌≡◌, ◌⊎◌, ◌≢◌, ℕ, ◌<◌, ◌≤◌, ◌==◌, Bool, true, false, not, ◌&&◌, List, [], ◌∷◌, ◌++◌, Some, Result, Ok}
+use Rattle.std.specs.Prelude.{◌≡◌, ◌⊎◌, ℕ, ◌<◌, ◌≤◌, ◌==◌, Bool, true, false, not, ◌&&◌, List, [], ◌∷◌, ◌++◌, Some, Result, Ok}
 use Rattle.std.specs.List.{list_all, AllByRecursion}
 use Rattle.std.specs.Str.{bytes_eq}
 use Rattle.tm_types.specs.declared.message.Reply.{Reply}
@@ -16,7 +16,7 @@ use Rattle.model_machine.specs.declared.entry.ShowAnswer.TheVariants.{Reply as S
 use Rattle.model_machine.specs.Machine.{Moment, start_of}
 use Rattle.model_machine.specs.MachineCalls.{ack_answer}
 use Rattle.model_machine.specs.History.{call_of, after_entry}
-use Rattle.model_session.specs.Lives.{LifeState, life_moment, failed_force}
+use Rattle.model_session.specs.Lives.{LifeState, life_moment}
 use Rattle.session_law.specs.ResentInputs.{shown_reply}
 use Rattle.session_law.specs.SentAgain.{alone, steps_of, IsDoubted}
 
@@ -84,19 +84,22 @@ SettlesAck system life later terminal number before =
     ⊎ ((life.kept ≤ steps_of system life before)
     × (WasShown terminal number before ⊎ (life.kept ≡ steps_of system life before) → IsShownOn system terminal number (life_moment system (alone life) before) later))
 
--- Behind any stops and restarts a reply that a terminal was shown is what it is shown again, until it is acknowledged or dequeued. Once
--- that was printed as acknowledged it is never shown again; and one in the call of whose acknowledgement, or in the force behind it, the
--- disk failed is never shown again where that one's step counts as kept, and else is what the terminal is shown on.
+-- Behind any stops and restarts a reply that a terminal was shown is what it is shown again, until it is acknowledged or dequeued, where
+-- all steps before were forced, as they are of each that was printed. Once the step of its acknowledgement was forced, as it is of each
+-- that was printed, it is never shown again; and one in the call of whose acknowledgement, or in the force behind it, the disk failed is
+-- never shown again where that one's step counts as kept, and else is what the terminal is shown on.
 pub record ShowsReplies (system : System) (lives : List LifeState) : Type 0 where
   pub again :
       (before later : List LifeState) (life : LifeState) (front rest : List Entry) (terminal : List ℕ) (number : ℕ) (reply : Reply)
-      → lives ≡ before ++ life ∷ later → life.history ≡ front ++ Show terminal (ShowReply number) ∷ rest → rest ≢ failed_force ∷ []
+      → lives ≡ before ++ life ∷ later → life.history ≡ front ++ Show terminal (ShowReply number) ∷ rest
+      → steps_of system life (front ++ Show terminal (ShowReply number) ∷ []) ≤ life.forced
       → shown_reply terminal (life_moment system (alone life) front).lasting ≡ Some reply
       → WaitsOn system terminal reply (life_moment system (alone life) front) (Show terminal (ShowReply number) ∷ rest)
       × (takes_none terminal reply.number rest ≡ true → LivesWaitOn system terminal reply later)
   pub never :
       (before later : List LifeState) (life : LifeState) (front rest : List Entry) (terminal : List ℕ) (number : ℕ)
-      → lives ≡ before ++ life ∷ later → life.history ≡ front ++ AckedEntry terminal number (Ok Removed) ∷ rest → rest ≢ failed_force ∷ []
+      → lives ≡ before ++ life ∷ later → life.history ≡ front ++ AckedEntry terminal number (Ok Removed) ∷ rest
+      → steps_of system life (front ++ AckedEntry terminal number (Ok Removed) ∷ []) ≤ life.forced
       → AllShowHigher terminal number rest × LivesShowHigher terminal number later
   pub in_doubt :
       (before later : List LifeState) (life next : LifeState) (terminal : List ℕ) (number : ℕ)

@@ -139,7 +139,6 @@ module _ {D : Type 0} (state : D → DiskState) where
       asked = refl;
       may = answered.adds.may;
       bound = binding;
-      goes_on = on;
       silent = silent;
       history = fails.broke.history ∙ ap (λ (es : List Entry). es ++ failed_force ∷ []) answered.adds.history ∙ append_assoc old.control.history (entry ∷ []) (failed_force ∷ []);
       forced = bound_least old new (omega (arith, least, fails.forced));

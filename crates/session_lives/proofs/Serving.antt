@@ -63,6 +63,17 @@ told_picked (TurnEntry region answer) events before after is = ap (past_with eve
 told_picked (Commanded command answer) events before after is = ap (past_with events) is
 told_picked (IsQuiet quiet) events before after is = ap (past_with events) is
 
+-- an entry with no checkpoint's number tells nothing
+silent_one : (entry : Entry) → numbers_in (entry ∷ []) ≡ [] → (past : DiskPast) → told_one entry past ≡ past
+silent_one (Checked freeze (Ok number)) none past = let clash : number ∷ [] ≡ [] = none in absurd (cc)
+silent_one (Checked freeze (Err refused)) none past = refl
+silent_one (Accept terminal number segments answer) none past = refl
+silent_one (Show terminal answer) none past = refl
+silent_one (Acked terminal number answer) none past = refl
+silent_one (TurnEntry region answer) none past = refl
+silent_one (Commanded command answer) none past = refl
+silent_one (IsQuiet quiet) none past = refl
+
 -- it is up still
 module _ {D : Type 0} (state : D → DiskState) (a b : ControlOnDisk D) where
   up_undone : (asked : Asked) → Undoes state asked a b → b.up ≡ true
@@ -483,7 +494,7 @@ module _ {D : Type 0} (state : D → DiskState) (system : System) (source : List
     asked = failed.asked;
     may = may_in failed.entry failed.may;
     bound = failed.bound;
-    goes_on = failed.goes_on;
+    silent = silent_one failed.entry failed.silent;
     is_forced = forced_before (failed.entry ∷ []) failed_force failed.down failed.history failed.forced;
     ends = ends_with (failed.entry ∷ failed_force ∷ []) failed.history over;
     printed = refl;

@@ -85,7 +85,8 @@ abbrev pub BindsBy : {D : Type 0} → (D → DiskState) → Bool → Called → 
 BindsBy state true called after old new = IsBoundSo state after old new
 BindsBy state false called after old new = (after ≡ called) × (new ≡ old)
 
--- A call was answered by an entry, whose text is to be printed, once all is forced where it binds. Where it tells of a checkpoint, the disk shows that number.
+-- A call was answered by an entry, whose text is to be printed; where that binds, all is forced before. Where it tells of a checkpoint,
+-- the disk shows that number.
 pub record IsAnswerTold {D : Type 0} (state : D → DiskState) (call : ControlCall) (old new : ControlOnDisk D) (text : List ℕ) : Type 0 where
   pub entry : Entry
   pub asked : call_of entry ≡ call
@@ -120,7 +121,6 @@ pub record FailsForcing {D : Type 0} (state : D → DiskState) (call : ControlCa
   pub asked : call_of entry ≡ call
   pub may : May old.control.system (control_moment old.control) entry
   pub bound : binds entry ≡ true
-  pub goes_on : ends_life entry ≡ false
   pub silent : numbers_in (entry ∷ []) ≡ []
   pub history : new.control.history ≡ old.control.history ++ entry ∷ failed_force ∷ []
   pub forced : IsBound false old new

@@ -216,9 +216,10 @@ IsReadyAt state Moved kept = ⊥
 abbrev pub IsSessionReady : {D : Type 0} → (D → DiskState) → Session D → Type 0
 IsSessionReady state session = IsReadyAt state session.place session.kept
 
--- The system is up. The stops lie behind one another, and before its life, in which the disk hasn't failed. No image counts further than up to where the disk counts
--- that was handed in, and 4,096 more for each opening, entry and stop; and it itself stays below that by as much as a force may add. Just these events happened at the disk since it was handed in, and
--- they tell of the checkpoints that the lives tell of.
+-- The system is up. The stops lie behind one another, and before its life, in which the disk hasn't failed. No image counts further than
+-- up to where the disk counts that was handed in, and 4,096 more for each opening, entry and stop; and it itself stays below that by as
+-- much as a force may add. Just these events happened at the disk since it was handed in, and they tell of the checkpoints that the lives
+-- tell of.
 pub record IsUpSound {D : Type 0} (state : D → DiskState) (system : System) (source : List ℕ) (handed : D) (events : List DiskEvent) (control : ControlOnDisk D) (kept : Kept) : Type 0 where
   pub handed_alone : Only (state handed).shown (state handed)
   pub system_is : control.control.system ≡ system
@@ -263,9 +264,9 @@ pub record IsRight {D : Type 0} (state : D → DiskState) (system : System) (sou
 abbrev pub IsOfText : {D : Type 0} → (D → DiskState) → System → List ℕ → D → Standing → Image → Type 0
 IsOfText state system source handed standing image = IsRight state system source handed standing image ⊎ IsHanded state handed standing image
 
--- The system is down, and the disk holds what the outage allows, with a checkpoint of no lower number than is known. Once a life has begun it has sectors enough. It counts no further
--- than up to where it counted when it was handed in, and 4,096 more for each opening, entry and stop. Just these events happened at it since, and they
--- tell of the checkpoints that the lives tell of.
+-- The system is down, and the disk holds what the outage allows, with a checkpoint of no lower number than is known. Once a life has begun
+-- it has sectors enough. It counts no further than up to where it counted when it was handed in, and 4,096 more for each opening, entry and
+-- stop. Just these events happened at it since, and they tell of the checkpoints that the lives tell of.
 pub record IsDownSound {D : Type 0} (state : D → DiskState) (system : System) (source : List ℕ) (handed : D) (events : List DiskEvent) (idle : Idle D) (kept : Kept) : Type 0 where
   pub handed_alone : Only (state handed).shown (state handed)
   pub system_is : idle.system ≡ system

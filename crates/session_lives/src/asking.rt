@@ -2,7 +2,7 @@
 ghost use Rattle.std.specs.Prelude.{◌≡◌, ℕ, List, ◌<◌, ◌≤◌, ◌++◌, [], true, length, IfOk, OnOk};
 ghost use Rattle.model_machine.specs.Machine.{IsRegion};
 ghost use Rattle.model_machine.specs.MachineCalls.{show_answer};
-ghost use Rattle.model_machine.specs.declared.entry.Entry.TheVariants.{Accept, Acked as AckedEntry, Turn as TurnEntry, Commanded, Checked};
+ghost use Rattle.model_machine.specs.declared.entry.Entry.TheVariants.{Accept, Acked as AckedEntry, Commanded, Checked};
 ghost use Rattle.openings.specs.Faults.{fault_in};
 ghost use Rattle.model_machine.specs.History.{control_moment};
 ghost use Rattle.model_system.specs.SystemFormats.{format_of};
