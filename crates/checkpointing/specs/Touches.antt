@@ -31,7 +31,7 @@ changes_of_units stores (u ∷ units) = touch_records u.number stores u.work.now
 abbrev pub HasFewSectors : Stored → Type 0
 HasFewSectors s = s.dbd.sectors ≤ 8
 
--- the database is there, and the record that stood in the slot has at most 8 sectors
+-- the database is there, and the record that stood in the slot is spelled in at most 32,000 bytes
 pub record IsSpelled (stores : List Stored) (c : Change) : Type 0 where
   pub least : 1 ≤ c.db
   pub most : c.db ≤ length stores

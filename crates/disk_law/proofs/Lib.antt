@@ -18,3 +18,6 @@ pub mod Counting
 pub mod Told
 pub mod Snapshots
 pub mod Touched
+pub mod SlotWriting
+pub mod SlotsOnDisk
+pub mod OneSlotWritten

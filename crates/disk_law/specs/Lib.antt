@@ -11,3 +11,4 @@ pub mod LifeCheckpoint
 pub mod OpenedLife
 pub mod UnitCounts
 pub mod KeptUnits
+pub mod SlotWrites

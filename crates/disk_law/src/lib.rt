@@ -17,6 +17,11 @@
 //!   opening leaves is an image of a life without open units (proofs/Opened). Where the records of its log and those that
 //!   wait are of units below the next one, and its own counters stand up to a bound, an image counts up to it and the
 //!   sectors of the log's area, also within a force or a checkpoint (specs/UnitCounts, proofs/Counting).
+//! - `specs/SlotWrites` (`ArePiecesOfSlots`): slots that count as changed are written behind a force, while the log and the
+//!   snapshot stay. A record names each, so at any moment, also where a slot is torn, an image keeps all of the life and
+//!   recovers to the same; once they are written, it has all of the life of which they don't count as changed
+//!   (proofs/SlotWriting, SlotsOnDisk). So it is of any choice of the changed slots of stores, and of one alone, behind
+//!   which the life has the stores of which that one isn't changed (`slot_written_life`; proofs/OneSlotWritten).
 //! - `specs/KeptUnits` (`KeepTouches`): what open units keep of their slots is what its snapshot tells, but for slots
 //!   that stand as they are committed (proofs/Told, Snapshots); these are changes that a snapshot may tell of, and
 //!   there is room for them (proofs/Touched).

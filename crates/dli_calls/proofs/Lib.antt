@@ -1,3 +1,4 @@
+pub mod Along
 pub mod Edits
 pub mod Asking
 pub mod NewRows
@@ -5,6 +6,8 @@ pub mod Setting
 pub mod Standing
 pub mod Removing
 pub mod Naming
+pub mod OwnChanges
+pub mod OwnRecord
 pub mod Keys
 pub mod Walk
 pub mod Front

@@ -191,3 +191,7 @@ goes needs pushed rest later whole need is all next =
 pub ok_both : {T E : Type 0} (r : Result T E) (P Q R : T → Type 0) → ((x : T) → P x → Q x → R x) → IfOk r P → IfOk r Q → IfOk r R
 ok_both (Ok x) P Q R f p q = f x p q
 ok_both (Err e) P Q R f p q = tt
+
+pub ok_three : {T E : Type 0} (r : Result T E) (P Q R S : T → Type 0) → ((x : T) → P x → Q x → R x → S x) → IfOk r P → IfOk r Q → IfOk r R → IfOk r S
+ok_three (Ok x) P Q R S f p q s = f x p q s
+ok_three (Err e) P Q R S f p q s = tt

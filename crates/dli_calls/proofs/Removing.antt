@@ -15,7 +15,7 @@ use Rattle.dli_calls.specs.declared.planned.Planned.{Planned}
 use Rattle.dli_calls.specs.CallPlan.{IsThere}
 use Rattle.row_search.proofs.Places.{there_in_record}
 
-some_in : {A : Type 0} (front : List A) (x : A) (back : List A) → front ++ x ∷ back ≢ []
+pub some_in : {A : Type 0} (front : List A) (x : A) (back : List A) → front ++ x ∷ back ≢ []
 some_in [] x back = λ e. absurd (cc)
 some_in (y ∷ front) x back = λ e. absurd (cc)
 

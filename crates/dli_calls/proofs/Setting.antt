@@ -1,6 +1,6 @@
 -- A change of the rows by a change of one record, and what a plan of it says.
 use Rattle.std.proofs.Common.{◌≡◌, ℕ, List, refl, sym, ◌∙◌, ap, subst, Bool, true, false, cond, Option, None, Some}
-use Rattle.std.specs.Prelude.{Result, Ok, Err, IfOk}
+use Rattle.std.specs.Prelude.{Result, Ok, Err, IfOk, IfSome}
 use Rattle.std.specs.Option.{option_map, option_map_or}
 use Rattle.tm_types.specs.declared.dbd.Dbd.{Dbd}
 use Rattle.tm_types.specs.declared.status.Status.TheVariants.{Blank}
@@ -14,9 +14,9 @@ use Rattle.model_data.specs.Path.{root_of}
 use Rattle.model_data.specs.declared.call.DbCall.{DbCall}
 use Rattle.model_data.specs.ChangeCalls.{passed_limit, insert_fault, insert_path, insert_row, with_row}
 use Rattle.model_data.specs.DatabaseCalls.{DliResult, answered_unchanged, unheld, changed_to, insert}
-use Rattle.seg_rows.specs.declared.rows.StoreRefused.{StoreRefused}
-use Rattle.seg_rows.specs.declared.rows.StoreRefused.TheVariants.{RootLimit, RecordTooLong, Memory}
-use Rattle.seg_rows.specs.StoreRefused.{set_refusal, RefusesToSet}
+use Rattle.seg_rows.specs.declared.rows.RowsRefused.{RowsRefused}
+use Rattle.seg_rows.specs.declared.rows.RowsRefused.TheVariants.{RootLimit, RecordTooLong, Disk, Damaged, Memory}
+use Rattle.seg_rows.specs.RowsRefused.{set_refusal, RefusesToSet, RefusesToRead}
 use Rattle.dli_calls.specs.declared.planned.Edit.{Edit}
 use Rattle.dli_calls.specs.declared.planned.Planned.{Planned}
 use Rattle.dli_calls.specs.PerformedCall.{Performs, RefusesCall}
@@ -102,10 +102,20 @@ plans_insert dbd call at rows row root image p none is rooted e planned =
         ∙ (λ t. changed_to dbd (root_is t) rows at (with_row (sym is t) rows) (record { position = Some (path_is t); parentage = at.parentage; hold = None }))
 
 -- a refusal to set is one of the call
-pub refuses_call : (due : Option StoreRefused) (refusal : StoreRefused) → RefusesToSet due refusal → RefusesCall (limit_of due) refusal
-refuses_call due RootLimit h = ap limit_of h
-refuses_call due RecordTooLong h = ap limit_of h
-refuses_call due Memory h = tt
+pub refuses_call : (due : Option RowsRefused) (told : Bool) (before now : ℕ) (refusal : RowsRefused) → RefusesToSet due refusal → RefusesCall (limit_of due) told before now refusal
+refuses_call due told before now RootLimit h = ap limit_of h
+refuses_call due told before now RecordTooLong h = ap limit_of h
+refuses_call due told before now Disk h = absurd h
+refuses_call due told before now (Damaged sector) h = absurd h
+refuses_call due told before now Memory h = tt
+
+-- and so is a refusal to read
+pub refuses_read : (limit : Option RowsLimit) (told : Bool) (before now : ℕ) (refusal : RowsRefused) → RefusesToRead told before now refusal → RefusesCall limit told before now refusal
+refuses_read limit told before now RootLimit h = absurd h
+refuses_read limit told before now RecordTooLong h = absurd h
+refuses_read limit told before now Disk h = h
+refuses_read limit told before now (Damaged sector) h = h
+refuses_read limit told before now Memory h = tt
 
 -- a plan that is carried out is the call
 pub performs : (dbd : Dbd) (rows left : List Row) (d : DliResult) (p : Planned) → Plans dbd rows d p → edit_limit dbd p.edit rows ≡ None → left ≡ rows_set p.edit rows
@@ -138,3 +148,11 @@ refused_limit dbd rows d p plans = by p.edit plans
     by : (o : Option Edit) → PlansTo dbd rows d p o → d.refusal ≡ edit_limit dbd o rows
     by None h = h.refusal
     by (Some e) h = h.refusal
+
+-- the record that a plan sets is an image of its root
+pub plans_image : (dbd : Dbd) (rows : List Row) (d : DliResult) (p : Planned) → Plans dbd rows d p → IfSome p.edit (λ e. IsImage dbd e.root e.image)
+plans_image dbd rows d p plans = by p.edit plans
+  where
+    by : (o : Option Edit) → PlansTo dbd rows d p o → IfSome o (λ e. IsImage dbd e.root e.image)
+    by None h = tt
+    by (Some e) h = h.image

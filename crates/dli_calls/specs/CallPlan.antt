@@ -7,17 +7,19 @@ use Rattle.model_data.specs.declared.call.Position.{Position}
 use Rattle.model_data.specs.declared.call.RowsLimit.{RowsLimit}
 use Rattle.model_data.specs.declared.call.RowsLimit.TheVariants.{Roots, RecordLength}
 use Rattle.model_data.specs.DatabaseCalls.{DliResult}
-use Rattle.seg_rows.specs.declared.rows.StoreRefused.{StoreRefused}
-use Rattle.seg_rows.specs.declared.rows.StoreRefused.TheVariants.{RootLimit, RecordTooLong, Memory}
-use Rattle.seg_rows.specs.StoreRefused.{set_refusal}
+use Rattle.seg_rows.specs.declared.rows.RowsRefused.{RowsRefused}
+use Rattle.seg_rows.specs.declared.rows.RowsRefused.TheVariants.{RootLimit, RecordTooLong, Disk, Damaged, Memory}
+use Rattle.seg_rows.specs.RowsRefused.{set_refusal}
 use Rattle.dli_calls.specs.declared.planned.Edit.{Edit}
 use Rattle.dli_calls.specs.declared.planned.Planned.{Planned}
 
 -- the limit by which a record isn't set
-abbrev pub limit_of : Option StoreRefused → Option RowsLimit
+abbrev pub limit_of : Option RowsRefused → Option RowsLimit
 limit_of None = None
 limit_of (Some RootLimit) = Some Roots
 limit_of (Some RecordTooLong) = Some RecordLength
+limit_of (Some Disk) = None
+limit_of (Some (Damaged sector)) = None
 limit_of (Some Memory) = None
 
 -- the plan has the answer of the call

@@ -2,6 +2,7 @@ pub mod PerformedCall
 pub mod CallPlan
 pub mod ChangeEdit
 pub mod NamedRecords
+pub mod OwnRecord
 pub mod AlikeCalls
 pub use Rattle.model_data.specs.ChangeCalls
 pub use Rattle.model_data.specs.Conditions

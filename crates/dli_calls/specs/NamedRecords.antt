@@ -1,5 +1,5 @@
 -- How the records that a search needs are named, key by key.
-use Rattle.std.specs.Prelude.{ℕ, Bool, if◌then◌else◌, List, [], ◌∷◌, Option, None, Some, flat_map}
+use Rattle.std.specs.Prelude.{◌≡◌, ◌≢◌, ℕ, Bool, if◌then◌else◌, List, [], ◌∷◌, Option, None, Some, flat_map}
 use Rattle.tm_types.specs.declared.resource.Mode.{Mode}
 use Rattle.tm_types.specs.declared.resource.Mode.TheVariants.{Shared, Exclusive}
 use Rattle.model_data.specs.declared.row.Row.{Row}
@@ -23,3 +23,7 @@ rows_of_roots keys rows = flat_map (λ key. record_of key rows) keys
 -- the mode in which a get has the records that it needs
 abbrev pub mode_of : Bool → Mode
 mode_of hold = if hold then Exclusive else Shared
+
+-- the records of all other roots stay
+abbrev pub OthersStay : List ℕ → List Row → List Row → Type 0
+OthersStay root before after = (other : List ℕ) → other ≢ root → record_of other after ≡ record_of other before

@@ -1,71 +1,73 @@
 //! The gets: GU, GN and GNP, and the same with hold.
-ghost use Rattle.std.specs.Prelude.{◌≡◌, ◌≤◌, length, All, IfOk, IfSome, IsSome, OnErr, OnSome, None, Some, ◌⊎◌, if◌then◌else◌};
-ghost use Rattle.std.specs.Option.{option_copied};
+ghost use Rattle.std.specs.Prelude.{◌≡◌, ◌≤◌, List, length, All, IfOk, IfSome, IsSome, OnErr, None, Some, ◌⊎◌, if◌then◌else◌};
+ghost use Rattle.std.specs.Option.{option_copied, option_map};
+ghost use Rattle.tm_types.specs.declared.dbd.SegType.{SegType};
+ghost use Rattle.tm_types.specs.declared.ssa.Ssa.{Ssa};
+ghost use Rattle.tm_types.specs.Segment.{IsSegmentText};
+ghost use Rattle.model_data.specs.declared.row.Row.{Row};
+ghost use Rattle.model_data.specs.declared.call.Position.{Position};
+ghost use Rattle.model_data.specs.declared.call.Reach.TheVariants.{Parent};
+ghost use Rattle.model_data.specs.Path.{root_of};
 ghost use Rattle.model_data.specs.GetCalls.{row_reached, missed_status, level_status, moved_status, reached_status, parentage_at, position_at, position_failed, position_missed};
 ghost use Rattle.model_data.specs.DatabaseCalls.{get};
-ghost use Rattle.model_data.specs.Search.{is_row_there};
-ghost use Rattle.model_data.specs.declared.call.Reach.TheVariants.{Parent};
-ghost use Rattle.tm_types.specs.declared.status.Status.TheVariants.{GE, GP};
 ghost use Rattle.model_data.specs.Conditions.{IsPosition};
-ghost use Rattle.tm_types.specs.Segment.{IsSegmentText};
-ghost use Rattle.model_data.specs.Rows.{AreRows};
 ghost use Rattle.dli_calls.specs.CallPlan.{Plans, StandsSomewhere};
+ghost use Rattle.dli_calls.specs.OwnRecord.{GoesAlong, IsReachedIn, IsRecordFor};
 
 use crate::planned::{Planned, answer_at};
 use model_data::{DbCall, Path, Position, Reach, Row};
-use row_search::{asked_root, first_row, first_row_below, is_there};
-use seg_rows::Rows;
+use row_search::{Asked, asked_root, first_below, has_path};
 use tm_types::{Dbd, Memory, Ssa, Status};
 
-/// What a get comes to. It changes no rows, and where the PCB then stands is made anew.
-pub fn get<R: Rows>(
-    reach: Reach,
-    hold: bool,
-    dbd: &Dbd,
-    call: &DbCall,
-    at: &Position,
-    rows: &R,
-) -> Result<Planned, Memory>
-    requires types { length dbd.now.types ≤ 255 }
-    requires rows { R.database rows.now ≡ dbd.now }
-    requires position { IsPosition dbd.now.types at.now }
-    ensures planned { IfOk result (Plans dbd.now (R.rows rows.now) (get reach hold dbd.now call.now at.now (R.rows rows.now))) }
-    ensures valid { IfOk result (λ p. IsPosition dbd.now.types p.position) }
-    ensures text { All (λ type. type.bytes ≤ 1996) dbd.now.types → IfOk result (λ p. IfSome p.area IsSegmentText) }
-    ensures no_edit { IfOk result (λ p. p.edit ≡ None) }
-    // A get that reaches no row, by a PCB that stands nowhere, takes no memory.
-    ensures memory { OnErr result (IsSome (row_reached reach dbd.now.types call.now.ssas at.now (R.rows rows.now)) ⊎ StandsSomewhere at.now) }
-{
-    let row = reached(reach, dbd, call.ssas.as_slice(), at, rows);
-    get_found(reach, hold, dbd, call, at, row, rows)
-}
-
-/// What a get comes to that reaches this row, or none.
-pub fn get_found<R: Rows>(
+/// What a GU or GN, with hold or without, comes to that reaches this row, or none. It changes no rows, and where the PCB then
+/// stands is made anew.
+pub fn get_found(
     reach: Reach,
     hold: bool,
     dbd: &Dbd,
     call: &DbCall,
     at: &Position,
     row: Option<&Row>,
-    rows: &R,
 ) -> Result<Planned, Memory>
     requires types { length dbd.now.types ≤ 255 }
-    requires rows { R.database rows.now ≡ dbd.now }
+    requires along { GoesAlong reach }
     requires position { IsPosition dbd.now.types at.now }
-    requires row { option_copied row ≡ row_reached reach dbd.now.types call.now.ssas at.now (R.rows rows.now) }
-    requires valid { OnSome row (AreRows (R.database rows.now) (R.rows rows.now)) }
-    ensures planned { IfOk result (Plans dbd.now (R.rows rows.now) (get reach hold dbd.now call.now at.now (R.rows rows.now))) }
-    ensures valid { IfOk result (λ p. IsPosition dbd.now.types p.position) }
-    ensures text { All (λ type. type.bytes ≤ 1996) dbd.now.types → IfOk result (λ p. IfSome p.area IsSegmentText) }
+    ensures planned { (rows : List Row) → IsReachedIn dbd.now reach call.now.ssas at.now (option_copied row.entry) rows → IfOk result (Plans dbd.now rows (get reach hold dbd.now call.now at.now rows)) }
+    ensures valid { (rows : List Row) → IsReachedIn dbd.now reach call.now.ssas at.now (option_copied row.entry) rows → IfOk result (λ p. IsPosition dbd.now.types p.position) }
+    ensures text { (rows : List Row) → IsReachedIn dbd.now reach call.now.ssas at.now (option_copied row.entry) rows → All (λ type. type.bytes ≤ 1996) dbd.now.types → IfOk result (λ p. IfSome p.area IsSegmentText) }
     ensures no_edit { IfOk result (λ p. p.edit ≡ None) }
     // A get that reaches no row, by a PCB that stands nowhere, takes no memory.
-    ensures memory { OnErr result (IsSome (row_reached reach dbd.now.types call.now.ssas at.now (R.rows rows.now)) ⊎ StandsSomewhere at.now) }
+    ensures memory { OnErr result (IsSome (option_copied row.entry) ⊎ StandsSomewhere at.now) }
 {
     let ssas = call.ssas.as_slice();
     match row {
         Some(row) => get_reached(reach, hold, ssas, at, row),
-        None => get_missed(reach, missed_status(reach, dbd, ssas, at, rows), at),
+        None => get_missed(reach, missed_along(reach, dbd, ssas), at),
+    }
+}
+
+/// What a GNP comes to, on the rows of the record of the parentage; where there is no parentage, the rows
+/// are of no account.
+pub fn get_below(
+    hold: bool,
+    dbd: &Dbd,
+    call: &DbCall,
+    at: &Position,
+    seen: &[Row],
+) -> Result<Planned, Memory>
+    requires types { length dbd.now.types ≤ 255 }
+    requires position { IsPosition dbd.now.types at.now }
+    ensures planned { (rows : List Row) → IsRecordFor dbd.now (option_map root_of at.now.parentage) seen.now rows → IfOk result (Plans dbd.now rows (get Parent hold dbd.now call.now at.now rows)) }
+    ensures valid { (rows : List Row) → IsRecordFor dbd.now (option_map root_of at.now.parentage) seen.now rows → IfOk result (λ p. IsPosition dbd.now.types p.position) }
+    ensures text { (rows : List Row) → IsRecordFor dbd.now (option_map root_of at.now.parentage) seen.now rows → All (λ type. type.bytes ≤ 1996) dbd.now.types → IfOk result (λ p. IfSome p.area IsSegmentText) }
+    ensures no_edit { IfOk result (λ p. p.edit ≡ None) }
+    // A GNP by a PCB that stands nowhere takes no memory.
+    ensures memory { OnErr result (StandsSomewhere at.now) }
+{
+    let ssas = call.ssas.as_slice();
+    match reached_below(dbd, ssas, at, seen) {
+        Some(row) => get_reached(Reach::Parent, hold, ssas, at, row),
+        None => get_missed(Reach::Parent, missed_below(at, seen), at),
     }
 }
 
@@ -97,51 +99,24 @@ fn get_missed(reach: Reach, status: Status, at: &Position) -> Result<Planned, Me
     Ok(answer_at(status, position))
 }
 
-/// The row that a get reaches.
-fn reached<'a, R: Rows>(
-    reach: Reach,
-    dbd: &Dbd,
-    ssas: &[Ssa],
-    at: &Position,
-    rows: &'a R,
-) -> Option<&'a Row>
-    requires types { length dbd.now.types ≤ 255 }
-    requires rows { R.database rows.now ≡ dbd.now }
-    requires position { IsPosition dbd.now.types at.now }
-    ensures value { option_copied result ≡ row_reached reach dbd.now.types ssas.now at.now (R.rows rows.now) }
-    ensures valid { OnSome result (AreRows (R.database rows.now) (R.rows rows.now)) }
-{
-    match reach {
-        Reach::Start => first_row(dbd, ssas, None, rows),
-        Reach::Next => first_row(dbd, ssas, at.position.as_ref(), rows),
-        Reach::Parent => reached_below(dbd, ssas, at, rows),
-    }
-}
-
-fn reached_below<'a, R: Rows>(
-    dbd: &Dbd,
-    ssas: &[Ssa],
-    at: &Position,
-    rows: &'a R,
-) -> Option<&'a Row>
-    requires types { length dbd.now.types ≤ 255 }
-    requires rows { R.database rows.now ≡ dbd.now }
-    requires position { IsPosition dbd.now.types at.now }
-    ensures value { option_copied result ≡ row_reached Parent dbd.now.types ssas.now at.now (R.rows rows.now) }
-    ensures valid { OnSome result (AreRows (R.database rows.now) (R.rows rows.now)) }
+/// The row that a GNP reaches among these of its record.
+fn reached_below<'a>(dbd: &Dbd, ssas: &[Ssa], at: &Position, seen: &'a [Row]) -> Option<&'a Row>
+    requires { length dbd.now.types ≤ 255 }
+    ensures { option_copied result ≡ row_reached Parent dbd.now.types ssas.now at.now seen.now }
 {
     let parent = at.parentage.as_ref()?;
-    if !is_there(parent, rows) {
+    if !has_path(parent, seen) {
         return None;
     }
-    first_row_below(dbd, ssas, at.position.as_ref(), parent, rows)
+    let asked = Asked::of(dbd, ssas);
+    first_below(&asked, at.position.as_ref(), parent, seen)
 }
 
-/// The status of a get that reaches no row.
-fn missed_status<R: Rows>(reach: Reach, dbd: &Dbd, ssas: &[Ssa], at: &Position, rows: &R) -> Status
+/// The status of a GU or GN that reaches no row.
+fn missed_along(reach: Reach, dbd: &Dbd, ssas: &[Ssa]) -> Status
     requires types { length dbd.now.types ≤ 255 }
-    requires position { IsPosition dbd.now.types at.now }
-    ensures { result ≡ missed_status reach dbd.now.types ssas.now at.now (R.rows rows.now) }
+    requires along { GoesAlong reach }
+    ensures { (at : Position) → (rows : List Row) → result ≡ missed_status reach dbd.now.types ssas.now at rows }
 {
     match reach {
         Reach::Start => Status::GE,
@@ -149,18 +124,18 @@ fn missed_status<R: Rows>(reach: Reach, dbd: &Dbd, ssas: &[Ssa], at: &Position, 
             Some(_) => Status::GE,
             None => Status::GB,
         },
-        Reach::Parent => match &at.parentage {
-            Some(parent) => missed_below(parent, rows),
-            None => Status::GP,
-        },
+        Reach::Parent => unreachable!(),
     }
 }
 
-fn missed_below<R: Rows>(parent: &Path, rows: &R) -> Status
-    requires { 1 ≤ length parent.now }
-    ensures { result ≡ if is_row_there parent.now (R.rows rows.now) then GE else GP }
+/// The status of a GNP that reaches no row among these of its record.
+fn missed_below(at: &Position, seen: &[Row]) -> Status
+    ensures { (types : List SegType) → (ssas : List Ssa) → result ≡ missed_status Parent types ssas at.now seen.now }
 {
-    if is_there(parent, rows) {
+    let Some(parent) = &at.parentage else {
+        return Status::GP;
+    };
+    if has_path(parent, seen) {
         Status::GE
     } else {
         Status::GP

@@ -1,18 +1,16 @@
 //! The segment that an ISRT names, and whether it may be inserted.
-ghost use Rattle.std.specs.Prelude.{◌≡◌, ◌≤◌, ◌==◌, ◌&&◌, not, length, IfOk, IfNone, IsSome};
+ghost use Rattle.std.specs.Prelude.{◌≡◌, ◌≤◌, ◌==◌, ◌&&◌, not, length, IfOk, IsSome};
 ghost use Rattle.std.specs.Ordering.{is_eq};
 ghost use Rattle.std.specs.Cmp.Lexicographic.{pointwise};
 ghost use Rattle.tm_types.specs.SegTypes.{type_at};
 ghost use Rattle.model_data.specs.Path.{root_of, parent_path, path_cmp};
-ghost use Rattle.model_data.specs.Rows.{AreRows};
 ghost use Rattle.model_data.specs.Search.{number_named, pair_eq, is_row_there};
 ghost use Rattle.model_data.specs.ChangeCalls.{key_bytes, asked_pair, insert_path, insert_row, insert_fault};
 ghost use Rattle.model_data.specs.Conditions.{AreInsertSsas};
 ghost use Rattle.dli_calls.specs.ChangeEdit.{AreTypesNamed};
 
 use model_data::{Path, Row};
-use row_search::{asked_number, data_length, fitted_bytes, fitted_key, number_named, record_rows};
-use seg_rows::Rows;
+use row_search::{asked_number, data_length, fitted_bytes, fitted_key, number_named};
 use std::alloc::Global;
 use tm_types::{Key, KeyTest, Memory, SegTypes, Ssa, Status};
 
@@ -79,45 +77,27 @@ fn has_asked(types: &SegTypes, area: &[u8], ssas: &[Ssa], rows: &[Row]) -> bool
     false
 }
 
-/// Whether the segment that the arguments of an ISRT name is there.
-fn is_asked_there<R: Rows>(types: &SegTypes, area: &[u8], ssas: &[Ssa], rows: &R) -> bool
-    requires few { length types.now ≤ 255 }
-    requires some { 1 ≤ length ssas.now }
-    requires named { AreTypesNamed types.now ssas.now }
-    ensures value { result ≡ is_row_there (insert_path types.now ssas.now area.now) (R.rows rows.now) }
-    ensures valid { AreRows (R.database rows.now) (R.rows rows.now) }
-{
-    let (_, root) = asked_pair(types, area, &ssas[0]);
-    has_asked(types, area, ssas, record_rows(&root, rows))
-}
-
-fn lacks_parent<R: Rows>(types: &SegTypes, area: &[u8], ssas: &[Ssa], rows: &R) -> bool
+fn lacks_parent(types: &SegTypes, area: &[u8], ssas: &[Ssa], seen: &[Row]) -> bool
     requires few { length types.now ≤ 255 }
     requires ssas { AreInsertSsas types.now 0 ssas.now }
-    ensures { result ≡ (not (length (insert_path types.now ssas.now area.now) == 1) && not (is_row_there (parent_path (insert_path types.now ssas.now area.now)) (R.rows rows.now))) }
+    ensures { result ≡ (not (length (insert_path types.now ssas.now area.now) == 1) && not (is_row_there (parent_path (insert_path types.now ssas.now area.now)) seen.now)) }
 {
     if ssas.len() == 1 {
         return false;
     }
-    !is_asked_there(types, area, &ssas[..ssas.len() - 1], rows)
+    !has_asked(types, area, &ssas[..ssas.len() - 1], seen)
 }
 
 /// Why the segment isn't inserted that the arguments name, if it isn't: it isn't a root and its
-/// parent isn't there, or it is there itself. This takes no memory.
-pub fn insert_fault<R: Rows>(
-    types: &SegTypes,
-    area: &[u8],
-    ssas: &[Ssa],
-    rows: &R,
-) -> Option<Status>
+/// parent isn't there, or it is there itself. The rows of its record say so. This takes no memory.
+pub fn insert_fault(types: &SegTypes, area: &[u8], ssas: &[Ssa], seen: &[Row]) -> Option<Status>
     requires few { length types.now ≤ 255 }
     requires ssas { AreInsertSsas types.now 0 ssas.now }
-    ensures value { result ≡ insert_fault (insert_path types.now ssas.now area.now) (R.rows rows.now) }
-    ensures valid { IfNone result (AreRows (R.database rows.now) (R.rows rows.now)) }
+    ensures { result ≡ insert_fault (insert_path types.now ssas.now area.now) seen.now }
 {
-    if lacks_parent(types, area, ssas, rows) {
+    if lacks_parent(types, area, ssas, seen) {
         Some(Status::GE)
-    } else if is_asked_there(types, area, ssas, rows) {
+    } else if has_asked(types, area, ssas, seen) {
         Some(Status::II)
     } else {
         None

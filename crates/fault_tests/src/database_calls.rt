@@ -62,7 +62,9 @@ fn make_call<R: Rows>(
     if dbd.types.len() > 255 || !is_call(&dbd.types, call) {
         return None;
     }
-    let expected = would_change(dbd, call, position, rows);
+    let Ok(expected) = would_change(dbd, call, position, rows) else {
+        return None;
+    };
     match perform(alloc, dbd, call, position, rows) {
         Ok(performed) => {
             if performed.changed != expected || !gives(performed.area, data) {
@@ -89,16 +91,19 @@ fn asks<R: Rows>(
     dbd: &Dbd,
     call: &DbCall,
     position: &Position,
-    rows: &R,
+    rows: &mut R,
     text: &[u8],
 ) -> Result<bool, Fail>
-    requires rows { R.database rows.now ≡ dbd.now }
+    requires rows { R.database rows.old ≡ dbd.now }
     requires position { IsPosition dbd.now.types position.now }
+    ensures { R.database rows.new ≡ R.database rows.old }
 {
     if dbd.types.len() > 255 || !is_call(&dbd.types, call) {
         return Ok(false);
     }
-    let needs = needs(alloc, dbd, call, position, rows)?;
+    let Ok(needs) = needs(alloc, dbd, call, position, rows) else {
+        return Ok(false);
+    };
     let mut told = Bytes::new(alloc);
     for need in needs.as_slice() {
         told.push(if need.mode == Mode::Shared {

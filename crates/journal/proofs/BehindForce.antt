@@ -32,7 +32,7 @@ use Rattle.journal.specs.CheckpointFor.{parts_for, AreCheckpointPartsOf, CanChec
 use Rattle.journal.specs.JournalDisk.{RecoverOne}
 
 -- an image with the restart sector and the text of a life keeps the text of one that has them, too
-keeps_text : (system : System) (now : RestartSector) (text : List ℕ) (before after : Image)
+pub keeps_text : (system : System) (now : RestartSector) (text : List ℕ) (before after : Image)
     → restart_in (snapshot_area system) (is_single system) before ≡ Ok (Some now) → text_in before now.text ≡ text
     → restart_in (snapshot_area system) (is_single system) after ≡ Ok (Some now) → text_in after now.text ≡ text → KeepsText system before after
 keeps_text system now text before after was had is has = record {

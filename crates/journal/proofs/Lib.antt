@@ -22,3 +22,4 @@ pub mod Standing
 pub mod Forcing
 pub mod Checkpointing
 pub mod BehindForce
+pub mod SlotPut

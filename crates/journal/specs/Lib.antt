@@ -9,6 +9,7 @@ pub mod LastingAnswers
 pub mod NumberedUnits
 pub mod JournalDisk
 pub mod CheckpointFor
+pub mod SlotWriteFor
 pub use Rattle.checkpointing.specs.Checkpoint
 pub use Rattle.checkpointing.specs.CheckpointParts
 pub use Rattle.checkpointing.specs.CheckpointSteps
@@ -20,9 +21,12 @@ pub use Rattle.disk_law.specs.Life
 pub use Rattle.disk_law.specs.LifeCheckpoint
 pub use Rattle.disk_law.specs.LifeSteps
 pub use Rattle.disk_law.specs.PendingMoves
+pub use Rattle.disk_law.specs.SlotWrites
 pub use Rattle.log_writer.specs.ForcedLog
 pub use Rattle.model_system.specs.Areas
 pub use Rattle.restart_data.specs.Restart
 pub use Rattle.restart_data.specs.Snapshot
+pub use Rattle.seg_store.specs.DataSectors
+pub use Rattle.seg_store.specs.OneSlot
 pub use Rattle.seg_store.specs.WrittenSlots
 pub use Rattle.tm_disk.specs.Disk

@@ -4,7 +4,10 @@ ghost use Rattle.tm_disk.specs.Disk.{Stays, Within, Follows, Only, WritesAtMost,
 ghost use Rattle.restart_data.specs.Restart.{IsRestart};
 ghost use Rattle.restart_data.specs.Snapshot as sectors;
 ghost use Rattle.model_system.specs.Areas.{data_first};
-ghost use Rattle.seg_store.specs.WrittenSlots.{changed_sectors};
+ghost use Rattle.std.specs.List.{AllByRecursion};
+ghost use Rattle.seg_store.specs.DataSectors.{MayPut, HasPut};
+ghost use Rattle.seg_store.specs.OneSlot.{IsSlotPlace, slot_sectors_at};
+ghost use Rattle.seg_store.specs.WrittenSlots.{changed_sectors, sector_count};
 ghost use Rattle.checkpointing.specs.CheckpointParts.{checkpoint_parts_of, sequence_behind, next_restart, forced_writer, next_writer, AreAreasFree, IsOver};
 ghost use Rattle.checkpointing.specs.DirtySlots.{AreStoresOf};
 ghost use Rattle.checkpointing.specs.Checkpoint.{KeepsRecovery, IsCheckpointed};
@@ -16,6 +19,8 @@ ghost use Rattle.disk_law.specs.Life.{LifeOnDisk};
 ghost use Rattle.disk_law.specs.KeptImages.{AreImagesKept};
 ghost use Rattle.disk_law.specs.LifeSteps.{forced_life};
 ghost use Rattle.disk_law.specs.PendingMoves.{PendsBehind, KeepsBehindForce};
+ghost use Rattle.disk_law.specs.SlotWrites.{PutsBehindForce, HasPutBehindForce, slot_written_life};
+ghost use Rattle.journal.specs.SlotWriteFor.{IsSlotWriteOf, CanWriteSlot, slot_write_pieces};
 ghost use Rattle.model_machine.specs.Machine.{LastingState};
 ghost use Rattle.log_records.specs.declared.record.Record.{Record};
 ghost use Rattle.disk_law.specs.CommittedBytes.{Touches};
@@ -24,10 +29,10 @@ ghost use Rattle.journal.specs.JournalDisk.{TellsRoom, TellsAllRoom, holding, Re
 ghost use Rattle.journal.specs.CheckpointFor.{parts_for, AreCheckpointPartsOf, CanCheckpoint, CanTake, TakesBehindForce, IsCheckpointedBehindForce};
 
 use checkpointing::{PartsView, take};
-use image_loading::{log_first, snapshot_area, snapshot_first};
+use image_loading::{data_first, log_first, snapshot_area, snapshot_first};
 use log_writer::LogWriter;
 use restart_data::RestartSector;
-use seg_store::Stores;
+use seg_store::{SlotPlace, Stores};
 use std::alloc::Global;
 use std::marker::Model;
 use system_types::System;
@@ -198,6 +203,46 @@ impl Journal {
         self.checkpoint_forced(alloc, disk, system, stores, snapshot)
     }
 
+    /// Writes the record of one changed slot into its sectors, behind a force of all that was appended, and syncs. Whenever a crash
+    /// comes, the image is of the same text and recovers to one of the states that pend, behind the force to what lasts; once it has
+    /// answered, each image has all of the life, of which this slot doesn't count as changed any more. The stores count it so until
+    /// `Stores::settle_slot`. It writes the sectors of what was appended and those of the slot at most, and takes no memory. `Disk` comes
+    /// exactly where the disk failed in the call. Then the journal is of no use.
+    #[tactic(auto, using(tm_disk::proofs::Words::stays_on))]
+    pub fn write_slot<D: Disk>(
+        &mut self,
+        disk: &mut D,
+        system: &System,
+        stores: &Stores,
+        place: SlotPlace,
+    ) -> Result<(), DiskFault>
+        requires can { CanWriteSlot system.now self.old stores.now place (D.state disk.old) }
+
+        ensures stays { Stays (D.state disk.old) (D.state disk.new) }
+        // A front of what was appended is forced; or all of it, and the image recovers as it did then.
+        ensures any_moment { Within (KeepsBehindForce system.entry.now self.old.log) (D.state disk.old) (D.state disk.new) }
+        ensures texts { Within (KeepsText system.entry.now) (D.state disk.old) (D.state disk.new) }
+        ensures steps { Within (PutsBehindForce self.old.log (data_first system.entry.now 0) (slot_write_pieces place stores.now)) (D.state disk.old) (D.state disk.new) }
+        ensures done { OnOk result (Follows (HasPutBehindForce self.old.log (data_first system.entry.now 0) (slot_write_pieces place stores.now)) (D.state disk.old) (D.state disk.new)) }
+        // So the image recovers to one of the states that pend. Then each image has all of the life behind the write, and nothing pends
+        // but what lasts.
+        ensures crash { (life : LifeOnDisk) → (states : List LastingState) → IsSlotWriteOf system.entry.now self.old stores.now states (D.state disk.old) life → RecoverOne system.entry.now states (D.state disk.old) (D.state disk.new) }
+        ensures kept { OnOk result ((life : LifeOnDisk) → (states : List LastingState) → IsSlotWriteOf system.entry.now self.old stores.now states (D.state disk.old) life → PendsBehind (life.lasting ∷ []) (slot_written_life place.db place.slot (forced_life life)) (D.state disk.new)) }
+        ensures log { OnOk result (self.new.log ≡ forced_writer self.old.log) }
+        ensures ready { OnOk result (IsWriterReady self.new.log (D.state disk.new)) }
+        ensures restart { self.new.restart ≡ self.old.restart }
+        ensures synced { OnOk result (Only (D.state disk.new).shown (D.state disk.new)) }
+
+        ensures writes { WritesAtMost (log_sectors_of (length self.old.log.appended) + slot_sectors_at place stores.now.stores) (D.state disk.old) (D.state disk.new) }
+        ensures no_fault { OnOk result ((D.state disk.new).faults ≡ (D.state disk.old).faults) }
+        ensures cause { OnErr result (FailedSince (D.state disk.old) (D.state disk.new)) }
+    {
+        if self.write(disk).is_err() {
+            return Err(DiskFault::Disk);
+        }
+        put_slot(disk, data_first(system), stores, place)
+    }
+
     // The checkpoint once all is forced.
     fn checkpoint_forced<D: Disk>(
         &mut self,
@@ -282,4 +327,28 @@ impl Journal {
             }
         }
     }
+}
+
+// Writes a slot and syncs, where the sectors of all slots stand from the sector `first` on.
+#[tactic(auto, using(tm_disk::proofs::Words::stays_on))]
+fn put_slot<D: Disk>(
+    disk: &mut D,
+    first: u32,
+    stores: &Stores,
+    place: SlotPlace,
+) -> Result<(), DiskFault>
+    requires there { IsSlotPlace place stores.now.stores }
+    requires area { first + sector_count stores.now.stores ≤ (D.state disk.old).size }
+    requires few_sectors { AllByRecursion (λ s. s.dbd.sectors ≤ 8) stores.now.stores }
+    ensures stays { Stays (D.state disk.old) (D.state disk.new) }
+    ensures any_moment { Within (MayPut first (slot_write_pieces place stores.now)) (D.state disk.old) (D.state disk.new) }
+    ensures done { OnOk result (Follows (HasPut first (slot_write_pieces place stores.now)) (D.state disk.old) (D.state disk.new)) }
+    ensures synced { OnOk result (Only (D.state disk.new).shown (D.state disk.new)) }
+    ensures writes { WritesAtMost (slot_sectors_at place stores.now.stores) (D.state disk.old) (D.state disk.new) }
+    ensures no_fault { OnOk result ((D.state disk.new).faults ≡ (D.state disk.old).faults) }
+    ensures cause { OnErr result (FailedSince (D.state disk.old) (D.state disk.new)) }
+{
+    stores.write_slot(disk, first, place)?;
+    disk.sync()?;
+    Ok(())
 }

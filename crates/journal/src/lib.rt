@@ -6,7 +6,8 @@
 //! before, or behind one of the steps since; once it has answered, each image has all of the life. A checkpoint of any
 //! life whose snapshot is given forces all first. From there it leaves what lasts at any moment, and the definition's
 //! text throughout; then each image has all of the life behind it, and nothing pends. Meanwhile a front of its steps
-//! was done. `insert` (module `inserting`) puts an open unit among others that stand by their numbers, at its place, for
+//! was done. One changed slot is written by itself behind such a force, and synced: a stop may leave it torn, and the image recovers
+//! to what it did; then the life goes on with this slot unchanged. `insert` (module `inserting`) puts an open unit among others that stand by their numbers, at its place, for
 //! a snapshot.
 //!
 //! Laws: a life goes with a machine (`IsCarriedBy` of specs/CarriedLife) where it has the machine's system and what

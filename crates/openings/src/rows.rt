@@ -41,7 +41,7 @@ fn rows_in(alloc: Global, store: &Store) -> Result<Vec<Row>, Memory>
 fn add_record(rows: &mut Vec<Row>, store: &Store, root: &Key) -> Result<(), Memory>
     ensures { OnOk result (rows.new.items ≡ rows.old.items ++ record_of root.now (rows_of_slots store.now.slots)) }
 {
-    match store.record(root) {
+    match store.find(root) {
         Some(image) => add_rows(rows, image.as_slice()),
         None => Ok(()),
     }

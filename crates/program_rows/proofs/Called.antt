@@ -24,7 +24,7 @@ use Rattle.model_data.specs.Footprint.{footprint, record_need, sequence_need, Ag
 use Rattle.model_data.specs.Table.{EnqueueTable}
 use Rattle.model_data.specs.EnqueueRequests.{after_asks, first_blocked}
 use Rattle.pi_enqueue.specs.KeptTable.{IsTableKept}
-use Rattle.seg_rows.specs.StoreRefused.{set_refusal}
+use Rattle.seg_rows.specs.RowsRefused.{set_refusal}
 use Rattle.seg_store.specs.Slots.{Stored, AreSlots, slot_for, rows_of_slots, with_image}
 use Rattle.seg_store.proofs.SlotRows.{record_image_root}
 use Rattle.unit_work.specs.declared.change.Change.{Change}

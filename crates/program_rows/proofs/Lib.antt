@@ -33,6 +33,7 @@ pub mod Untouched
 pub mod Few
 pub mod Having
 pub mod Placing
+mod StoreStays
 pub mod Retold
 pub mod Slotted
 pub mod Settling

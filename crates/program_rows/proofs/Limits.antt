@@ -6,8 +6,8 @@ use Rattle.model_data.specs.declared.row.Row.{Row}
 use Rattle.model_data.specs.Record.{rows_spelling, record_limit}
 use Rattle.model_data.specs.Rows.{record_of, passes_roots, passes_length}
 use Rattle.model_data.specs.declared.call.RowsLimit.TheVariants.{Roots, RecordLength}
-use Rattle.seg_rows.specs.StoreRefused.{set_refusal}
-use Rattle.seg_rows.specs.declared.rows.StoreRefused.TheVariants.{RecordTooLong}
+use Rattle.seg_rows.specs.RowsRefused.{set_refusal}
+use Rattle.seg_rows.specs.declared.rows.RowsRefused.TheVariants.{RecordTooLong}
 use Rattle.seg_store.specs.Slots.{AreSlots, slot_of_root, slot_for, lowest_free, first_slot_of, rows_of_slots}
 use Rattle.seg_store.proofs.SlotRows.{passes_there, record_none, room_new, due_full, due_long, due_fits}
 use Rattle.dli_calls.specs.declared.planned.Edit.{Edit}

@@ -10,7 +10,7 @@ use Rattle.model_data.specs.Record.{rows_spelling, record_limit}
 use Rattle.model_data.specs.Rows.{passes_roots, passes_length}
 use Rattle.model_data.proofs.Lists.{all_then}
 use Rattle.model_data.specs.Table.{EnqueueTable}
-use Rattle.seg_rows.specs.StoreRefused.{set_refusal}
+use Rattle.seg_rows.specs.RowsRefused.{set_refusal}
 use Rattle.seg_store.specs.Slots.{Stored, AreSlots, IsSlot}
 use Rattle.unit_work.specs.declared.change.Change.{Change}
 use Rattle.unit_work.specs.Changes.{is_slot_before, is_slot, is_seen}
@@ -87,7 +87,7 @@ short_image dbd slots slot image valid sectors at = ⊎_elim (λ none. omega (ar
 pub short_edit : (dbd : Dbd) (root : List ℕ) (image rows : List Row) → dbd.sectors ≤ 8 → set_refusal dbd root image rows ≡ None → length (rows_spelling image) ≤ 32000
 short_edit dbd root image rows sectors e = by (passes_roots dbd root image rows) (passes_length dbd image) refl e
   where
-    by : (a b : Bool) → passes_length dbd image ≡ b → cond a (Some Rattle.seg_rows.specs.declared.rows.StoreRefused.TheVariants.RootLimit) (cond b (Some Rattle.seg_rows.specs.declared.rows.StoreRefused.TheVariants.RecordTooLong) None) ≡ None
+    by : (a b : Bool) → passes_length dbd image ≡ b → cond a (Some Rattle.seg_rows.specs.declared.rows.RowsRefused.TheVariants.RootLimit) (cond b (Some Rattle.seg_rows.specs.declared.rows.RowsRefused.TheVariants.RecordTooLong) None) ≡ None
         → length (rows_spelling image) ≤ 32000
     by true b q h = absurd (cc)
     by false true q h = absurd (cc)

@@ -6,6 +6,7 @@ pub mod PlannedChanges
 pub mod ToldChanges
 pub mod MadeCall
 pub mod SlotsState
+pub mod StoredPlan
 pub use Rattle.dli_calls.specs.CallPlan
 pub use Rattle.log_records.specs.RecordSpelling
 pub use Rattle.log_records.specs.ToldRecords

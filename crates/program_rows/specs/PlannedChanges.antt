@@ -8,7 +8,7 @@ use Rattle.model_data.specs.declared.request.Request.{Request}
 use Rattle.model_data.specs.Table.{EnqueueTable}
 use Rattle.model_data.specs.EnqueueRequests.{after_asks, first_blocked}
 use Rattle.pi_enqueue.specs.KeptTable.{IsTableKept}
-use Rattle.seg_rows.specs.StoreRefused.{set_refusal}
+use Rattle.seg_rows.specs.RowsRefused.{set_refusal}
 use Rattle.seg_store.specs.Slots.{Stored, AreSlots, rows_of_slots, slot_for, with_root}
 use Rattle.unit_work.specs.declared.change.Change.{Change}
 use Rattle.unit_work.specs.Changes.{AreSlotsInOrder, is_full, with_change, with_slot}

@@ -14,8 +14,8 @@ use crate::DataAnswer;
 use crate::asked::{asked_for, read, wait};
 use crate::making::make;
 use crate::opened::Opened;
+use crate::planning::plan_in;
 use crate::telling::Telling;
-use dli_calls::plan_needed;
 use log_records::Untold;
 use model_data::{DbCall, Position};
 use std::alloc::Global;
@@ -57,7 +57,7 @@ pub fn call(
     ensures place { telling.new ≡ record telling.old { told = telling.new.told } }
     ensures full { IfErr result (AreRecordsUntold (call_told telling.old.unit region number dbd.now call.now at.now (databases_opened opened.old)) telling.old.room) }
 {
-    let needed = plan_needed(alloc, dbd, call, at, opened.stores.store(number))?;
+    let needed = plan_in(alloc, dbd, number, at, call, &mut opened.stores)?;
     let asked = asked_for(alloc, region, number, needed.needs.as_slice())?;
     let planned = needed.planned;
     if planned.edit.is_none() {

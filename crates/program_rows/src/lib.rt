@@ -30,4 +30,5 @@ mod calling;
 mod databases;
 mod making;
 mod opened;
+mod planning;
 mod telling;

@@ -5,7 +5,7 @@ ghost use Rattle.model_data.specs.Rows.{IsImage, record_of};
 ghost use Rattle.model_data.specs.Data.{limit_abend};
 ghost use Rattle.model_data.specs.EnqueueRequests.{first_blocked};
 ghost use Rattle.model_data.specs.Cycle.{IsTableRegion};
-ghost use Rattle.seg_rows.specs.StoreRefused.{set_refusal};
+ghost use Rattle.seg_rows.specs.RowsRefused.{set_refusal};
 ghost use Rattle.seg_store.specs.Slots.{AreSlots, rows_of_slots, slot_for};
 ghost use Rattle.unit_work.specs.Changes.{is_full, no_changes, with_touch, AreSlotsInOrder};
 ghost use Rattle.dli_calls.specs.CallPlan.{IsThere, limit_of};
@@ -21,7 +21,7 @@ use dli_calls::{Edit, Planned};
 use log_records::Untold;
 use model_data::RowsLimit;
 use model_data::abends::{RECORD_TOO_LONG, TOO_MANY_RECORDS, TOO_MANY_ROOTS};
-use seg_rows::{RecordImage, Rows, record_limit};
+use seg_rows::{RecordImage, record_limit};
 use seg_store::{Store, Stores};
 use std::alloc::Global;
 use tm_types::{AbendCode, Dbd, Key, Memory};
@@ -222,7 +222,7 @@ fn prepare(
     ensures image { IfOk result (λ p. IfSome p.image (λ image. image ≡ record_of root.now (rows_of_slots store.now.slots))) }
     ensures kept { IfErr result (λ u. u ≡ unit) }
 {
-    match store.record(root) {
+    match store.find(root) {
         Some(image) => unit.prepare(number, *root, slot, image),
         None => unit.prepare(number, *root, slot, &RecordImage::new(alloc)),
     }

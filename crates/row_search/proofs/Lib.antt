@@ -6,5 +6,4 @@ pub mod Places
 pub mod Rising
 pub mod Walking
 pub mod Keys
-pub mod Nexts
 pub mod Needing

@@ -1,7 +1,7 @@
--- A search that goes from record to record finds the first row of the whole list.
-use Rattle.std.proofs.Common.{◌≡◌, ℕ, ◌<◌, ◌≤◌, ◌∷◌, [], List, length, refl, sym, ◌∙◌, ap, subst, Bool, true, false, cond, ◌&&◌, Option, None, Some, arith, suc}
+-- A search that goes from record to record, and one of a root that is asked for.
+use Rattle.std.proofs.Common.{◌≡◌, ℕ, ◌<◌, ◌≤◌, ◌∷◌, [], List, length, refl, sym, ◌∙◌, ap, subst, Bool, true, false, cond, Option, None, Some, arith, suc}
 use Rattle.std.specs.List.{AllByRecursion, filter, find}
-use Rattle.std.specs.Option.{IfSome, option_map}
+use Rattle.std.specs.Option.{option_map}
 use Rattle.std.specs.Ordering.{is_lt}
 use Rattle.std.proofs.lemmas.Cmp.{tied_itself}
 use Rattle.tm_types.specs.declared.dbd.Dbd.{Dbd}
@@ -14,13 +14,13 @@ use Rattle.model_data.specs.Rows.{record_of, rows_after, next_root, AreRows}
 use Rattle.model_data.proofs.Order.{key_total}
 use Rattle.model_data.proofs.Lists.{all_then}
 use Rattle.model_data.proofs.Filters.{filter_within}
-use Rattle.model_data.specs.Search.{is_after, fits, first_after}
+use Rattle.model_data.specs.Search.{first_after}
 use Rattle.model_data.specs.GetCalls.{asked_root}
 use Rattle.row_search.specs.Arguments.{Arguments}
-use Rattle.row_search.specs.Walk.{first_root, rows_from_root, roots_left}
-use Rattle.row_search.proofs.Finding.{find_front, find_back, find_head, find_passes}
-use Rattle.row_search.proofs.Rising.{rows_rising, from_root, after_root, all_from, next_is_first}
-use Rattle.row_search.proofs.Places.{after_in_later, asked_in_record}
+use Rattle.row_search.specs.Walk.{roots_left}
+use Rattle.row_search.proofs.Finding.{find_head, find_passes}
+use Rattle.row_search.proofs.Rising.{next_is_first}
+use Rattle.row_search.proofs.Places.{asked_in_record}
 use Rattle.model_data.proofs.Reading.{is_lt-true}
 
 -- what the arguments ask for, by their database and by themselves
@@ -37,28 +37,7 @@ module _ (dbd : Dbd) (all : IsHierarchy dbd.types) (rows : List Row) (valid : Ar
       → first_after dbd.types ssas place (record_of key rows) ≡ first_after dbd.types ssas place rows
   asked_alone ssas place key e = asked_in_record dbd.types all ssas place key rows row_paths e
 
-  -- the search begins at the record of the place
-  pub search_starts : (ssas : List Ssa) (place : Option (List (ℕ × List ℕ))) → IfSome place (IsPath dbd.types)
-      → first_after dbd.types ssas place (rows_from_root (first_root place rows) rows) ≡ first_after dbd.types ssas place rows
-  search_starts ssas None h = ap (first_after dbd.types ssas None) (all_from dbd all rows valid)
-  search_starts ssas (Some path) h = after_in_later dbd.types all ssas path rows h row_paths
-
-  -- it ends in the record that has the row
-  pub search_ends : (ssas : List Ssa) (place : Option (List (ℕ × List ℕ))) (root : List ℕ) (row : Row) → first_after dbd.types ssas place (record_of root rows) ≡ Some row
-      → first_after dbd.types ssas place (rows_from_root (Some root) rows) ≡ Some row
-  search_ends ssas place root row e =
-      ap (first_after dbd.types ssas place) (from_root root rows (rows_rising dbd all rows valid))
-      ∙ find_front (λ r. is_after place r.path && fits dbd.types ssas r.path) (record_of root rows) (rows_after root rows) row e
-
-  -- else it goes on to the next root
-  pub search_goes : (ssas : List Ssa) (place : Option (List (ℕ × List ℕ))) (root : List ℕ) → first_after dbd.types ssas place (record_of root rows) ≡ None
-      → first_after dbd.types ssas place (rows_from_root (next_root rows (Some root)) rows) ≡ first_after dbd.types ssas place (rows_from_root (Some root) rows)
-  search_goes ssas place root e =
-      sym (ap (first_after dbd.types ssas place) (from_root root rows (rows_rising dbd all rows valid))
-      ∙ (find_back (λ r. is_after place r.path && fits dbd.types ssas r.path) (record_of root rows) (rows_after root rows) e
-      ∙ ap (first_after dbd.types ssas place) (after_root dbd all rows valid root)))
-
-  -- and less is left
+  -- less is left behind a root
   pub fewer_left : (root : List ℕ) → roots_left (next_root rows (Some root)) rows < roots_left (Some root) rows
   fewer_left root = by (find (λ r. is_lt (key_cmp root (root_of r.path))) rows) refl
     where

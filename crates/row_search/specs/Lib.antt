@@ -1,5 +1,4 @@
 pub mod Walk
-pub mod LentRecord
 pub mod Arguments
 pub mod AskedArguments
 pub use Rattle.model_data.specs.GetCalls

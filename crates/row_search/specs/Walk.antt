@@ -3,12 +3,7 @@ use Rattle.std.specs.Prelude.{ℕ, suc, not, List, [], Option, None, Some, lengt
 use Rattle.std.specs.Ordering.{is_gt}
 use Rattle.model_data.specs.declared.row.Row.{Row}
 use Rattle.model_data.specs.Path.{key_cmp, root_of}
-use Rattle.model_data.specs.Rows.{rows_after, next_root}
-
--- the root of the record at which a search from a place begins
-abbrev pub first_root : Option (List (ℕ × List ℕ)) → List Row → Option (List ℕ)
-first_root None rows = next_root rows None
-first_root (Some path) rows = Some (root_of path)
+use Rattle.model_data.specs.Rows.{rows_after}
 
 -- the rows of the records from this root on
 abbrev pub rows_from_root : Option (List ℕ) → List Row → List Row

@@ -1,16 +1,10 @@
-//! Looking for rows, record by record.
-ghost use Rattle.std.specs.Prelude.{◌≡◌, ◌≤◌, ◌&&◌, Some, length, IfSome, OnSome};
+//! Looking for rows among those of a record.
+ghost use Rattle.std.specs.Prelude.{◌≡◌, ◌&&◌, Some};
 ghost use Rattle.std.specs.Option.{option_copied};
-ghost use Rattle.model_data.specs.Path.{IsPath};
-ghost use Rattle.model_data.specs.Rows.{record_of, next_root, AreRows};
-ghost use Rattle.row_search.specs.LentRecord.{lent_root, IsLentOf};
-ghost use Rattle.row_search.specs.Walk.{first_root};
 ghost use Rattle.model_data.specs.Search.{is_after, is_within, is_path_below, is_row_there, first_after, first_below};
 
-use crate::asked::{Asked, asked_root};
+use crate::asked::Asked;
 use model_data::{Path, Row};
-use seg_rows::Rows;
-use tm_types::{Dbd, Key, Ssa};
 
 /// Whether a segment stands after a place; without a place each one does.
 fn is_after(place: Option<&Path>, path: &Path) -> bool
@@ -41,13 +35,6 @@ fn is_next_below(place: Option<&Path>, parent: &Path, path: &Path) -> bool
     is_after(place, path) && is_after(Some(parent), path) && is_below(parent, path)
 }
 
-/// A record as it is lent: the key of its root, and its rows from the root on.
-#[derive(Clone, Copy, Debug)]
-pub struct LentRecord<'a> {
-    pub root: Key,
-    pub rows: &'a [Row],
-}
-
 /// The first of these rows after the place that fits.
 pub fn first_after<'a>(asked: &Asked, place: Option<&Path>, rows: &'a [Row]) -> Option<&'a Row>
     ensures { option_copied result ≡ first_after asked.now.dbd.types asked.now.ssas (option_copied place.entry) rows.now }
@@ -60,100 +47,8 @@ pub fn first_after<'a>(asked: &Asked, place: Option<&Path>, rows: &'a [Row]) -> 
     None
 }
 
-/// The first row of the record of this root after the place that fits.
-pub fn first_in_record<'a, R: Rows>(
-    asked: &Asked,
-    place: Option<&Path>,
-    rows: &'a R,
-    root: &Key,
-) -> Option<&'a Row>
-    ensures value { option_copied result ≡ first_after asked.now.dbd.types asked.now.ssas (option_copied place.entry) (record_of root.now (R.rows rows.now)) }
-    ensures valid { AreRows (R.database rows.now) (R.rows rows.now) }
-{
-    first_after(asked, place, record_rows(root, rows))
-}
-
-/// The first row of the database after the place that fits. Where the first argument asks for one
-/// root by its key, that record alone is looked at; else the record of the place, and those after
-/// it up to the row.
-pub fn first_row<'a, R: Rows>(
-    dbd: &Dbd,
-    ssas: &[Ssa],
-    place: Option<&Path>,
-    rows: &'a R,
-) -> Option<&'a Row>
-    requires types { length dbd.now.types ≤ 255 }
-    requires rows { R.database rows.now ≡ dbd.now }
-    requires place { IfSome (option_copied place) (IsPath dbd.now.types) }
-    ensures value { option_copied result ≡ first_after dbd.now.types ssas.now (option_copied place.entry) (R.rows rows.now) }
-    ensures valid { OnSome result (AreRows (R.database rows.now) (R.rows rows.now)) }
-{
-    let types = &dbd.types;
-    let asked = Asked::of(dbd, ssas);
-    if let Some(root) = asked_root(types, ssas) {
-        return first_in_record(&asked, place, rows, &root);
-    }
-    let mut next = first_record(place, rows);
-    while let Some(lent) = next {
-        if let Some(row) = first_after(&asked, place, lent.rows) {
-            return Some(row);
-        }
-        next = next_record(Some(&lent.root), rows);
-    }
-    None
-}
-
-/// The record at which a search from this place begins. It has no rows where the place is in none.
-fn first_record<'a, R: Rows>(place: Option<&Path>, rows: &'a R) -> Option<LentRecord<'a>>
-    requires { IfSome (option_copied place) (λ path. 1 ≤ length path) }
-    ensures root { lent_root result ≡ first_root (option_copied place.entry) (R.rows rows.now) }
-    ensures rows { IfSome result (IsLentOf (R.rows rows.now)) }
-    ensures valid { AreRows (R.database rows.now) (R.rows rows.now) }
-{
-    let Some(path) = place else {
-        return next_record(None, rows);
-    };
-    let Some(root) = path.root() else {
-        unreachable!()
-    };
-    Some(LentRecord {
-        root,
-        rows: record_rows(&root, rows),
-    })
-}
-
-/// The record of the first root after this key, or of all.
-pub fn next_record<'a, R: Rows>(after: Option<&Key>, rows: &'a R) -> Option<LentRecord<'a>>
-    ensures root { lent_root result ≡ next_root (R.rows rows.now) (option_copied after.entry) }
-    ensures rows { IfSome result (IsLentOf (R.rows rows.now)) }
-    ensures valid { AreRows (R.database rows.now) (R.rows rows.now) }
-{
-    let image = rows.next_record(after)?;
-    let Some(root) = image.root() else {
-        unreachable!()
-    };
-    Some(LentRecord {
-        root,
-        rows: image.as_slice(),
-    })
-}
-
-/// Whether there is a row with this path.
-pub fn is_there<R: Rows>(path: &Path, rows: &R) -> bool
-    requires { 1 ≤ length path.now }
-    ensures value { result ≡ is_row_there path.now (R.rows rows.now) }
-    ensures valid { AreRows (R.database rows.now) (R.rows rows.now) }
-{
-    let Some(root) = path.root() else {
-        unreachable!()
-    };
-    match rows.record(&root) {
-        Some(image) => has_path(path, image.as_slice()),
-        None => false,
-    }
-}
-
-fn has_path(path: &Path, rows: &[Row]) -> bool
+/// Whether one of these rows has this path.
+pub fn has_path(path: &Path, rows: &[Row]) -> bool
     ensures { result ≡ is_row_there path.now rows.now }
 {
     for row in rows {
@@ -164,27 +59,8 @@ fn has_path(path: &Path, rows: &[Row]) -> bool
     false
 }
 
-/// The first row of the database after the place, below this parent, that fits. The parent's record
-/// alone is looked at.
-pub fn first_row_below<'a, R: Rows>(
-    dbd: &Dbd,
-    ssas: &[Ssa],
-    place: Option<&Path>,
-    parent: &Path,
-    rows: &'a R,
-) -> Option<&'a Row>
-    requires types { length dbd.now.types ≤ 255 }
-    requires rows { R.database rows.now ≡ dbd.now }
-    requires parent { IsPath dbd.now.types parent.now }
-    ensures value { option_copied result ≡ first_below dbd.now.types ssas.now (option_copied place.entry) parent.now (R.rows rows.now) }
-    ensures valid { OnSome result (AreRows (R.database rows.now) (R.rows rows.now)) }
-{
-    let root = parent.root()?;
-    let asked = Asked::of(dbd, ssas);
-    first_below(&asked, place, parent, record_rows(&root, rows))
-}
-
-fn first_below<'a>(
+/// The first of these rows after the place, below this parent, that fits.
+pub fn first_below<'a>(
     asked: &Asked,
     place: Option<&Path>,
     parent: &Path,
@@ -198,15 +74,4 @@ fn first_below<'a>(
         }
     }
     None
-}
-
-/// The rows of the record of this root; none where there is no such record.
-pub fn record_rows<'a, R: Rows>(root: &Key, rows: &'a R) -> &'a [Row]
-    ensures value { result.now ≡ record_of root.now (R.rows rows.now) }
-    ensures valid { AreRows (R.database rows.now) (R.rows rows.now) }
-{
-    match rows.record(root) {
-        Some(image) => image.as_slice(),
-        None => &[],
-    }
 }

@@ -1,29 +1,27 @@
 -- Records that are kept by their roots, and what a change of one leaves.
-use Rattle.std.proofs.Common.{◌≡◌, ◌≢◌, ℕ, ◌+◌, ◌≤◌, ◌<◌, ◌∷◌, [], List, length, refl, sym, ◌∙◌, ap, subst, Bool, true, false, cond, ◌&&◌, not, Option, None, Some, arith, eqb, leb, ⊎_elim, suc, Bor, ◌↔◌}
+use Rattle.std.proofs.Common.{◌≡◌, ◌≢◌, ℕ, ◌+◌, ◌≤◌, ◌<◌, ◌∷◌, [], List, length, refl, sym, ◌∙◌, ap, subst, Bool, true, false, cond, ◌&&◌, not, Option, None, Some, Ok, arith, eqb, leb, ⊎_elim, suc, Bor, ◌↔◌}
 use Rattle.std.specs.List.{slice_get, find, filter}
 use Rattle.std.specs.List.Sorted.{IsStrictlySortedBy}
-use Rattle.std.specs.Option.{unwrap_or, option_map, is_some, IfSome, IsNone}
-use Rattle.std.specs.Ordering.{match_ordering, is_eq, is_lt}
+use Rattle.std.specs.Option.{unwrap_or, option_copied, option_map, is_some}
+use Rattle.std.specs.Ordering.{match_ordering}
 use Rattle.std.specs.declared.cmp.Ordering.{Ordering}
 use Rattle.std.specs.declared.cmp.Ordering.TheVariants.{Less, Equal, Greater}
 use Rattle.std.specs.BTreeMap.{insert_entry, is_at}
 use Rattle.std.specs.Map.{keys_of, lookup, remove_entry}
 use Rattle.std.proofs.lemmas.Map.Lookups.{exact_bytes}
-use Rattle.std.proofs.lemmas.Bool.{false≢true, eq-eqb, ne_eqb, cond-true, cond-false, lt-ltb, le-ltb, leb-false, cases_lt}
+use Rattle.std.proofs.lemmas.Bool.{eq-eqb, ne_eqb, cond-true, cond-false, lt-ltb, le-ltb, leb-false, cases_lt}
 use Rattle.tm_types.specs.declared.dbd.Dbd.{Dbd}
 use Rattle.model_data.specs.declared.row.Row.{Row}
 use Rattle.model_data.specs.Path.{key_cmp}
 use Rattle.model_data.specs.Record.{IsRecord, rows_spelling, record_limit}
-use Rattle.model_data.specs.Rows.{record_of, with_record, roots, next_root, rows_of_records, IsImage, passes_roots, passes_length, AreRows}
+use Rattle.model_data.specs.Rows.{record_of, with_record, roots, rows_of_records, IsImage, passes_roots, passes_length, AreRows}
 use Rattle.model_data.proofs.Entries.{entries_record, entries_insert, entries_remove}
 use Rattle.model_data.proofs.Roots.{AreRecords, records_rooted, entries_roots, entries_rows}
-use Rattle.std.proofs.lemmas.Cmp.{tied_itself}
-use Rattle.model_data.proofs.Order.{key_total}
 use Rattle.model_data.proofs.Records.{is_eq-true}
 use Rattle.seg_rows.specs.PlainRows.{ArePlainRowsKept}
-use Rattle.seg_rows.specs.NextRecord.{next_record}
-use Rattle.seg_rows.specs.StoreRefused.{set_refusal}
-use Rattle.seg_rows.specs.declared.rows.StoreRefused.TheVariants.{RootLimit, RecordTooLong}
+use Rattle.seg_rows.specs.ReadRows.{IsRecordRead, TellsRecord}
+use Rattle.seg_rows.specs.RowsRefused.{set_refusal}
+use Rattle.seg_rows.specs.declared.rows.RowsRefused.TheVariants.{RootLimit, RecordTooLong}
 
 pub kept_rows : (dbd : Dbd) (es : List (List ℕ × List Row)) → ArePlainRowsKept dbd es → AreRows dbd (rows_of_records es)
 kept_rows dbd es h = entries_rows dbd h.types es h.ascending h.each h.few
@@ -31,14 +29,17 @@ kept_rows dbd es h = entries_rows dbd h.types es h.ascending h.each h.few
 pub kept_record : (dbd : Dbd) (es : List (List ℕ × List Row)) (root : List ℕ) → ArePlainRowsKept dbd es → record_of root (rows_of_records es) ≡ unwrap_or (lookup (is_at (key_cmp root)) es) []
 kept_record dbd es root h = entries_record root es h.ascending (records_rooted dbd es h.each)
 
--- an image that is found has rows
-found_some : (dbd : Dbd) (es : List (List ℕ × List Row)) (root : List ℕ) (image : List Row) → AreRecords dbd es → lookup (is_at (key_cmp root)) es ≡ Some image → image ≢ []
-found_some dbd [] root image h e = let clash : None ≡ Some image = e in absurd (cc)
-found_some dbd (f ∷ es) root image h e = by (is_at (key_cmp root) f.0) refl e (found_some dbd es root image h.1)
+-- an image that is found is a record of the root
+found_valid : (dbd : Dbd) (es : List (List ℕ × List Row)) (root : List ℕ) (image : List Row) → AreRecords dbd es → lookup (is_at (key_cmp root)) es ≡ Some image → IsRecord dbd root image
+found_valid dbd [] root image h e = let clash : None ≡ Some image = e in absurd (cc)
+found_valid dbd (f ∷ es) root image h e = by (is_at (key_cmp root) f.0) refl e (found_valid dbd es root image h.1)
   where
     by : (b : Bool) → is_at (key_cmp root) f.0 ≡ b → cond b (Some f.1) (lookup (is_at (key_cmp root)) es) ≡ Some image
-        → (lookup (is_at (key_cmp root)) es ≡ Some image → image ≢ []) → image ≢ []
-    by true q g rec = λ none. h.0.whole.some (let same : Some f.1 ≡ Some image = g in let parts : f.1 ≡ image = cc in parts ∙ none)
+        → (lookup (is_at (key_cmp root)) es ≡ Some image → IsRecord dbd root image) → IsRecord dbd root image
+    by true q g rec =
+        let same : Some f.1 ≡ Some image = g in
+        let parts : f.1 ≡ image = cc in
+        subst (λ rows. IsRecord dbd root rows) parts (subst (λ key. IsRecord dbd key f.1) (sym (exact_bytes root f.0 (is_eq-true _ q))) h.0)
     by false q g rec = rec g
 
 -- the look-up tells the record, and that there is none
@@ -52,7 +53,7 @@ kept_none dbd es root h e = kept_record dbd es root h ∙ ap (λ o. unwrap_or o 
 
 pub kept_some : (dbd : Dbd) (es : List (List ℕ × List Row)) (root : List ℕ) (image : List Row) → ArePlainRowsKept dbd es → lookup (is_at (key_cmp root)) es ≡ Some image
     → record_of root (rows_of_records es) ≢ []
-kept_some dbd es root image h e none = found_some dbd es root image h.each e (sym (kept_found dbd es root image h e) ∙ none)
+kept_some dbd es root image h e none = (found_valid dbd es root image h.each e).whole.some (sym (kept_found dbd es root image h e) ∙ none)
 
 length_keys : (es : List (List ℕ × List Row)) → length (keys_of es) ≡ length es
 length_keys [] = refl
@@ -160,15 +161,20 @@ pub kept_roots : (dbd : Dbd) (es : List (List ℕ × List Row)) → ArePlainRows
 kept_roots dbd es h = entries_roots dbd h.types es h.each
 
 -- what a look-up that lends shows
-pub shows_record : (dbd : Dbd) (es : List (List ℕ × List Row)) (root : List ℕ) → ArePlainRowsKept dbd es → (r : Option (Bor (List Row)))
-    → option_map (λ b. b.now) r ≡ lookup (is_at (key_cmp root)) es → IfSome r (λ image. image.now ≡ record_of root (rows_of_records es))
-shows_record dbd es root h None e = tt
-shows_record dbd es root h (Some b) e = sym (kept_found dbd es root b.now h (sym e))
+pub read_answer : (dbd : Dbd) (es : List (List ℕ × List Row)) (root : List ℕ) → ArePlainRowsKept dbd es → (r : Option (Bor (List Row)))
+    → option_copied r ≡ lookup (is_at (key_cmp root)) es → IsRecordRead dbd true root (rows_of_records es) (Ok r)
+read_answer dbd es root h None e = kept_none dbd es root h (sym e)
+read_answer dbd es root h (Some b) e =
+    record {
+      valid = found_valid dbd es root b.now h.each (sym e);
+      there = kept_some dbd es root b.now h (sym e);
+      told = λ told. sym (kept_found dbd es root b.now h (sym e));
+    }
 
-pub shows_none : (dbd : Dbd) (es : List (List ℕ × List Row)) (root : List ℕ) → ArePlainRowsKept dbd es → (r : Option (Bor (List Row)))
-    → option_map (λ b. b.now) r ≡ lookup (is_at (key_cmp root)) es → IsNone r ↔ (record_of root (rows_of_records es) ≡ [])
-shows_none dbd es root h None e = (λ _. kept_none dbd es root h (sym e), λ _. refl)
-shows_none dbd es root h (Some b) e = (λ n. let clash : true ≡ false = n in absurd (cc), λ none. absurd (kept_some dbd es root b.now h (sym e) none))
+pub read_tells : (dbd : Dbd) (es : List (List ℕ × List Row)) (root : List ℕ) → ArePlainRowsKept dbd es → (r : Option (Bor (List Row)))
+    → option_copied r ≡ lookup (is_at (key_cmp root)) es → TellsRecord root (rows_of_records es) (Ok r)
+read_tells dbd es root h None e = kept_none dbd es root h (sym e)
+read_tells dbd es root h (Some b) e = kept_found dbd es root b.now h (sym e)
 
 -- a test that says no says that the bound is passed
 pub passed : (b : Bool) (m n : ℕ) → (b ≡ true) ↔ (m ≤ n) → b ≡ false → n < m
@@ -204,76 +210,3 @@ range_first f es found rest key x e g = sym (range_key f es ∙ ap (λ xs. optio
 pub range_empty : {X : Type 0} (f : List ℕ → Bool) (es found : List (List ℕ × X)) → found ≡ filter (λ e. f e.0 && not false) es
     → found ≡ [] → None ≡ find f (keys_of es)
 range_empty f es found e g = sym (range_key f es ∙ ap (λ xs. option_map (λ e'. e'.0) (slice_get xs 0)) (sym e ∙ g))
-
--- and the first of the entries in a range is the first one whose key passes
-range_find : {X : Type 0} (f : List ℕ → Bool) (es : List (List ℕ × X)) → find (λ e. f e.0) es ≡ slice_get (filter (λ e. f e.0 && not false) es) 0
-range_find f [] = refl
-range_find f (e ∷ es) =
-    elim (f e.0) as (λ b. cond b (Some e) (find (λ e'. f e'.0) es) ≡ slice_get (cond (b && not false) (e ∷ filter (λ e'. f e'.0 && not false) es) (filter (λ e'. f e'.0 && not false) es)) 0) [
-      | true ↦ refl
-      | false ↦ range_find f es
-    ]
-
-pub range_entry : {X : Type 0} (f : List ℕ → Bool) (es found rest : List (List ℕ × X)) (key : List ℕ) (x : X) → found ≡ filter (λ e. f e.0 && not false) es
-    → found ≡ (key, x) ∷ rest → Some x ≡ option_map (λ e. e.1) (find (λ e. f e.0) es)
-range_entry f es found rest key x e g = ap (λ o. option_map (λ e'. e'.1) o) (sym (range_find f es ∙ ap (λ xs. slice_get xs 0) (sym e ∙ g)))
-
-pub range_none : {X : Type 0} (f : List ℕ → Bool) (es found : List (List ℕ × X)) → found ≡ filter (λ e. f e.0 && not false) es
-    → found ≡ [] → None ≡ option_map (λ e. e.1) (find (λ e. f e.0) es)
-range_none f es found e g = ap (λ o. option_map (λ e'. e'.1) o) (sym (range_find f es ∙ ap (λ xs. slice_get xs 0) (sym e ∙ g)))
-
-find_passes : {A : Type 0} (p : A → Bool) (xs : List A) (x : A) → find p xs ≡ Some x → p x ≡ true
-find_passes p [] x e = let clash : None ≡ Some x = e in absurd (cc)
-find_passes p (z ∷ xs) x e = by (p z) refl e (find_passes p xs x)
-  where
-    by : (b : Bool) → p z ≡ b → cond b (Some z) (find p xs) ≡ Some x → (find p xs ≡ Some x → p x ≡ true) → p x ≡ true
-    by true q g rec = let same : Some z ≡ Some x = g in let parts : z ≡ x = cc in ap p (sym parts) ∙ q
-    by false q g rec = rec g
-
--- the image of the first entry whose key passes is what its key finds
-pub image_found : (f : List ℕ → Bool) (es : List (List ℕ × List Row))
-    → option_map (λ e. e.1) (find (λ e. f e.0) es) ≡ option_map (λ root. unwrap_or (lookup (is_at (key_cmp root)) es) []) (find f (keys_of es))
-image_found f [] = refl
-image_found f (e ∷ es) = by (f e.0) refl (image_found f es)
-  where
-    at : List (List ℕ × List Row) → List ℕ → List Row
-    at fs root = unwrap_or (lookup (is_at (key_cmp root)) fs) []
-
-    other : (o : Option (List ℕ)) → find f (keys_of es) ≡ o → f e.0 ≡ false → option_map (at es) o ≡ option_map (at (e ∷ es)) o
-    other None h fails = refl
-    other (Some key) h fails = apart (is_at (key_cmp key) e.0) refl
-      where
-        apart : (b : Bool) → is_at (key_cmp key) e.0 ≡ b → option_map (at es) (Some key) ≡ option_map (at (e ∷ es)) (Some key)
-        apart true q =
-            absurd (false≢true (sym fails ∙ (ap f (sym (exact_bytes key e.0 (is_eq-true _ q))) ∙ find_passes f (keys_of es) key h)))
-        apart false q = ap (λ b. Some (unwrap_or (cond b (Some e.1) (lookup (is_at (key_cmp key)) es)) [])) (sym q)
-
-    by : (b : Bool) → f e.0 ≡ b → option_map (λ e'. e'.1) (find (λ e'. f e'.0) es) ≡ option_map (at es) (find f (keys_of es))
-        → option_map (λ e'. e'.1) (cond (f e.0) (Some e) (find (λ e'. f e'.0) es)) ≡ option_map (at (e ∷ es)) (cond (f e.0) (Some e.0) (find f (keys_of es)))
-    by true q rec =
-        ap (λ b. option_map (λ e'. e'.1) (cond b (Some e) (find (λ e'. f e'.0) es))) q
-        ∙ (ap (λ o. Some (unwrap_or (cond (is_eq o) (Some e.1) (lookup (is_at (key_cmp e.0)) es)) [])) (sym (tied_itself key_total e.0))
-        ∙ ap (λ b. option_map (at (e ∷ es)) (cond b (Some e.0) (find f (keys_of es)))) (sym q))
-    by false q rec =
-        ap (λ b. option_map (λ e'. e'.1) (cond b (Some e) (find (λ e'. f e'.0) es))) q
-        ∙ (rec
-        ∙ (other (find f (keys_of es)) refl q
-        ∙ ap (λ b. option_map (at (e ∷ es)) (cond b (Some e.0) (find f (keys_of es)))) (sym q)))
-
--- so it is the record of the first root after a key, or of all
-pub kept_next : (dbd : Dbd) (es : List (List ℕ × List Row)) (key : List ℕ) → ArePlainRowsKept dbd es
-    → option_map (λ e. e.1) (find (λ e. is_lt (key_cmp key e.0)) es) ≡ next_record (rows_of_records es) (Some key)
-kept_next dbd es key h =
-    image_found (λ other. is_lt (key_cmp key other)) es
-    ∙ (ap (λ keys. option_map (λ root. unwrap_or (lookup (is_at (key_cmp root)) es) []) (find (λ other. is_lt (key_cmp key other)) keys)) (sym (kept_roots dbd es h))
-    ∙ ap (λ g. option_map g (next_root (rows_of_records es) (Some key))) (λ i root. sym (kept_record dbd es root h) i))
-
-pub kept_first : (dbd : Dbd) (es : List (List ℕ × List Row)) → ArePlainRowsKept dbd es → option_map (λ e. e.1) (slice_get es 0) ≡ next_record (rows_of_records es) None
-kept_first dbd es h =
-    first es
-    ∙ (ap (λ keys. option_map (λ root. unwrap_or (lookup (is_at (key_cmp root)) es) []) (slice_get keys 0)) (sym (kept_roots dbd es h))
-    ∙ ap (λ g. option_map g (next_root (rows_of_records es) None)) (λ i root. sym (kept_record dbd es root h) i))
-  where
-    first : (fs : List (List ℕ × List Row)) → option_map (λ e. e.1) (slice_get fs 0) ≡ option_map (λ root. unwrap_or (lookup (is_at (key_cmp root)) fs) []) (slice_get (keys_of fs) 0)
-    first [] = refl
-    first (e ∷ fs) = ap (λ o. Some (unwrap_or (cond (is_eq o) (Some e.1) (lookup (is_at (key_cmp e.0)) fs)) [])) (sym (tied_itself key_total e.0))

@@ -1,8 +1,8 @@
 pub mod EncodeRefused
 pub mod DecodeFault
-pub mod StoreRefused
+pub mod RowsRefused
+pub mod ReadRows
 pub mod PlainRows
-pub mod NextRecord
 pub use Rattle.model_data.specs.Path
 pub use Rattle.model_data.specs.Record
 pub use Rattle.model_data.specs.Rows

@@ -6,7 +6,7 @@ ghost use Rattle.std.specs.BTreeMap.{keys, get_by, btree_map_len, IsOrdered};
 ghost use Rattle.model_data.specs.Path.{key_cmp};
 
 use crate::encode::record_limit;
-use crate::{RecordImage, Rows, StoreRefused};
+use crate::{RecordImage, Rows, RowsRefused};
 use std::alloc::Global;
 use std::collections::BTreeMap;
 use std::marker::Model;
@@ -57,12 +57,27 @@ impl Clone for PlainRows {
 }
 
 impl Rows for PlainRows {
+    ghost use Rattle.std.specs.Prelude.{true};
+    ghost use Rattle.seg_rows.specs.PlainRows.{plain_none, plain_on, plain_same};
+
     ghost database = { λ p. p.dbd };
 
     ghost rows = { λ p. p.rows };
 
-    fn record(&self, root: &Key) -> Option<&RecordImage> {
-        self.records.get(root)
+    ghost tells = { λ p. true };
+
+    ghost faults = { λ p. 0 };
+
+    ghost reads = { λ a b. b ≡ a };
+
+    ghost read_none = { plain_none };
+
+    ghost read_on = { plain_on };
+
+    ghost read_same = { plain_same };
+
+    fn record(&mut self, root: &Key) -> Result<Option<&RecordImage>, RowsRefused> {
+        Ok(self.records.get(root))
     }
 
     fn next_root(&self, after: Option<&Key>) -> Option<Key> {
@@ -72,27 +87,20 @@ impl Rows for PlainRows {
         }
     }
 
-    fn next_record(&self, after: Option<&Key>) -> Option<&RecordImage> {
-        match after {
-            None => first_image(&self.records),
-            Some(key) => image_after(&self.records, key),
-        }
-    }
-
-    fn set(&mut self, root: &Key, image: RecordImage) -> Result<(), StoreRefused> {
+    fn set(&mut self, root: &Key, image: RecordImage) -> Result<(), RowsRefused> {
         if image.is_empty() {
             self.records.remove(root);
             return Ok(());
         }
         if is_full(&self.records, root, self.dbd.roots) {
-            return Err(StoreRefused::RootLimit);
+            return Err(RowsRefused::RootLimit);
         }
         if !image.fits(record_limit(&self.dbd)) {
-            return Err(StoreRefused::RecordTooLong);
+            return Err(RowsRefused::RecordTooLong);
         }
         match self.records.insert(*root, image) {
             Ok(_) => Ok(()),
-            Err(_) => Err(StoreRefused::Memory),
+            Err(_) => Err(RowsRefused::Memory),
         }
     }
 }
@@ -122,26 +130,6 @@ fn key_after(records: &BTreeMap<Key, RecordImage>, key: &Key) -> Option<Key>
     let mut later = records.range((Bound::Excluded(*key), Bound::Unbounded));
     match later.next() {
         Some((other, _)) => Some(*other),
-        None => None,
-    }
-}
-
-fn first_image(records: &BTreeMap<Key, RecordImage>) -> Option<&RecordImage>
-    ensures { option_copied result ≡ option_map (λ e. e.1) (slice_get records.now.entries 0) }
-{
-    match records.first_key_value() {
-        Some((_, image)) => Some(image),
-        None => None,
-    }
-}
-
-// The image of the first key after this one.
-fn image_after<'a>(records: &'a BTreeMap<Key, RecordImage>, key: &Key) -> Option<&'a RecordImage>
-    ensures { option_copied result ≡ option_map (λ e. e.1) (find (λ e. is_lt (key_cmp key.now e.0)) records.now.entries) }
-{
-    let mut later = records.range((Bound::Excluded(*key), Bound::Unbounded));
-    match later.next() {
-        Some((_, image)) => Some(image),
         None => None,
     }
 }

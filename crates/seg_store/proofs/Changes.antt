@@ -1,6 +1,6 @@
 -- The numbers of changed slots, and what one more leaves.
 use Rattle.std.proofs.Common.{◌≡◌, ℕ, ◌+◌, ◌-◌, ◌≤◌, ◌<◌, ◌∷◌, [], List, length, refl, sym, ◌∙◌, ap, subst, Bool, true, false, cond, None, Some, arith, suc, ltb, eqb}
-use Rattle.std.specs.List.{AllByRecursion, slice_get, insert}
+use Rattle.std.specs.List.{AllByRecursion, slice_get, insert, remove}
 use Rattle.std.specs.List.Sorted.{IsStrictlySortedBy}
 use Rattle.std.specs.Ordering.{nat_cmp}
 use Rattle.std.specs.Cmp.{nat_cmp_is}
@@ -8,6 +8,7 @@ use Rattle.std.specs.declared.cmp.Ordering.TheVariants.{Less}
 use Rattle.std.proofs.lemmas.Bool.{ltb-true, ltb-false, eqb-false, eq-eqb, ne_eqb}
 use Rattle.std.proofs.lemmas.Cmp.{ranked}
 use Rattle.seg_store.specs.ChangedSlots.{with_number, AreChanged}
+use Rattle.seg_store.specs.OneSlot.{without_number}
 use Rattle.seg_store.specs.Store.{count_below}
 
 -- a number that stands at its place is there already
@@ -122,3 +123,93 @@ module _ (roots : ℕ) (changed : List ℕ) (slot : ℕ) (h : AreChanged roots c
 pub changed_none : (roots : ℕ) (changed : List ℕ) → changed ≡ [] → AreChanged roots changed
 unfolding IsStrictlySortedBy
 changed_none roots changed e = subst (λ xs. AreChanged roots xs) (sym e) (record { ascending = tt; within = tt })
+
+-- ---- without a number
+
+later_stay : (n : ℕ) (xs : List ℕ) → AllByRecursion (λ x. nat_cmp n x ≡ Less) xs → without_number n xs ≡ xs
+later_stay n [] h = refl
+later_stay n (x ∷ xs) h =
+    let up : n < x = ranked n x Less (sym h.0) in
+    ap (λ b. cond b (without_number n xs) (x ∷ without_number n xs)) (ne_eqb x n (λ e. omega (arith, up, e)))
+    ∙ ap (λ ys. x ∷ ys) (later_stay n xs h.1)
+
+-- a number that stands at its place is taken out there
+pub number_out : (n : ℕ) (xs : List ℕ) → IsStrictlySortedBy nat_cmp xs → slice_get xs (count_below n xs) ≡ Some n → remove xs (count_below n xs) ≡ without_number n xs
+unfolding IsStrictlySortedBy
+number_out n [] s e = let clash : None ≡ Some n = e in absurd (cc)
+number_out n (x ∷ xs) s e = by (ltb x n) refl (number_out n xs s.1)
+  where
+    goes : Bool → List ℕ
+    goes b = cond b (without_number n xs) (x ∷ without_number n xs)
+
+    place : Bool → ℕ
+    place b = cond b (1 + count_below n xs) 0
+
+    by : (b : Bool) → ltb x n ≡ b → (slice_get xs (count_below n xs) ≡ Some n → remove xs (count_below n xs) ≡ without_number n xs)
+        → remove (x ∷ xs) (place (ltb x n)) ≡ goes (eqb x n)
+    by true q rec =
+        let more : 1 + count_below n xs ≡ suc (count_below n xs) = omega arith in
+        let at : slice_get (x ∷ xs) (place (ltb x n)) ≡ Some n = e in
+        let lt : x < n = ltb-true x n q in
+        ap (λ b. remove (x ∷ xs) (place b)) q
+        ∙ (ap (λ p. remove (x ∷ xs) p) more
+        ∙ (ap (λ ys. x ∷ ys) (rec (sym (ap (λ b. slice_get (x ∷ xs) (place b)) q ∙ ap (slice_get (x ∷ xs)) more) ∙ at))
+        ∙ sym (ap goes (ne_eqb x n (λ same. omega (arith, lt, same))))))
+    by false q rec =
+        let at : slice_get (x ∷ xs) (place (ltb x n)) ≡ Some n = e in
+        let same : Some x ≡ Some n = sym (ap (λ b. slice_get (x ∷ xs) (place b)) q) ∙ at in
+        let one : x ≡ n = cc in
+        ap (λ b. remove (x ∷ xs) (place b)) q
+        ∙ sym (ap goes (eq-eqb x n one) ∙ later_stay n xs (subst (λ m. AllByRecursion (λ y. nat_cmp m y ≡ Less) xs) one s.0))
+
+-- and where it doesn't, it isn't there
+pub number_absent : (n : ℕ) (xs : List ℕ) → IsStrictlySortedBy nat_cmp xs → (slice_get xs (count_below n xs) ≡ Some n → ⊥) → without_number n xs ≡ xs
+unfolding IsStrictlySortedBy
+number_absent n [] s h = refl
+number_absent n (x ∷ xs) s h = by (ltb x n) refl (number_absent n xs s.1)
+  where
+    goes : Bool → List ℕ
+    goes b = cond b (without_number n xs) (x ∷ without_number n xs)
+
+    place : Bool → ℕ
+    place b = cond b (1 + count_below n xs) 0
+
+    by : (b : Bool) → ltb x n ≡ b → ((slice_get xs (count_below n xs) ≡ Some n → ⊥) → without_number n xs ≡ xs) → goes (eqb x n) ≡ x ∷ xs
+    by true q rec =
+        let more : 1 + count_below n xs ≡ suc (count_below n xs) = omega arith in
+        let lt : x < n = ltb-true x n q in
+        ap goes (ne_eqb x n (λ same. omega (arith, lt, same)))
+        ∙ ap (λ ys. x ∷ ys) (rec (λ e. h (ap (λ b. slice_get (x ∷ xs) (place b)) q ∙ (ap (slice_get (x ∷ xs)) more ∙ e))))
+    by false q rec =
+        let other : x ≡ n → ⊥ = λ e. h (ap (λ b. slice_get (x ∷ xs) (place b)) q ∙ ap Some e) in
+        let lt : n < x = omega (arith, ltb-false x n q, eqb-false x n (ne_eqb x n other)) in
+        ap goes (ne_eqb x n other) ∙ ap (λ ys. x ∷ ys) (later_stay n xs (less_then n x xs lt s.0))
+
+without_all : (P : ℕ → Type 0) (n : ℕ) (xs : List ℕ) → AllByRecursion P xs → AllByRecursion P (without_number n xs)
+without_all P n [] h = tt
+without_all P n (x ∷ xs) h =
+    elim (eqb x n) as (λ b. AllByRecursion P (cond b (without_number n xs) (x ∷ without_number n xs))) [
+      | true ↦ without_all P n xs h.1
+      | false ↦ (h.0, without_all P n xs h.1)
+    ]
+
+without_sorted : (n : ℕ) (xs : List ℕ) → IsStrictlySortedBy nat_cmp xs → IsStrictlySortedBy nat_cmp (without_number n xs)
+unfolding IsStrictlySortedBy
+without_sorted n [] s = s
+without_sorted n (x ∷ xs) s =
+    elim (eqb x n) as (λ b. IsStrictlySortedBy nat_cmp (cond b (without_number n xs) (x ∷ without_number n xs))) [
+      | true ↦ without_sorted n xs s.1
+      | false ↦ (without_all (λ y. nat_cmp x y ≡ Less) n xs s.0, without_sorted n xs s.1)
+    ]
+
+pub changed_without : (roots : ℕ) (changed : List ℕ) (slot : ℕ) (changed' : List ℕ) → AreChanged roots changed → changed' ≡ without_number slot changed → AreChanged roots changed'
+changed_without roots changed slot changed' h e =
+    subst (λ xs. AreChanged roots xs) (sym e) (record {
+      ascending = without_sorted slot changed h.ascending;
+      within = without_all (λ x. x < roots) slot changed h.within;
+    })
+
+-- the lowest is taken out, and one fewer is left
+pub lowest_out : (roots n : ℕ) (xs : List ℕ) → AreChanged roots (n ∷ xs) → without_number n (n ∷ xs) ≡ xs
+unfolding IsStrictlySortedBy
+lowest_out roots n xs h = ap (λ b. cond b (without_number n xs) (n ∷ without_number n xs)) (eq-eqb n n refl) ∙ later_stay n xs (h.ascending.0)

@@ -12,3 +12,5 @@ mod Copied
 pub mod WritingBack
 pub mod Pieces
 pub mod SlotsWritten
+pub mod OneSlot
+pub mod ReadStore

@@ -24,8 +24,8 @@ use Rattle.model_data.proofs.Order.{key_total}
 use Rattle.model_data.proofs.Records.{is_eq-true}
 use Rattle.model_data.proofs.Entries.{entries_record, entries_insert, entries_remove}
 use Rattle.model_data.proofs.Roots.{AreRecords, records_rooted, entries_roots, entries_rows}
-use Rattle.seg_rows.specs.StoreRefused.{set_refusal}
-use Rattle.seg_rows.specs.declared.rows.StoreRefused.TheVariants.{RootLimit, RecordTooLong}
+use Rattle.seg_rows.specs.RowsRefused.{set_refusal}
+use Rattle.seg_rows.specs.declared.rows.RowsRefused.TheVariants.{RootLimit, RecordTooLong}
 use Rattle.seg_store.specs.Slots.{image_root, has_root, is_slot_free, AtMostOne, slot_of_root, lowest_free, first_slot_of, with_image, with_root, rows_of_slots, IsSlot, AreSlots, free_slots, without_root}
 use Rattle.seg_store.proofs.Places as places
 use Rattle.seg_store.proofs.Entries.{insert_sorted, lookup_insert, lookup_remove, remove_sorted, same_entries}

@@ -4,8 +4,9 @@ pub mod Stores
 pub mod DataSectors
 pub mod ChangedSlots
 pub mod WrittenSlots
+pub mod OneSlot
 pub use Rattle.model_data.specs.Path
 pub use Rattle.model_data.specs.Record
 pub use Rattle.model_data.specs.Rows
-pub use Rattle.seg_rows.specs.StoreRefused
+pub use Rattle.seg_rows.specs.RowsRefused
 pub use Rattle.tm_disk.specs.Disk

@@ -1,5 +1,6 @@
 -- How a store keeps its slots.
-use Rattle.std.specs.Prelude.{◌≡◌, ℕ, suc, ◌≤◌, nat_lt, List, [], ◌∷◌, Option, None, Some, slice_get, find}
+use Rattle.std.proofs.Common.{◌∙◌, ap, arith, refl, subst, sym}
+use Rattle.std.specs.Prelude.{◌≡◌, true, ℕ, suc, ◌≤◌, nat_lt, List, [], ◌∷◌, Option, None, Some, slice_get, find}
 use Rattle.std.specs.List.{prefix_len}
 use Rattle.std.specs.List.Sorted.{IsStrictlySortedBy}
 use Rattle.std.specs.Ordering.{is_lt}
@@ -8,8 +9,10 @@ use Rattle.std.specs.Map.{keys_of, lookup}
 use Rattle.tm_types.specs.declared.dbd.Dbd.{Dbd}
 use Rattle.model_data.specs.declared.row.Row.{Row}
 use Rattle.model_data.specs.Path.{key_cmp}
-use Rattle.seg_store.specs.Slots.{AreSlots, slot_of_root}
-use Rattle.seg_store.specs.ChangedSlots.{AreChanged}
+use Rattle.model_data.specs.Rows.{AreRows, roots}
+use Rattle.seg_rows.specs.ReadRows.{AreReadOn}
+use Rattle.seg_store.specs.Slots.{AreSlots, rows_of_slots, slot_of_root}
+use Rattle.seg_store.specs.ChangedSlots.{AreChanged, Kept}
 
 -- the numbers of the free slots, the first slot having this number
 abbrev pub free_numbers : ℕ → List (List Row) → List ℕ
@@ -40,3 +43,23 @@ pub record IsStoreKept (dbd : Dbd) (slots : List (List Row)) (index : List (List
   pub indexed : AreSlotsIndexed dbd slots index index_room free free_room
   pub changes : AreChanged dbd.roots changed
   pub changed_enough : dbd.roots ≤ changed_room
+
+-- reading leaves a store as it was
+pub store_none : (a : Kept) → a ≡ a
+store_none a = refl
+
+pub store_on : (a b c : Kept) → b ≡ a → c ≡ b → c ≡ a
+store_on a b c e f = f ∙ e
+
+pub store_same : (a b : Kept) → b ≡ a → AreReadOn a.dbd b.dbd (rows_of_slots a.slots) (rows_of_slots b.slots) true true 0 0
+store_same a b e =
+    record {
+      database = ap (λ (s : Kept). s.dbd) e;
+      rows = record {
+        valid = λ are. subst (λ (s : Kept). AreRows a.dbd (rows_of_slots s.slots)) (sym e) are;
+        roots = ap (λ (s : Kept). roots (rows_of_slots s.slots)) e;
+        told = λ told. ap (λ (s : Kept). rows_of_slots s.slots) e;
+      };
+      tells = refl;
+      faults = omega arith;
+    }

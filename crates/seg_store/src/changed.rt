@@ -4,6 +4,7 @@ ghost use Rattle.std.specs.List.Sorted.{IsStrictlySortedBy};
 ghost use Rattle.std.specs.Ordering.{nat_cmp};
 ghost use Rattle.std.specs.Vec.{vec_capacity};
 ghost use Rattle.seg_store.specs.ChangedSlots.{with_number};
+ghost use Rattle.seg_store.specs.OneSlot.{without_number};
 
 use crate::free::place_among;
 
@@ -21,6 +22,18 @@ pub fn add_changed(changed: &mut Vec<u16>, slot: u16)
     match changed.insert(place, slot) {
         Ok(()) => {}
         Err(_) => unreachable!(),
+    }
+}
+
+/// Takes a slot out, where it is there.
+pub fn take_changed(changed: &mut Vec<u16>, slot: u16)
+    requires ascending { IsStrictlySortedBy nat_cmp changed.old.items }
+    ensures items { changed.new.items ≡ without_number slot changed.old.items }
+    ensures room { vec_capacity changed.old ≤ vec_capacity changed.new }
+{
+    let place = place_among(changed, slot);
+    if is_at(changed, place, slot) {
+        changed.remove(place);
     }
 }
 

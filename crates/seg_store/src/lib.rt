@@ -6,12 +6,14 @@
 //! changed since they were last written, and `write_changed` writes each of them once, in ascending order, into as many
 //! sectors as the database has for a record: where the disk fails, the sectors in front are written and none behind.
 //! Whenever a crash comes, such a sector is as before or holds its piece of the record, and no other sector changes. A
-//! checkpoint lends the stores while it writes, and `settle` counts the slots as written behind its sync. A copy of a
-//! store, or of all of them, is the same, with the same slots changed.
+//! checkpoint lends the stores while it writes, and `settle` counts the slots as written behind its sync. The lowest
+//! changed slot is known, and one slot may be written by itself and counted as written. A copy of a store, or of all of
+//! them, is the same, with the same slots changed.
 #![tactic(auto)]
 
 pub use data_sectors::put_record;
 pub use record_bytes::RecordBytes;
+pub use slot_place::SlotPlace;
 pub use store::Store;
 pub use stores::Stores;
 
@@ -20,7 +22,9 @@ mod copying;
 mod data_sectors;
 mod free;
 mod index;
+mod one_slot;
 mod record_bytes;
+mod slot_place;
 mod store;
 mod stores;
 mod write_back;

@@ -1,22 +1,23 @@
 //! The store of one database.
-ghost use Rattle.std.specs.Prelude.{◌≡◌, ◌↔◌, ◌*◌, ◌+◌, ◌≤◌, ◌<◌, ◌≢◌, ℕ, [], IfOk, IfErr, OnOk, OnErr, IsOk, IsTrue, None, Some, slice_get, slice_set, length};
+ghost use Rattle.std.specs.Prelude.{◌≡◌, ◌↔◌, ◌*◌, ◌+◌, ◌≤◌, ◌<◌, ◌≢◌, ℕ, [], ◌∷◌, IfOk, IfErr, IfSome, OnOk, OnErr, IsOk, IsNone, IsTrue, None, Some, slice_get, slice_set, length};
 ghost use Rattle.std.specs.Vec.{vec_len};
 ghost use Rattle.std.specs.Option.{is_some, option_copied};
 ghost use Rattle.model_data.specs.Record.{IsRecord, IsLongRecord};
 ghost use Rattle.model_data.specs.Rows.{record_of, with_record, IsImage, AreRows};
-ghost use Rattle.seg_rows.specs.StoreRefused.{set_refusal};
+ghost use Rattle.seg_rows.specs.RowsRefused.{set_refusal};
 ghost use Rattle.tm_disk.specs.Disk.{Stays, Within, Follows, WritesAtMost, FailedSince};
 ghost use Rattle.seg_store.specs.ChangedSlots.{stored, with_number, with_changed_number, slot_changed, AreChanged};
-ghost use Rattle.seg_store.specs.DataSectors.{MayPut, HasPut, PutsFront};
+ghost use Rattle.seg_store.specs.DataSectors.{MayPut, HasPut, PutsFront, pieces_of, bytes_of_slots};
+ghost use Rattle.seg_store.specs.OneSlot.{without_number};
 ghost use Rattle.seg_store.specs.WrittenSlots.{pieces_kept};
 ghost use Rattle.seg_store.specs.Slots.{image_root, slot_of_root, lowest_free, slot_for, with_root, rows_of_slots, AreSlots, free_slots, without_root};
 
-use crate::changed::add_changed;
+use crate::changed::{add_changed, take_changed};
 use crate::copying::{copy_images, copy_list};
 use crate::data_sectors::put_slots;
 use crate::free::{add_slot, all_free, lowest, take_slot};
 use crate::index::{add_root, next_entry, slot_of, take_root};
-use seg_rows::{RecordImage, Rows, StoreRefused, record_limit};
+use seg_rows::{RecordImage, Rows, RowsRefused, record_limit};
 use std::alloc::Global;
 use std::marker::Model;
 use std::mem;
@@ -90,11 +91,30 @@ impl Store {
         u32::from(self.dbd.roots) * u32::from(self.dbd.sectors)
     }
 
+    /// How many sectors each slot has.
+    pub(crate) fn slot_sectors(&self) -> u32
+        ensures { result ≡ self.now.dbd.sectors }
+    {
+        u32::from(self.dbd.sectors)
+    }
+
     /// Whether there is a record with this root.
     pub fn has_record(&self, root: &Key) -> bool
         ensures { result ≡ is_some (slot_of_root root.now self.now.slots) }
     {
         slot_of(&self.index, root).is_some()
+    }
+
+    /// The record of this root, or None exactly where there is no such root.
+    pub fn find(&self, root: &Key) -> Option<&RecordImage>
+        ensures found { IfSome result (λ image. image.now ≡ record_of root.now (rows_of_slots self.now.slots)) }
+        ensures none { IsNone result ↔ (record_of root.now (rows_of_slots self.now.slots) ≡ []) }
+        ensures valid { AreRows self.now.dbd (rows_of_slots self.now.slots) }
+    {
+        match slot_of(&self.index, root) {
+            Some(slot) => Some(&self.slots[slot as usize]),
+            None => None,
+        }
     }
 
     /// The image in this slot, without rows where it is free; None exactly past the last slot.
@@ -110,6 +130,22 @@ impl Store {
         ensures { self.new ≡ record self.old { changed = [] } }
     {
         self.changed.clear();
+    }
+
+    /// This slot doesn't count as changed any more: what stands in its sectors is the caller's. This takes no memory.
+    pub fn settle_slot(&mut self, slot: u16)
+        ensures { self.new ≡ record self.old { changed = without_number slot self.old.changed } }
+    {
+        take_changed(&mut self.changed, slot);
+    }
+
+    /// The lowest changed slot; None exactly where none is changed.
+    pub fn lowest(&self) -> Option<u16>
+        ensures value { result ≡ slice_get self.now.changed 0 }
+        ensures valid { AreChanged self.now.dbd.roots self.now.changed }
+    {
+        let _roots = self.dbd.roots;
+        lowest(&self.changed)
     }
 
     /// How many slots are changed.
@@ -141,7 +177,7 @@ impl Store {
         ensures follows { Follows (MayPut first (pieces_kept self.old)) (D.state disk.old) (D.state disk.new) }
         // Then each of them is read, and a sync makes it last.
         ensures shown { OnOk result (IsTrue (D.state disk.old).tells → HasPut first (pieces_kept self.old) (D.state disk.old).shown (D.state disk.new).shown) }
-        // Where the disk fails, the slots in front are written, and none behind: so they are written in ascending order.
+        // Where the disk fails, the sectors in front are written, and none behind: so they are written in ascending order.
         ensures ascending { OnErr result (IsTrue (D.state disk.old).tells → PutsFront first (pieces_kept self.old) (D.state disk.old).shown (D.state disk.new).shown) }
         ensures count { IfOk result (λ n. n ≡ length self.old.changed * self.old.dbd.sectors) }
         ensures few { length self.old.changed * self.old.dbd.sectors ≤ self.old.dbd.roots * self.old.dbd.sectors }
@@ -168,7 +204,7 @@ impl Store {
         ensures follows { Follows (MayPut first (pieces_kept self.now)) (D.state disk.old) (D.state disk.new) }
         // Then each of them is read, and a sync makes it last.
         ensures shown { OnOk result (IsTrue (D.state disk.old).tells → HasPut first (pieces_kept self.now) (D.state disk.old).shown (D.state disk.new).shown) }
-        // Where the disk fails, the slots in front are written, and none behind: so they are written in ascending order.
+        // Where the disk fails, the sectors in front are written, and none behind: so they are written in ascending order.
         ensures ascending { OnErr result (IsTrue (D.state disk.old).tells → PutsFront first (pieces_kept self.now) (D.state disk.old).shown (D.state disk.new).shown) }
         ensures count { IfOk result (λ n. n ≡ length self.now.changed * self.now.dbd.sectors) }
         ensures few { length self.now.changed * self.now.dbd.sectors ≤ self.now.dbd.roots * self.now.dbd.sectors }
@@ -181,6 +217,27 @@ impl Store {
             return Err(DiskFault::Disk);
         }
         Ok(self.dirty_sectors())
+    }
+
+    /// Writes the record of this slot, one below the database's ROOTS, into its sectors, in ascending order, where slot 0 has the
+    /// sector `first`; that of a free slot has no bytes. Whether it counts as changed stays, until `settle_slot`. Nothing is synced. `Disk` comes exactly where the disk failed in the call.
+    pub fn write_slot<D: Disk>(&self, disk: &mut D, first: u32, slot: u16) -> Result<(), DiskFault>
+        requires there { slot < self.now.dbd.roots }
+        requires area { first + self.now.dbd.roots * self.now.dbd.sectors ≤ (D.state disk.old).size }
+        requires sectors { self.now.dbd.sectors ≤ 8 }
+        ensures stays { Stays (D.state disk.old) (D.state disk.new) }
+        // Whenever a crash comes, each sector is as it was or has its piece of the slot's record.
+        ensures any_moment { Within (MayPut first (pieces_of self.now.dbd.sectors (bytes_of_slots self.now.slots (slot ∷ [])))) (D.state disk.old) (D.state disk.new) }
+        ensures follows { Follows (MayPut first (pieces_of self.now.dbd.sectors (bytes_of_slots self.now.slots (slot ∷ [])))) (D.state disk.old) (D.state disk.new) }
+        // Then each of them is read, and a sync makes it last.
+        ensures shown { OnOk result (IsTrue (D.state disk.old).tells → HasPut first (pieces_of self.now.dbd.sectors (bytes_of_slots self.now.slots (slot ∷ []))) (D.state disk.old).shown (D.state disk.new).shown) }
+        // Where the disk fails, the sectors in front are written, and none behind: so they are written in ascending order.
+        ensures ascending { OnErr result (IsTrue (D.state disk.old).tells → PutsFront first (pieces_of self.now.dbd.sectors (bytes_of_slots self.now.slots (slot ∷ []))) (D.state disk.old).shown (D.state disk.new).shown) }
+        ensures writes { WritesAtMost self.now.dbd.sectors (D.state disk.old) (D.state disk.new) }
+        ensures no_fault { OnOk result ((D.state disk.new).faults ≡ (D.state disk.old).faults) }
+        ensures cause { OnErr result (FailedSince (D.state disk.old) (D.state disk.new)) }
+    {
+        put_slots(disk, first, self.dbd.sectors, &self.slots, &[slot])
     }
 
     /// The slot of the record with this root, or else the lowest free slot, which the next `set` of
@@ -217,7 +274,7 @@ impl Store {
 
     /// Sets a record as `set` does; the answer is the image that it had, without rows where there was none. This takes
     /// no memory.
-    pub fn exchange(&mut self, root: &Key, image: RecordImage) -> Result<RecordImage, StoreRefused>
+    pub fn exchange(&mut self, root: &Key, image: RecordImage) -> Result<RecordImage, RowsRefused>
         requires { IsImage self.old.dbd root.now image }
         ensures was { IfOk result (λ before. before ≡ record_of root.now (rows_of_slots self.old.slots)) }
         ensures replaced { OnOk result (rows_of_slots self.new.slots ≡ with_record root.now image (rows_of_slots self.old.slots)) }
@@ -275,7 +332,7 @@ impl Store {
     }
 
     // Adds a record in the lowest free slot; the image that it had is one without rows.
-    fn add(&mut self, root: &Key, image: RecordImage) -> Result<RecordImage, StoreRefused>
+    fn add(&mut self, root: &Key, image: RecordImage) -> Result<RecordImage, RowsRefused>
         requires image { IsLongRecord self.old.dbd.types root.now image }
         requires new { slot_of_root root.now self.old.slots ≡ None }
         ensures was { IfOk result (λ before. before ≡ record_of root.now (rows_of_slots self.old.slots)) }
@@ -289,10 +346,10 @@ impl Store {
         ensures valid { AreSlots self.new.dbd self.new.slots }
     {
         let Some(slot) = lowest(&self.free) else {
-            return Err(StoreRefused::RootLimit);
+            return Err(RowsRefused::RootLimit);
         };
         if !image.fits(record_limit(&self.dbd)) {
-            return Err(StoreRefused::RecordTooLong);
+            return Err(RowsRefused::RecordTooLong);
         }
         self.fill(root, slot, image);
         Ok(RecordImage::new(self.alloc))
@@ -304,7 +361,7 @@ impl Store {
         root: &Key,
         slot: u16,
         image: RecordImage,
-    ) -> Result<RecordImage, StoreRefused>
+    ) -> Result<RecordImage, RowsRefused>
         requires image { IsLongRecord self.old.dbd.types root.now image }
         requires there { slot_of_root root.now self.old.slots ≡ Some slot }
         ensures was { IfOk result (λ before. before ≡ record_of root.now (rows_of_slots self.old.slots)) }
@@ -318,7 +375,7 @@ impl Store {
         ensures valid { AreSlots self.new.dbd self.new.slots }
     {
         if !image.fits(record_limit(&self.dbd)) {
-            return Err(StoreRefused::RecordTooLong);
+            return Err(RowsRefused::RecordTooLong);
         }
         let before = swap(&mut self.slots, slot, image);
         add_changed(&mut self.changed, slot);
@@ -327,15 +384,27 @@ impl Store {
 }
 
 impl Rows for Store {
+    ghost use Rattle.std.specs.Prelude.{true};
+    ghost use Rattle.seg_store.specs.Store.{store_none, store_on, store_same};
+
     ghost database = { λ s. s.dbd };
 
     ghost rows = { λ s. rows_of_slots s.slots };
 
-    fn record(&self, root: &Key) -> Option<&RecordImage> {
-        match slot_of(&self.index, root) {
-            Some(slot) => Some(&self.slots[slot as usize]),
-            None => None,
-        }
+    ghost tells = { λ s. true };
+
+    ghost faults = { λ s. 0 };
+
+    ghost reads = { λ a b. b ≡ a };
+
+    ghost read_none = { store_none };
+
+    ghost read_on = { store_on };
+
+    ghost read_same = { store_same };
+
+    fn record(&mut self, root: &Key) -> Result<Option<&RecordImage>, RowsRefused> {
+        Ok(self.find(root))
     }
 
     fn next_root(&self, after: Option<&Key>) -> Option<Key> {
@@ -345,16 +414,9 @@ impl Rows for Store {
         }
     }
 
-    fn next_record(&self, after: Option<&Key>) -> Option<&RecordImage> {
-        match next_entry(&self.index, after) {
-            Some(entry) => Some(&self.slots[entry.1 as usize]),
-            None => None,
-        }
-    }
-
     /// As of all rows. The record keeps its slot, or takes the lowest free one; an image without
     /// rows frees the slot. This takes no memory.
-    fn set(&mut self, root: &Key, image: RecordImage) -> Result<(), StoreRefused>
+    fn set(&mut self, root: &Key, image: RecordImage) -> Result<(), RowsRefused>
         requires { IsImage self.old.dbd root.now image }
         ensures replaced { OnOk result (rows_of_slots self.new.slots ≡ with_record root.now image (rows_of_slots self.old.slots)) }
         ensures kept { OnErr result (self.new ≡ self.old) }

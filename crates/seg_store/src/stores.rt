@@ -1,14 +1,16 @@
 //! The stores of a system.
-ghost use Rattle.std.specs.Prelude.{◌≡◌, ◌+◌, ◌≤◌, ◌-◌, IfOk, OnOk, OnErr, Some, length, slice_get, IsTrue, ◌↔◌, []};
+ghost use Rattle.std.specs.Prelude.{◌≡◌, ◌+◌, ◌<◌, ◌≤◌, ◌-◌, ◌^◌, IfOk, IfSome, OnOk, OnErr, None, Some, length, slice_get, IsTrue, ◌↔◌, []};
 ghost use Rattle.std.specs.Borrow.{sem};
 ghost use Rattle.std.specs.List.{AllByRecursion};
 ghost use Rattle.tm_disk.specs.Disk.{Stays, Within, Follows, WritesAtMost, FailedSince};
 ghost use Rattle.seg_store.specs.Slots.{AreSlots};
 ghost use Rattle.seg_store.specs.DataSectors.{MayPut, HasPut, PutsFront};
 ghost use Rattle.seg_store.specs.WrittenSlots.{sector_count, changed_sectors, changed_bytes, all_written};
+ghost use Rattle.seg_store.specs.OneSlot.{lowest_changed, changed_count, without_slot, only_changed, one_written, slot_sectors_at, slot_sector, IsSlotPlace, IsMarked};
 
-use crate::Store;
+use crate::one_slot::{area_first, lowest_of, settle_of, write_of};
 use crate::write_back::{settle_all, write_all};
+use crate::{SlotPlace, Store};
 use std::alloc::Global;
 use std::marker::Model;
 use tm_disk::{Disk, DiskFault};
@@ -73,7 +75,7 @@ impl Stores {
         ensures follows { Follows (MayPut first (changed_bytes self.old)) (D.state disk.old) (D.state disk.new) }
         // Then each of them is read, and a sync makes it last.
         ensures shown { OnOk result (IsTrue (D.state disk.old).tells → HasPut first (changed_bytes self.old) (D.state disk.old).shown (D.state disk.new).shown) }
-        // Where the disk fails, the slots in front are written, and none behind: so they are written in ascending order.
+        // Where the disk fails, the sectors in front are written, and none behind: so they are written in ascending order.
         ensures ascending { OnErr result (IsTrue (D.state disk.old).tells → PutsFront first (changed_bytes self.old) (D.state disk.old).shown (D.state disk.new).shown) }
         ensures count { IfOk result (λ n. n ≡ changed_sectors self.old.stores self.old.changed) }
         ensures written { OnOk result (self.new ≡ all_written self.old) }
@@ -100,7 +102,7 @@ impl Stores {
         ensures follows { Follows (MayPut first (changed_bytes self.now)) (D.state disk.old) (D.state disk.new) }
         // Then each of them is read, and a sync makes it last.
         ensures shown { OnOk result (IsTrue (D.state disk.old).tells → HasPut first (changed_bytes self.now) (D.state disk.old).shown (D.state disk.new).shown) }
-        // Where the disk fails, the slots in front are written, and none behind: so they are written in ascending order.
+        // Where the disk fails, the sectors in front are written, and none behind: so they are written in ascending order.
         ensures ascending { OnErr result (IsTrue (D.state disk.old).tells → PutsFront first (changed_bytes self.now) (D.state disk.old).shown (D.state disk.new).shown) }
         ensures count { IfOk result (λ n. n ≡ changed_sectors self.now.stores self.now.changed) }
         ensures writes { WritesAtMost (changed_sectors self.now.stores self.now.changed) (D.state disk.old) (D.state disk.new) }
@@ -115,6 +117,66 @@ impl Stores {
         ensures { self.new ≡ all_written self.old }
     {
         settle_all(&mut self.items)
+    }
+
+    /// The lowest changed slot, that of the first database that has one; None exactly where none is changed.
+    pub fn lowest(&self) -> Option<SlotPlace>
+        requires few { length self.now.stores ≤ 255 }
+        ensures value { result ≡ lowest_changed self.now.changed }
+        ensures there { IfSome result (λ place. IsSlotPlace place self.now.stores) }
+        ensures marked { IfSome result (λ place. IsMarked place self.now.changed) }
+        ensures none { (result ≡ None) ↔ (changed_count self.now.changed ≡ 0) }
+        // Once it is settled, one fewer is changed.
+        ensures fewer { IfSome result (λ place. changed_count (without_slot place self.now.changed) + 1 ≡ changed_count self.now.changed) }
+    {
+        lowest_of(&self.items)
+    }
+
+    /// The first sector of this slot, which is there, where the databases' slots stand one behind the other from the sector `first` on.
+    pub fn slot_sector(&self, first: u32, place: SlotPlace) -> u32
+        requires there { IsSlotPlace place self.now.stores }
+        requires small { first + sector_count self.now.stores < 2 ^ 32 }
+        ensures { result ≡ slot_sector first place self.now.stores }
+    {
+        let database = usize::from(place.db) - 1;
+        area_first(first, &self.items, database)
+            + u32::from(place.slot) * self.items[database].slot_sectors()
+    }
+
+    /// Writes the record of this slot, which is there, into its sectors, in ascending order, where the databases' slots stand one behind the other
+    /// from the sector `first` on. Whether it counts as changed stays, until `settle_slot`. Nothing is synced. `Disk` comes exactly
+    /// where the disk failed in the call.
+    pub fn write_slot<D: Disk>(
+        &self,
+        disk: &mut D,
+        first: u32,
+        place: SlotPlace,
+    ) -> Result<(), DiskFault>
+        requires there { IsSlotPlace place self.now.stores }
+        requires area { first + sector_count self.now.stores ≤ (D.state disk.old).size }
+        requires sectors { AllByRecursion (λ s. s.dbd.sectors ≤ 8) self.now.stores }
+        ensures stays { Stays (D.state disk.old) (D.state disk.new) }
+        // Whenever a crash comes, each sector is as it was or has its piece of the slot's record.
+        ensures any_moment { Within (MayPut first (changed_bytes (only_changed place self.now))) (D.state disk.old) (D.state disk.new) }
+        ensures follows { Follows (MayPut first (changed_bytes (only_changed place self.now))) (D.state disk.old) (D.state disk.new) }
+        // Then each of them is read, and a sync makes it last.
+        ensures shown { OnOk result (IsTrue (D.state disk.old).tells → HasPut first (changed_bytes (only_changed place self.now)) (D.state disk.old).shown (D.state disk.new).shown) }
+        // Where the disk fails, the sectors in front are written, and none behind: so they are written in ascending order.
+        ensures ascending { OnErr result (IsTrue (D.state disk.old).tells → PutsFront first (changed_bytes (only_changed place self.now)) (D.state disk.old).shown (D.state disk.new).shown) }
+        ensures writes { WritesAtMost (slot_sectors_at place self.now.stores) (D.state disk.old) (D.state disk.new) }
+        ensures no_fault { OnOk result ((D.state disk.new).faults ≡ (D.state disk.old).faults) }
+        ensures cause { OnErr result (FailedSince (D.state disk.old) (D.state disk.new)) }
+    {
+        write_of(disk, first, &self.items, place)
+    }
+
+    /// This slot, of a database counted from 1, doesn't count as changed any more: what stands in its sectors is the caller's.
+    /// Where it didn't, or isn't there, nothing changes. This takes no memory.
+    pub fn settle_slot(&mut self, place: SlotPlace)
+        requires least { 1 ≤ place.db }
+        ensures { self.new ≡ one_written place self.old }
+    {
+        settle_of(&mut self.items, place)
     }
 
     /// Each store has slots of its database.

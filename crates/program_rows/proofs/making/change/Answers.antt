@@ -1,7 +1,7 @@
 use Rattle.std.proofs.Common.{◌≡◌, List, Some, None, sym, subst, ap, ◌∙◌}
 use Rattle.std.specs.Prelude.{IfSome}
 use Rattle.model_data.specs.Rows.{IsImage}
-use Rattle.seg_rows.specs.StoreRefused.{set_refusal}
+use Rattle.seg_rows.specs.RowsRefused.{set_refusal}
 use Rattle.seg_store.specs.Slots.{rows_of_slots}
 use Rattle.model_data.specs.declared.row.Row.{Row}
 use Rattle.dli_calls.specs.CallPlan.{IsThere, limit_of}

@@ -1,8 +1,8 @@
 use Rattle.std.proofs.Common.{◌≡◌, ◌≢◌, ◌≤◌, ◌<◌, [], Some, None, length, subst, sym, ap, ◌∙◌, arith}
 use Rattle.model_data.specs.Record.{rows_spelling, record_limit}
 use Rattle.model_data.specs.Rows.{Database, with_record, rows_of_records, IsImage, AreRows}
-use Rattle.seg_rows.specs.StoreRefused.{set_refusal}
-use Rattle.seg_rows.specs.declared.rows.StoreRefused.TheVariants.{RootLimit, RecordTooLong}
+use Rattle.seg_rows.specs.RowsRefused.{set_refusal}
+use Rattle.seg_rows.specs.declared.rows.RowsRefused.TheVariants.{RootLimit, RecordTooLong}
 use Rattle.seg_rows.proofs.Kept.{kept_rows, kept_remove, rows_inserted, rows_removed, due_roots, due_length, due_none, kept_set, passed}
 use Rattle.seg_rows.proofs.plain.PlainRowsRows.set.Goals as goal
 

@@ -2,8 +2,8 @@ use Rattle.std.proofs.Common.{◌≡◌, ◌≤◌, ◌<◌, [], Some, None, len
 use Rattle.std.specs.List.{slice_get}
 use Rattle.model_data.specs.Record.{rows_spelling, record_limit}
 use Rattle.model_data.specs.Rows.{record_of}
-use Rattle.seg_rows.specs.StoreRefused.{set_refusal}
-use Rattle.seg_rows.specs.declared.rows.StoreRefused.TheVariants.{RootLimit, RecordTooLong}
+use Rattle.seg_rows.specs.RowsRefused.{set_refusal}
+use Rattle.seg_rows.specs.declared.rows.RowsRefused.TheVariants.{RootLimit, RecordTooLong}
 use Rattle.seg_rows.proofs.Kept.{passed}
 use Rattle.seg_store.specs.ChangedSlots.{Kept, with_changed_number}
 use Rattle.seg_store.specs.Slots.{first_slot_of, slot_for, slot_of_root, lowest_free, rows_of_slots}

@@ -3,8 +3,8 @@ use Rattle.seg_store.proofs.Changes.{changed_more, changed_room}
 use Rattle.std.proofs.Common.{arith, ◌≡◌, ◌≤◌, ◌<◌, Some, None, length, sym, subst, ap, ◌∙◌}
 use Rattle.model_data.specs.Record.{IsLongRecord, rows_spelling, record_limit}
 use Rattle.model_data.specs.Rows.{record_of, with_record}
-use Rattle.seg_rows.specs.StoreRefused.{set_refusal}
-use Rattle.seg_rows.specs.declared.rows.StoreRefused.TheVariants.{RecordTooLong}
+use Rattle.seg_rows.specs.RowsRefused.{set_refusal}
+use Rattle.seg_rows.specs.declared.rows.RowsRefused.TheVariants.{RecordTooLong}
 use Rattle.seg_rows.proofs.Kept.{passed}
 use Rattle.seg_store.specs.ChangedSlots.{Kept}
 use Rattle.seg_store.specs.Slots.{slot_of_root, rows_of_slots}
